@@ -6,7 +6,7 @@ use crate::case::Case;
 use crate::differences::{Differences, compare_texts};
 use crate::failure::Failure;
 use crate::texts::put_check_lines;
-use jri_archive::{Checked, Outcome, check_file, append_file_line, write_map};
+use jri_archive::{Checked, Outcome, append_file_line, check_file, write_map};
 use std::sync::Wait;
 use std::thread::Threads;
 

@@ -343,7 +343,7 @@ impl<'a> ScanCursor<'a> {
         ensures all { self.old.file.are_all ≡ true → result ≡ true }
         ensures waits { result ≡ false → Waits head.now self.new }
     {
-        head.be_lawful();
+        head.assert_invariant();
         if self.reading != Reading::GoesOn {
             return true;
         }
@@ -446,7 +446,7 @@ impl<'a> ScanCursor<'a> {
     {
         // By its contract the numbers of all intervals fit.
         let _most = head.intervals();
-        head.be_lawful();
+        head.assert_invariant();
         if self.mcu < head.mcus_in(self.interval) {
             return true;
         }

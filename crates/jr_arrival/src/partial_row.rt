@@ -70,7 +70,7 @@ fn lines_with_room(head: &Head, first: u32, bytes: usize) -> u32
     ensures value { result ≡ min (bytes / line_size head.now) (head.now.height - first) }
     ensures fits { result * line_size head.now ≤ bytes }
 {
-    head.be_lawful();
+    head.assert_invariant();
     let left = head.height().saturating_sub(first);
     (bytes / shape_of(head).line).min(left as usize) as u32
 }

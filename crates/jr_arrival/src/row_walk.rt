@@ -70,7 +70,7 @@ fn walk_grey<S: McuSink>(cursor: &mut ScanCursor<'_>, head: &Head, sink: &mut S,
     ensures walks { Walks S.keeps head.now cursor.old cursor.new done result (S.groups sink.old) (S.groups sink.new) }
     ensures some { 0 < result }
 {
-    head.be_lawful();
+    head.assert_invariant();
     // By its contract an MCU has a data unit.
     let _some = head.order().len();
     let left = head.mcus_in(cursor.interval) - cursor.mcu;

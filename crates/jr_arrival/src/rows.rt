@@ -26,7 +26,7 @@ pub fn lines_before(head: &Head, row: u32) -> u32
     ensures value { result ≡ lines_above head.now row }
     ensures few { result ≤ head.now.height }
 {
-    head.be_lawful();
+    head.assert_invariant();
     let shape = shape_of(head);
     (row.min(shape.down) * shape.deep).min(head.height())
 }
@@ -47,7 +47,7 @@ pub fn rows_with_room(head: &Head, row: u32, bytes: usize) -> u32
     ensures few { row + result ≤ mcus_down head.now }
     ensures fits { lines_between head.now row (row + result) * line_size head.now ≤ bytes }
 {
-    head.be_lawful();
+    head.assert_invariant();
     let shape = shape_of(head);
     let lines = bytes / shape.line;
     let left = head.height() - lines_before(head, row);
@@ -66,7 +66,7 @@ fn end_of_rows(head: &Head, row: u32, rows: u32, bytes: usize) -> u32
     ensures small { result < 65536 }
     ensures fits { (to : ℕ) → to ≤ result → lines_between head.now row to * line_size head.now ≤ bytes }
 {
-    head.be_lawful();
+    head.assert_invariant();
     let _few = shape_of(head);
     row + rows.min(rows_with_room(head, row, bytes))
 }
@@ -82,7 +82,7 @@ fn bytes_of_row(head: &Head, first: u32, row: u32, room: usize) -> (usize, usize
     ensures count { result.1 ≡ result.0 + line_count head.now row * line_size head.now }
     ensures within { result.1 ≤ room }
 {
-    head.be_lawful();
+    head.assert_invariant();
     let line = shape_of(head).line;
     let from = lines_between(head, first, row) as usize * line;
     let to = lines_between(head, first, row + 1) as usize * line;
@@ -99,7 +99,7 @@ fn paint_row(head: &Head, samples: &mut SampleRow, row: u32, pixels: &mut [u8])
     ensures painted { (t : ScanValue) (marks : List Mark) (f : ℕ → ℕ → ℕ → ℕ) → t.head ≡ head.now → ShowsRow t row samples.old.lines.groups → ShowsFirst t (length t.intervals) marks f
         → pixels.new ≡ next_lines_of head.now f (lines_above head.now row) (line_count head.now row) }
 {
-    head.be_lawful();
+    head.assert_invariant();
     let (y, count) = lines_of(head, row);
     samples.paint_some(head, y, count, pixels);
 }
@@ -130,7 +130,7 @@ pub fn decode_rows(
     ensures long { length pixels.new ≡ length pixels.old }
     ensures memory { IfErr result (λ _. pixels.new ≡ pixels.old) }
 {
-    head.be_lawful();
+    head.assert_invariant();
     let mut samples = SampleRow::open(alloc, head)?;
     let mut cursor = ScanCursor::open(alloc, head, file, place)?;
     let end = end_of_rows(head, place.row, rows, pixels.len());

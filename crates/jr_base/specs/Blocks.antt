@@ -1,7 +1,7 @@
 -- What contracts see of the coefficients and of the quantisers of data units.
 use Rattle.std.specs.Prelude.{◌≡◌, ℕ, ◌*◌, ◌<◌, ◌≤◌, ℤ, pos, List, length, map, slice_index, slice_index_or}
 use Rattle.jr_base.specs.Zigzag.{natural_indexes, places, zigzag_place}
-use Rattle.jr_base.specs.declared.quantisers.TheConstants.{MOST_PRODUCT}
+use Rattle.jr_base.specs.declared.quantisers.TheConstants.{MAX_PRODUCT}
 
 -- number k of a list
 abbrev pub at : List ℤ → ℕ → ℤ
@@ -21,4 +21,4 @@ AreFactors elements factors = (n : ℕ) → n < 64 → slice_index factors n ≡
 
 -- a coefficient of at most this size has a product with its factor within which the transform reckons in 16 bits
 abbrev pub AreLimits : (factors limits : List ℕ) → Type 0
-AreLimits factors limits = (n : ℕ) → n < 64 → slice_index limits n * slice_index factors n ≤ MOST_PRODUCT
+AreLimits factors limits = (n : ℕ) → n < 64 → slice_index limits n * slice_index factors n ≤ MAX_PRODUCT

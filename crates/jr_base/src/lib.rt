@@ -16,7 +16,7 @@ mod zigzag;
 pub use coefficients::Coefficients;
 pub use memory::Memory;
 pub use printable::Printable;
-pub use quantisers::{MOST_PRODUCT, Quantisers};
+pub use quantisers::{MAX_PRODUCT, Quantisers};
 pub use tally::Tally;
 pub use version::VERSION;
 pub use writing::{WriteFault, write_all};

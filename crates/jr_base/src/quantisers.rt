@@ -11,7 +11,7 @@ use std::marker::Model;
 
 /// How large the products of coefficients and quantisers may be that are transformed in vectors of sixteen bits: the first pass
 /// makes numbers of sixteen bits of them, as 61214 * 1096 + 1024 is below 32768 * 2048.
-pub const MOST_PRODUCT: u16 = 1096;
+pub const MAX_PRODUCT: u16 = 1096;
 
 /// The elements of a quantisation table (T.81, B.2.4.1), as a file has them and as the transform takes them.
 #[derive(Drop)]
@@ -20,7 +20,7 @@ pub struct Quantisers {
     elements: [u16; 64],
     /// In natural order.
     factors: [u16; 64],
-    /// In natural order, how large a coefficient may be whose product is at most `MOST_PRODUCT`.
+    /// In natural order, how large a coefficient may be whose product is at most `MAX_PRODUCT`.
     limits: [u16; 64],
 }
 
@@ -48,14 +48,14 @@ fn factors_of(elements: &[u16; 64]) -> [u16; 64]
     factors
 }
 
-/// Returns the maximum of a coefficient whose product with this factor is at most `MOST_PRODUCT`.
+/// Returns the maximum of a coefficient whose product with this factor is at most `MAX_PRODUCT`.
 fn limit_of(factor: u16) -> u16
-    ensures { result * factor ≤ MOST_PRODUCT }
+    ensures { result * factor ≤ MAX_PRODUCT }
 {
     if factor == 0 {
         return u16::MAX;
     }
-    MOST_PRODUCT / factor
+    MAX_PRODUCT / factor
 }
 
 /// Returns the limit of each factor.
@@ -99,7 +99,7 @@ impl Quantisers {
         &self.factors
     }
 
-    /// In natural order, how large a coefficient may be whose product with its quantiser is at most `MOST_PRODUCT`.
+    /// In natural order, how large a coefficient may be whose product with its quantiser is at most `MAX_PRODUCT`.
     pub fn limits(&self) -> &[u16; 64]
         ensures count { length result.now ≡ 64 }
         ensures limits { (factors : List ℕ) → AreFactors self.now factors → AreLimits factors result.now }

@@ -102,7 +102,7 @@ impl Cells {
         ensures none { IfNone result ((sight.new ≡ sight.old) × KnowsNothing sight.old i) }
     {
         let piece: &Piece = get_cell(self.cells.as_slice(), i as usize, &mut sight.notes)?;
-        piece.be_outcome();
+        piece.assert_invariant();
         if piece.number() != i {
             return None;
         }

@@ -151,7 +151,7 @@ impl StripCells {
     {
         let cells = self.cells.as_slice();
         let strip: &Strip = get_cell(cells, place as usize, &mut sight.notes)?;
-        strip.be_strip();
+        strip.assert_invariant();
         if strip.number() != self.number || strip.first() != place * self.each {
             return None;
         }

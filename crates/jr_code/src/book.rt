@@ -86,7 +86,7 @@ impl CodeBook {
     }
 
     /// Asserts, for callers that rest on it, that the book is a valid table (T.81, Annex C).
-    pub fn be_lawful(&self)
+    pub fn assert_invariant(&self)
         ensures { IsLawfulTable self.now.counts self.now.symbols }
     {
         let _ = &self.words;
@@ -106,7 +106,7 @@ impl CodeBook {
     pub(crate) fn of(table: CodeTable) -> CodeBook
         ensures { result ≡ table }
     {
-        table.be_lawful();
+        table.assert_invariant();
         let pairs = table.pairs();
         CodeBook {
             words: WordBook::of(table),

@@ -18,7 +18,7 @@ const TO_THE_END: u8 = 128;
 const SIXTEEN_ZEROS: u8 = 0xF0;
 
 /// Maximum number of additional bits of an AC coefficient.
-const MOST_EXTRA: u8 = 10;
+const MAX_ADDITIONAL_BITS: u8 = 10;
 
 /// An entry of a table. The lowest byte is the number of bits of the word and its additional bits, the next one the
 /// number of places of a block that they advance; the lower half of the third is the number of additional bits, the
@@ -89,7 +89,7 @@ pub(crate) fn places_of(symbol: u8) -> Option<u8>
     if symbol == SIXTEEN_ZEROS {
         return Some(16);
     }
-    if size == 0 || size > MOST_EXTRA {
+    if size == 0 || size > MAX_ADDITIONAL_BITS {
         return None;
     }
     Some(symbol / 16 + 1)

@@ -83,7 +83,7 @@ impl CodeTable {
     }
 
     /// Asserts, for callers that rest on it, that the table is valid (T.81, Annex C).
-    pub(crate) fn be_lawful(&self)
+    pub(crate) fn assert_invariant(&self)
         ensures { IsLawfulTable self.now.counts self.now.symbols }
     {
         let _ = &self.counts;

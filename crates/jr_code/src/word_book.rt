@@ -55,7 +55,7 @@ impl WordBook {
     }
 
     /// Asserts, for callers that rest on it, that the book is a valid table (T.81, Annex C).
-    pub fn be_lawful(&self)
+    pub fn assert_invariant(&self)
         ensures { IsLawfulTable self.now.counts self.now.symbols }
     {
         let _ = &self.table;
@@ -76,7 +76,7 @@ impl WordBook {
     pub(crate) fn of(table: CodeTable) -> WordBook
         ensures { result ≡ table }
     {
-        table.be_lawful();
+        table.assert_invariant();
         let entries = table.entries();
         let long = table.long();
         WordBook {

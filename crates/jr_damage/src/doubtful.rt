@@ -11,7 +11,7 @@ use crate::offsets::offset_of;
 use crate::segments::CodedSpan;
 use jr_base::{Coefficients, Quantisers};
 use jr_head::Head;
-use jr_scan::{IntervalRef, MOST_UNITS, McuReader};
+use jr_scan::{IntervalRef, MAX_UNITS, McuReader};
 use std::array;
 
 /// The greatest coefficient of 64 samples from -128 to 127: their norm.
@@ -86,7 +86,7 @@ fn find_doubtful(interval: IntervalRef<'_>) -> Option<McuBits>
     let head = interval.head();
     let mcus = interval.mcus();
     let per_mcu = head.order().len();
-    let mut units: [Coefficients; MOST_UNITS] = array::from_fn(|_| Coefficients::zeros());
+    let mut units: [Coefficients; MAX_UNITS] = array::from_fn(|_| Coefficients::zeros());
     let mut reader = McuReader::over(interval);
     for number in 0..mcus {
         let from = reader.place().bit;

@@ -1,7 +1,7 @@
 -- Two passes in lanes, with rows and columns exchanged between them.
 use Rattle.std.proofs.Common.{◌≡◌, ℕ, ◌+◌, ◌*◌, ◌/◌, ◌%◌, ◌^◌, ◌<◌, pos, ◌+ℤ◌, ℤ, List, arith, ap, sym, ◌∙◌}
 use Rattle.std.proofs.lemmas.Int.{ints}
-use Rattle.jr_base.specs.declared.quantisers.TheConstants.{MOST_PRODUCT}
+use Rattle.jr_base.specs.declared.quantisers.TheConstants.{MAX_PRODUCT}
 use Rattle.jr_idct.specs.Lanes.{lane, IsShort}
 use Rattle.jr_idct.specs.Matrix.{floor_div, pass, row_sum, IsWithin}
 use Rattle.jr_idct.specs.Transform.{column_pass}
@@ -9,9 +9,9 @@ use Rattle.jr_idct.proofs.FloorLaws.{floor_below, floor_above, floor_is}
 use Rattle.jr_idct.proofs.Passes.{pass_same, row_sum_within, shr_within_2048, shr_within_262144, sum_same}
 
 -- sums of small products fit, and what the first pass makes of them
-pub first_short : (rows : List (List ℤ)) → ((k p : ℕ) → k < 8 → p < 16 → IsWithin MOST_PRODUCT (lane rows k p)) → (i p : ℕ) → i < 8 → p < 16 → IsShort 11 (row_sum i (λ k. lane rows k p) +ℤ pos 1024)
+pub first_short : (rows : List (List ℤ)) → ((k p : ℕ) → k < 8 → p < 16 → IsWithin MAX_PRODUCT (lane rows k p)) → (i p : ℕ) → i < 8 → p < 16 → IsShort 11 (row_sum i (λ k. lane rows k p) +ℤ pos 1024)
 first_short rows small i p h g =
-    let s = row_sum_within MOST_PRODUCT (λ k. lane rows k p) (λ k b. small k p b g) i h in
+    let s = row_sum_within MAX_PRODUCT (λ k. lane rows k p) (λ k b. small k p b g) i h in
     ((omega (arith, ints, s), omega (arith, ints, s)), shr_within_2048 (row_sum i (λ k. lane rows k p) +ℤ pos 1024) 32767 (omega (arith, ints, s)) (omega (arith, ints, s)))
 
 -- and of numbers of 16 bits

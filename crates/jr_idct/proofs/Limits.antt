@@ -6,14 +6,14 @@ use Rattle.std.proofs.lemmas.List.{get_or-map, get_or-replicate}
 use Rattle.std.proofs.lemmas.Nat.{mul-le}
 use Rattle.std.specs.Prelude.{slice_index, unsigned_abs}
 use Rattle.jr_base.specs.Blocks.{AreFactors, AreLimits}
-use Rattle.jr_base.specs.declared.quantisers.TheConstants.{MOST_PRODUCT}
+use Rattle.jr_base.specs.declared.quantisers.TheConstants.{MAX_PRODUCT}
 use Rattle.jr_base.specs.Zigzag.{natural_index, places, zigzag_place}
 use Rattle.jr_base.proofs.Orders.{place_of_natural, natural_below}
 use Rattle.jr_idct.specs.Matrix.{at, IsWithin}
 use Rattle.jr_idct.proofs.Tables.{zigzag_place_0}
 
 -- the product of a coefficient that is within its limit
-limited : (z : ℤ) (l f : ℕ) → unsigned_abs z ≤ l → l * f ≤ MOST_PRODUCT → IsWithin MOST_PRODUCT (z *ℤ pos f)
+limited : (z : ℤ) (l f : ℕ) → unsigned_abs z ≤ l → l * f ≤ MAX_PRODUCT → IsWithin MAX_PRODUCT (z *ℤ pos f)
 limited z l f a b =
     let p : unsigned_abs (z *ℤ pos f) ≤ l * f = rw (unsigned_abs-mul z (pos f)) (mul-le (unsigned_abs z) f l f a (omega arith)) in
     (omega (arith, ints, p, b), omega (arith, ints, p, b))
@@ -27,7 +27,7 @@ unfolding zigzag_place factors_of
 are_factors q n h = get_or-map (slice_index q) places n 0 0 h
 
 pub small_products : (z q : List ℤ) (elements limits : List ℕ) → ((n : ℕ) → n < 64 → at q n ≡ at z (zigzag_place n)) → ((factors : List ℕ) → AreFactors elements factors → AreLimits factors limits)
-    → ((n : ℕ) → n < 64 → unsigned_abs (at q n) ≤ slice_index limits n) → (n : ℕ) → n < 64 → IsWithin MOST_PRODUCT (at z (zigzag_place n) *ℤ pos (slice_index elements (zigzag_place n)))
+    → ((n : ℕ) → n < 64 → unsigned_abs (at q n) ≤ slice_index limits n) → (n : ℕ) → n < 64 → IsWithin MAX_PRODUCT (at z (zigzag_place n) *ℤ pos (slice_index elements (zigzag_place n)))
 small_products z natural elements limits is_natural are_limits within n h =
     rw (sym (is_natural n h), sym (are_factors elements n h))
     (limited (at natural n) (slice_index limits n) (slice_index (factors_of elements) n) (within n h) (are_limits (factors_of elements) (are_factors elements) n h))

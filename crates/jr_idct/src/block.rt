@@ -2,7 +2,7 @@
 
 ghost use Rattle.std.specs.Prelude.{◌≡◌, ℕ, ◌+◌, ◌*◌, ◌<◌, pos, slice_index};
 ghost use Rattle.std.proofs.Math.IntN.{◌*ℤ◌};
-ghost use Rattle.jr_base.specs.declared.quantisers.TheConstants.{MOST_PRODUCT};
+ghost use Rattle.jr_base.specs.declared.quantisers.TheConstants.{MAX_PRODUCT};
 ghost use Rattle.jr_idct.specs.Matrix.{at, IsWithin};
 ghost use Rattle.jr_idct.specs.Transform.{product_at, sample, samples};
 
@@ -51,8 +51,8 @@ fn any_block(block: &Coefficients, quantisers: &Quantisers) -> [u8; 64]
 /// Returns the samples of two blocks with small products, at index `8 row + column`.
 #[inline(always)]
 fn small_blocks(a: &Coefficients, b: &Coefficients, quantisers: &Quantisers) -> ([u8; 64], [u8; 64])
-    requires small_a { (n : ℕ) → n < 64 → IsWithin MOST_PRODUCT (product_at a.now quantisers.now n) }
-    requires small_b { (n : ℕ) → n < 64 → IsWithin MOST_PRODUCT (product_at b.now quantisers.now n) }
+    requires small_a { (n : ℕ) → n < 64 → IsWithin MAX_PRODUCT (product_at a.now quantisers.now n) }
+    requires small_b { (n : ℕ) → n < 64 → IsWithin MAX_PRODUCT (product_at b.now quantisers.now n) }
     ensures first { result.0 ≡ samples a.now quantisers.now }
     ensures second { result.1 ≡ samples b.now quantisers.now }
 {

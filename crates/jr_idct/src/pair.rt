@@ -2,7 +2,7 @@
 
 ghost use Rattle.std.specs.Prelude.{◌≡◌, ℕ, ℤ, ◌+◌, ◌*◌, ◌/◌, ◌%◌, ◌<◌, pos, ◌+ℤ◌, slice_index, slice_index_or, cond, [], ◌∷◌};
 ghost use Rattle.std.proofs.Math.IntN.{◌*ℤ◌};
-ghost use Rattle.jr_base.specs.declared.quantisers.TheConstants.{MOST_PRODUCT};
+ghost use Rattle.jr_base.specs.declared.quantisers.TheConstants.{MAX_PRODUCT};
 ghost use Rattle.jr_idct.specs.Lanes.{lane};
 ghost use Rattle.jr_idct.specs.Matrix.{at, pass, IsWithin};
 ghost use Rattle.jr_idct.specs.Transform.{byte_of, column_pass, sample_of};
@@ -16,7 +16,7 @@ use std::simd::prelude::*;
 /// Returns the product of a coefficient and its quantiser.
 #[inline(always)]
 fn product(coefficient: i16, factor: u16) -> i16
-    requires { IsWithin MOST_PRODUCT (coefficient *ℤ pos factor) }
+    requires { IsWithin MAX_PRODUCT (coefficient *ℤ pos factor) }
     ensures { result ≡ coefficient *ℤ pos factor }
 {
     (i32::from(coefficient) * i32::from(factor)) as i16
@@ -25,7 +25,7 @@ fn product(coefficient: i16, factor: u16) -> i16
 /// Dequantisation (T.81, A.3.4) of a block in natural order.
 #[inline(always)]
 fn small_products(block: &[i16; 64], factors: &[u16; 64]) -> [i16; 64]
-    requires { (n : ℕ) → n < 64 → IsWithin MOST_PRODUCT (at block.now n *ℤ pos (slice_index factors.now n)) }
+    requires { (n : ℕ) → n < 64 → IsWithin MAX_PRODUCT (at block.now n *ℤ pos (slice_index factors.now n)) }
     ensures { (n : ℕ) → n < 64 → at result n ≡ at block.now n *ℤ pos (slice_index factors.now n) }
 {
     let mut table = [0; 64];
@@ -39,7 +39,7 @@ fn small_products(block: &[i16; 64], factors: &[u16; 64]) -> [i16; 64]
 #[inline(always)]
 fn load(block: &[i16; 64], r: usize) -> i16x8
     requires row { r < 8 }
-    requires small { (n : ℕ) → n < 64 → IsWithin MOST_PRODUCT (at block.now n) }
+    requires small { (n : ℕ) → n < 64 → IsWithin MAX_PRODUCT (at block.now n) }
     ensures { (c : ℕ) → c < 8 → at result c ≡ at block.now (8 * r + c) }
 {
     i16x8::from_slice(&block[8 * r..])
@@ -49,8 +49,8 @@ fn load(block: &[i16; 64], r: usize) -> i16x8
 #[inline(always)]
 fn row(a: &[i16; 64], b: &[i16; 64], r: usize) -> i16x16
     requires row { r < 8 }
-    requires small_a { (n : ℕ) → n < 64 → IsWithin MOST_PRODUCT (at a.now n) }
-    requires small_b { (n : ℕ) → n < 64 → IsWithin MOST_PRODUCT (at b.now n) }
+    requires small_a { (n : ℕ) → n < 64 → IsWithin MAX_PRODUCT (at a.now n) }
+    requires small_b { (n : ℕ) → n < 64 → IsWithin MAX_PRODUCT (at b.now n) }
     ensures first { (c : ℕ) → c < 8 → at result c ≡ at a.now (8 * r + c) }
     ensures second { (c : ℕ) → c < 8 → at result (8 + c) ≡ at b.now (8 * r + c) }
 {
@@ -129,8 +129,8 @@ fn gathered(q0: u8x32, q1: u8x32, q2: u8x32, q3: u8x32, second: bool) -> [u8; 64
 /// Returns the rows of two blocks side by side.
 #[inline(always)]
 fn rows_of(a: &[i16; 64], b: &[i16; 64]) -> Rows
-    requires small_a { (n : ℕ) → n < 64 → IsWithin MOST_PRODUCT (at a.now n) }
-    requires small_b { (n : ℕ) → n < 64 → IsWithin MOST_PRODUCT (at b.now n) }
+    requires small_a { (n : ℕ) → n < 64 → IsWithin MAX_PRODUCT (at a.now n) }
+    requires small_b { (n : ℕ) → n < 64 → IsWithin MAX_PRODUCT (at b.now n) }
     ensures first { (r c : ℕ) → r < 8 → c < 8 → lane (result.0 ∷ result.1 ∷ result.2 ∷ result.3 ∷ result.4 ∷ result.5 ∷ result.6 ∷ result.7 ∷ []) r c ≡ at a.now (8 * r + c) }
     ensures second { (r c : ℕ) → r < 8 → c < 8 → lane (result.0 ∷ result.1 ∷ result.2 ∷ result.3 ∷ result.4 ∷ result.5 ∷ result.6 ∷ result.7 ∷ []) r (8 + c) ≡ at b.now (8 * r + c) }
 {
@@ -154,7 +154,7 @@ const ROW_CONSTANT: i32 = 33_685_504;
 /// Makes both passes and the level shift: column c of both blocks is row c of the result.
 #[inline(always)]
 fn values(x: Rows) -> Rows
-    requires { (k p : ℕ) → k < 8 → p < 16 → IsWithin MOST_PRODUCT (lane (x.0 ∷ x.1 ∷ x.2 ∷ x.3 ∷ x.4 ∷ x.5 ∷ x.6 ∷ x.7 ∷ []) k p) }
+    requires { (k p : ℕ) → k < 8 → p < 16 → IsWithin MAX_PRODUCT (lane (x.0 ∷ x.1 ∷ x.2 ∷ x.3 ∷ x.4 ∷ x.5 ∷ x.6 ∷ x.7 ∷ []) k p) }
     ensures first { (v : ℕ → ℤ) → ((j k : ℕ) → j < 8 → k < 8 → lane (x.0 ∷ x.1 ∷ x.2 ∷ x.3 ∷ x.4 ∷ x.5 ∷ x.6 ∷ x.7 ∷ []) j k ≡ v (8 * j + k)) → (r c : ℕ) → r < 8 → c < 8 → lane (result.0 ∷ result.1 ∷ result.2 ∷ result.3 ∷ result.4 ∷ result.5 ∷ result.6 ∷ result.7 ∷ []) c r ≡ pass 18 (λ k. column_pass v k r) c +ℤ pos 128 }
     ensures second { (v : ℕ → ℤ) → ((j k : ℕ) → j < 8 → k < 8 → lane (x.0 ∷ x.1 ∷ x.2 ∷ x.3 ∷ x.4 ∷ x.5 ∷ x.6 ∷ x.7 ∷ []) j (8 + k) ≡ v (8 * j + k)) → (r c : ℕ) → r < 8 → c < 8 → lane (result.0 ∷ result.1 ∷ result.2 ∷ result.3 ∷ result.4 ∷ result.5 ∷ result.6 ∷ result.7 ∷ []) c (8 + r) ≡ pass 18 (λ k. column_pass v k r) c +ℤ pos 128 }
 {
@@ -182,7 +182,7 @@ fn byte_rows(t: Rows) -> Bytes
 /// would be taken apart byte by byte.
 #[inline(never)]
 fn sample_rows(x: Rows) -> Bytes
-    requires { (k p : ℕ) → k < 8 → p < 16 → IsWithin MOST_PRODUCT (lane (x.0 ∷ x.1 ∷ x.2 ∷ x.3 ∷ x.4 ∷ x.5 ∷ x.6 ∷ x.7 ∷ []) k p) }
+    requires { (k p : ℕ) → k < 8 → p < 16 → IsWithin MAX_PRODUCT (lane (x.0 ∷ x.1 ∷ x.2 ∷ x.3 ∷ x.4 ∷ x.5 ∷ x.6 ∷ x.7 ∷ []) k p) }
     ensures first { (v : ℕ → ℤ) → ((j k : ℕ) → j < 8 → k < 8 → lane (x.0 ∷ x.1 ∷ x.2 ∷ x.3 ∷ x.4 ∷ x.5 ∷ x.6 ∷ x.7 ∷ []) j k ≡ v (8 * j + k)) → (r c : ℕ) → r < 8 → c < 8 → slice_index (slice_index_or (result.0 ∷ result.1 ∷ result.2 ∷ result.3 ∷ []) ((8 * r + c) / 16) []) ((8 * r + c) % 16) ≡ sample_of v r c }
     ensures second { (v : ℕ → ℤ) → ((j k : ℕ) → j < 8 → k < 8 → lane (x.0 ∷ x.1 ∷ x.2 ∷ x.3 ∷ x.4 ∷ x.5 ∷ x.6 ∷ x.7 ∷ []) j (8 + k) ≡ v (8 * j + k)) → (r c : ℕ) → r < 8 → c < 8 → slice_index (slice_index_or (result.0 ∷ result.1 ∷ result.2 ∷ result.3 ∷ []) ((8 * r + c) / 16) []) ((8 * r + c) % 16 + 16) ≡ sample_of v r c }
 {
@@ -197,8 +197,8 @@ pub(crate) fn pair_samples(
     b: &[i16; 64],
     factors: &[u16; 64],
 ) -> ([u8; 64], [u8; 64])
-    requires small_a { (n : ℕ) → n < 64 → IsWithin MOST_PRODUCT (at a.now n *ℤ pos (slice_index factors.now n)) }
-    requires small_b { (n : ℕ) → n < 64 → IsWithin MOST_PRODUCT (at b.now n *ℤ pos (slice_index factors.now n)) }
+    requires small_a { (n : ℕ) → n < 64 → IsWithin MAX_PRODUCT (at a.now n *ℤ pos (slice_index factors.now n)) }
+    requires small_b { (n : ℕ) → n < 64 → IsWithin MAX_PRODUCT (at b.now n *ℤ pos (slice_index factors.now n)) }
     ensures first { (r c : ℕ) → r < 8 → c < 8 → slice_index result.0 (8 * r + c) ≡ sample_of (λ n. at a.now n *ℤ pos (slice_index factors.now n)) r c }
     ensures second { (r c : ℕ) → r < 8 → c < 8 → slice_index result.1 (8 * r + c) ≡ sample_of (λ n. at b.now n *ℤ pos (slice_index factors.now n)) r c }
 {

@@ -1,7 +1,7 @@
 //! Which blocks have small coefficients.
 
 ghost use Rattle.std.specs.Prelude.{◌≡◌, ◌<◌, ◌≤◌, ℕ, pos, slice_index, unsigned_abs, IsTrue, ◌↔◌};
-ghost use Rattle.jr_base.specs.declared.quantisers.TheConstants.{MOST_PRODUCT};
+ghost use Rattle.jr_base.specs.declared.quantisers.TheConstants.{MAX_PRODUCT};
 ghost use Rattle.jr_idct.specs.Matrix.{at, IsWithin};
 ghost use Rattle.jr_idct.specs.Transform.{product_at};
 
@@ -46,7 +46,7 @@ pub(crate) fn is_flat(block: &Coefficients) -> bool
 /// Returns whether the products with quantisers are so small that they may be transformed in lanes.
 #[inline(always)]
 pub(crate) fn is_small(block: &Coefficients, quantisers: &Quantisers) -> bool
-    ensures { IsTrue result → (n : ℕ) → n < 64 → IsWithin MOST_PRODUCT (product_at block.now quantisers.now n) }
+    ensures { IsTrue result → (n : ℕ) → n < 64 → IsWithin MAX_PRODUCT (product_at block.now quantisers.now n) }
 {
     are_within(block.natural(), quantisers.limits())
 }

@@ -43,7 +43,7 @@ impl BlockSink for Kept {
         k: usize,
         blocks: &mut [Coefficients],
     ) -> Option<i32> {
-        let mut left = bits.again();
+        let mut left = bits.fork();
         let first = read_first(dc, &mut left, prediction)?;
         read_others(ac, &mut left, first, &mut blocks[k])?;
         *bits = left;
@@ -65,7 +65,7 @@ impl BlockSink for Skipped {
         _k: usize,
         _blocks: &mut [Coefficients],
     ) -> Option<i32> {
-        let mut left = bits.again();
+        let mut left = bits.fork();
         let first = read_first(dc, &mut left, prediction)?;
         skip_others(ac, &mut left)?;
         *bits = left;

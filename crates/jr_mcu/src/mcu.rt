@@ -32,7 +32,7 @@ pub fn read_mcu<S: BlockSink>(
     ensures kept { IfNone result ((bits.new ≡ bits.old) × (predictions.new ≡ predictions.old)) }
 {
     let order = head.order();
-    let mut left = bits.again();
+    let mut left = bits.fork();
     let mut last = *predictions;
     for k in 0..order.len() {
         let c = order[k];

@@ -76,7 +76,7 @@ pub fn read_unpredicted(
     ensures small { OnSome result (HaveSmallFirst blocks.new) }
     ensures none { IfNone result (bits.new ≡ bits.old) }
 {
-    let mut left = bits.again();
+    let mut left = bits.fork();
     let mut predictions = [0; 3];
     read_mcu::<Kept>(head, &mut left, &mut predictions, 0, blocks)?;
     if !are_small(blocks) {

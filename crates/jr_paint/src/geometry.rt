@@ -59,7 +59,7 @@ pub fn place(head: &Head, c: u32, x: u32, y: u32) -> Spot
     ensures mcu { result.mcu < mcus_of head.now }
     ensures block { result.block < blocks_of head.now }
 {
-    head.be_lawful();
+    head.assert_invariant();
     let across = head.horizontal(c);
     let down = head.vertical(c);
     let mcu = mcu_number(y / (8 * down), x / (8 * across), head.mcus_across());

@@ -18,7 +18,7 @@ pub fn line_room(head: &Head) -> usize
     ensures value { result ≡ line_room head.now }
     ensures few { result < 262144 }
 {
-    head.be_lawful();
+    head.assert_invariant();
     4 * head.width() as usize
 }
 

@@ -131,7 +131,7 @@ pub fn fill_line<U: Units>(head: &Head, units: &U, c: u32, y: u32, out: &mut [u8
     if out.is_empty() {
         return;
     }
-    head.be_lawful();
+    head.assert_invariant();
     let start = place(head, c, 0, y);
     let whole = out.len() / 8;
     for n in 0..whole {

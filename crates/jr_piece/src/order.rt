@@ -33,7 +33,7 @@ pub(crate) fn are_in_order(strips: &[Arc<Strip>], front: u32) -> bool
     let mut end = 0;
     'strips: for k in 0..strips.len() {
         let strip = &strips[k];
-        strip.be_strip();
+        strip.assert_invariant();
         let mcus = each.min(front - end);
         if !has_mcus(strip, end, mcus) {
             return false;

@@ -94,7 +94,7 @@ impl Piece {
     }
 
     /// Asserts that the piece has what T.81 gives for its interval.
-    pub fn be_outcome(&self)
+    pub fn assert_invariant(&self)
         ensures { IsOutcome self.now }
     {
         let _ = &self.samples;

@@ -123,7 +123,7 @@ impl Strip {
     }
 
     /// Asserts that the strip shows whole MCUs of its interval.
-    pub fn be_strip(&self)
+    pub fn assert_invariant(&self)
         ensures { IsStrip self.now }
     {
         let _ = &self.samples;

@@ -55,7 +55,7 @@ impl<'a> Band<'a> {
         ensures value { result ≡ record { head = head.now; groups = lines.now.groups } }
         ensures lawful { IsLawful head.now }
     {
-        head.be_lawful();
+        head.assert_invariant();
         Band { head, lines }
     }
 

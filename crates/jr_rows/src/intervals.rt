@@ -95,7 +95,7 @@ impl Cursor {
             let end = units_to(done + some, mcus, per_mcu);
             let own = of_interval(guesses, self.number);
             let interval = scan.interval_ref(self.number);
-            self.read(interval.again(), own, some, &mut blocks[from..end]);
+            self.read(interval.fork(), own, some, &mut blocks[from..end]);
             let more = self.marked(part, &interval, marks);
             marked = marked.with(more);
             done += some;

@@ -85,7 +85,7 @@ fn put_unit(
     ensures here { unit_in head.now groups.new mcu j ≡ unit.now }
     ensures others { (m i : ℕ) → m < mcus_across head.now → i < blocks_of head.now → (m ≡ mcu → i ≡ j → ⊥) → unit_in head.now groups.new m i ≡ unit_in head.now groups.old m i }
 {
-    head.be_lawful();
+    head.assert_invariant();
     let start = starts[j];
     put_rows(groups, start.first + mcu * start.step, across, unit);
 }
@@ -177,7 +177,7 @@ impl RowLines {
     pub fn open(alloc: Global, head: &Head) -> Result<RowLines, Memory>
         ensures { IfOk result (HasLines head.now) }
     {
-        head.be_lawful();
+        head.assert_invariant();
         let count = head.order().len();
         let across = groups_across(head);
         let lines = lines_before(head, head.components());

@@ -39,7 +39,7 @@ pub fn shape_of(head: &Head) -> Shape
     ensures line { result.line ≡ line_size head.now }
     ensures short { result.line ≤ 196605 }
 {
-    head.be_lawful();
+    head.assert_invariant();
     Shape {
         across: head.mcus_across(),
         deep: 8 * head.vertical_max(),
@@ -76,7 +76,7 @@ pub(crate) fn mcus_at_once(head: &Head) -> u32
     ensures some { 0 < result }
     ensures few { result ≤ 64 }
 {
-    head.be_lawful();
+    head.assert_invariant();
     (BLOCKS_AT_ONCE / head.order().len()) as u32
 }
 

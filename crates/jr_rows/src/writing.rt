@@ -49,7 +49,7 @@ pub fn write_rows<W: Write, P: RowPainter>(
     ensures failed { has_failed out.new ≡ is_err result }
     ensures sent { SendsPicture W.contents out.old out.new result (P.at painter.old).scan (P.at painter.old).limit }
 {
-    head.be_lawful();
+    head.assert_invariant();
     let shape = shape_of(head);
     let mut filled = put_header(head, pixels);
     let mut marked = Marked::none();

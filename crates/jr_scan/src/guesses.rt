@@ -45,7 +45,7 @@ impl Guesses {
     }
 
     /// Returns further references to the same speculative reads; one that has too many is left out.
-    pub fn again(&self) -> Guesses
+    pub fn fork(&self) -> Guesses
         ensures { (i : IntervalValue) → AreGuessesOf i self.now → AreGuessesOf i result }
     {
         Guesses {

@@ -5,7 +5,7 @@ ghost use Rattle.jr_head.specs.Geometry.{IsLawful};
 
 use crate::front::FrontBlocks;
 use crate::interval_ref::IntervalRef;
-use crate::mcu_reader::{MOST_UNITS, McuReader};
+use crate::mcu_reader::{MAX_UNITS, McuReader};
 use jr_base::Coefficients;
 use jr_code::Memory;
 use jr_cut::Span;
@@ -109,7 +109,7 @@ impl Interval {
         ensures value { result.now ≡ self.now.head }
         ensures lawful { IsLawful result.now }
     {
-        self.head.be_lawful();
+        self.head.assert_invariant();
         &self.head
     }
 
@@ -127,7 +127,7 @@ impl Interval {
         ensures claimed { result ≤ self.now.mcus }
         ensures coded { result * length (order_of self.now.head) ≤ 4 * length self.now.bytes }
     {
-        self.head.be_lawful();
+        self.head.assert_invariant();
         let units = 4 * self.bytes().len();
         let mcus = units / self.head.order().len();
         mcus.min(self.mcus as usize) as u32
@@ -178,7 +178,7 @@ impl Interval {
         let per_mcu = self.head().order().len();
         let mut reader = McuReader::over(self.as_ref());
         let mut blocks = Vec::new(alloc);
-        let mut next: [Coefficients; MOST_UNITS] = array::from_fn(|_| Coefficients::zeros());
+        let mut next: [Coefficients; MAX_UNITS] = array::from_fn(|_| Coefficients::zeros());
         'mcus: loop {
             let count = reader.read(&mut next) as usize;
             if count == 0 {

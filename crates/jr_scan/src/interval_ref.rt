@@ -32,7 +32,7 @@ impl<'a> IntervalRef<'a> {
         requires { length bytes.now < 2 ^ 61 }
         ensures { result ≡ record { number = number; mcus = mcus; bytes = bytes.now; head = head.now } }
     {
-        head.be_lawful();
+        head.assert_invariant();
         IntervalRef {
             head,
             bytes,
@@ -42,7 +42,7 @@ impl<'a> IntervalRef<'a> {
     }
 
     /// Returns another reference to the same interval.
-    pub fn again(&self) -> IntervalRef<'a>
+    pub fn fork(&self) -> IntervalRef<'a>
         ensures { result ≡ self.now }
     {
         IntervalRef {

@@ -26,7 +26,7 @@ pub use laws::{
     decoding_is_whole_run, each_interval_decodes_or_not, each_interval_has_a_longest_front,
     no_front, one_decoding, one_front, one_run, runs_meet, shorter_front,
 };
-pub use mcu_reader::{MOST_UNITS, McuReader};
+pub use mcu_reader::{MAX_UNITS, McuReader};
 pub use partial_scan::PartialScan;
 pub use place::{Place, RunEnd};
 pub use scan::Scan;

@@ -14,7 +14,7 @@ use jr_mcu::{BlockSink, Kept, Skipped, read_mcu};
 use std::marker::Model;
 
 /// Maximum number of data units of an MCU (T.81, B.2.3): as many blocks hold a whole one of any file.
-pub const MOST_UNITS: usize = 10;
+pub const MAX_UNITS: usize = 10;
 
 /// Returns the bits of the bytes starting at one of them.
 pub(crate) fn bits_from(bytes: &[u8], bit: u64) -> Bits<'_>
@@ -57,7 +57,7 @@ impl<'a> McuReader<'a> {
     ghost use Rattle.jr_scan.specs.Mcus.{Decodes, HasNoDecoding, LongestFront};
     ghost use Rattle.jr_scan.specs.Run.{whole_run, IsRun, HasNoMcu, run_from};
     ghost use Rattle.jr_scan.specs.declared.place.RunEnd.TheVariants.{AllRead};
-    ghost use Rattle.jr_scan.specs.declared.mcu_reader.TheConstants.{MOST_UNITS};
+    ghost use Rattle.jr_scan.specs.declared.mcu_reader.TheConstants.{MAX_UNITS};
     ghost use Rattle.jr_scan.specs.McuReader.{HasRead, HasReadOf, HasReadAll, HasEnded, per_mcu};
 
     /// Returns a reader of all MCUs of an interval.
@@ -93,14 +93,14 @@ impl<'a> McuReader<'a> {
     }
 
     /// Returns a second reader at the same position.
-    pub fn again(&self) -> McuReader<'a>
+    pub fn fork(&self) -> McuReader<'a>
         ensures { result ≡ self.now }
     {
         McuReader {
-            interval: self.interval.again(),
+            interval: self.interval.fork(),
             from: self.from,
             mcus: self.mcus,
-            bits: self.bits.again(),
+            bits: self.bits.fork(),
             predictions: self.predictions,
             mcu: self.mcu,
         }
@@ -168,7 +168,7 @@ impl<'a> McuReader<'a> {
         ensures read { (zs : List (List ℤ)) → HasRead self.old zs → HasRead self.new (zs ++ take (result * per_mcu self.old) blocks.new) }
         ensures in_range { All IsInRange (take (result * per_mcu self.old) blocks.new) }
         ensures ended { (result + 1) * per_mcu self.old ≤ length blocks.new → HasEnded self.new }
-        ensures none { MOST_UNITS ≤ length blocks.new → result ≡ 0 → HasEnded self.new }
+        ensures none { MAX_UNITS ≤ length blocks.new → result ≡ 0 → HasEnded self.new }
         ensures stays { HasEnded self.old → self.new ≡ self.old }
     {
         let per_mcu = self.interval.head().order().len();

@@ -62,7 +62,7 @@ impl PartialScan {
         ensures value { result.now ≡ self.now.scan.head }
         ensures lawful { IsLawful result.now }
     {
-        self.head.be_lawful();
+        self.head.assert_invariant();
         &self.head
     }
 

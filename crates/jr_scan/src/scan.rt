@@ -98,7 +98,7 @@ impl Scan {
         ensures value { result.now ≡ self.now.head }
         ensures lawful { IsLawful result.now }
     {
-        self.head.be_lawful();
+        self.head.assert_invariant();
         &self.head
     }
 

@@ -9,7 +9,7 @@ ghost use Rattle.jr_scan.specs.Guesses.{AreGuessesOf};
 ghost use Rattle.jr_scan.specs.Run.{IsRun, run_from};
 ghost use Rattle.jr_scan.specs.McuReader.{HasRead, HasEnded, per_mcu};
 ghost use Rattle.jr_scan.specs.declared.place.RunEnd.TheVariants.{AllRead};
-ghost use Rattle.jr_scan.specs.declared.mcu_reader.TheConstants.{MOST_UNITS};
+ghost use Rattle.jr_scan.specs.declared.mcu_reader.TheConstants.{MAX_UNITS};
 
 use crate::guess::Guess;
 use crate::guesses::Guesses;
@@ -131,7 +131,7 @@ impl<'a> McuReader<'a> {
         ensures read { (zs : List (List ℤ)) → HasRead self.old zs → HasRead self.new (zs ++ take (result * per_mcu self.old) blocks.new) }
         ensures in_range { All IsInRange (take (result * per_mcu self.old) blocks.new) }
         ensures ended { (result + 1) * per_mcu self.old ≤ length blocks.new → HasEnded self.new }
-        ensures none { MOST_UNITS ≤ length blocks.new → result ≡ 0 → HasEnded self.new }
+        ensures none { MAX_UNITS ≤ length blocks.new → result ≡ 0 → HasEnded self.new }
         ensures stays { HasEnded self.old → self.new ≡ self.old }
     {
         if guesses.is_none() {

@@ -3,7 +3,7 @@
 use crate::archive::owned;
 use jr_base::Tally;
 use jri_archive::{
-    FileCounts, LineForm, answer as answer_by, asked, append_counts_line, write_counts_line,
+    FileCounts, LineForm, answer as answer_by, append_counts_line, asked, write_counts_line,
 };
 use std::alloc::Global;
 use std::io::{Cursor, Error, ErrorKind, Result as IoResult, Write};

@@ -230,7 +230,7 @@ fn takes_bits(rt: HostRuntime) -> Result<(), Fail> {
 fn keeps_the_bits_once_more(rt: HostRuntime) -> Result<(), Fail> {
     let mut bits = bits_of(&[0x9A])?;
     assert!(rt; take(&mut bits, 3) == (Some(4), 5));
-    let again = bits.again();
+    let again = bits.fork();
     assert!(rt; extra(&mut bits, 6) == (None, 5));
     assert!(rt; take(&mut bits, 5) == (Some(0x1A), 0));
     assert!(rt; again.left() == 5);

@@ -63,7 +63,7 @@ impl Looker {
         ensures old { result ≡ false → self.new ≡ self.old }
         ensures pieces { self.new.pieces ≡ self.old.pieces }
     {
-        strip.be_strip();
+        strip.assert_invariant();
         let number = strip.number();
         let at = number as usize;
         if at >= self.strips.len() || self.has_told(number) {
@@ -88,7 +88,7 @@ impl Looker {
         ensures told { piece.now.interval.number < length self.old.pieces.items → has_told self.new piece.now.interval.number ≡ true }
         ensures others { (i : ℕ) → has_told self.old i ≡ true → has_told self.new i ≡ true }
     {
-        piece.be_outcome();
+        piece.assert_invariant();
         let at = piece.number() as usize;
         if at >= self.pieces.len() || self.pieces[at] {
             return false;

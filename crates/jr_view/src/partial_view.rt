@@ -52,7 +52,7 @@ fn grey_lines(alloc: Global, head: &Head) -> Result<Vec<u8>, Memory>
     ensures grey { IfOk result (λ p. p.items ≡ replicate (head.now.height * line_size head.now) 128) }
     ensures some { IfOk result (λ p. p.items ≢ []) }
 {
-    head.be_lawful();
+    head.assert_invariant();
     let size = head.height() as usize * shape_of(head).line;
     Ok(vec![in alloc; GREY; size]?)
 }

@@ -156,7 +156,7 @@ impl View {
         ensures others { (mcu : ℕ) → IsNotOfStrip self.old strip.now mcu → IsSameAt self.old self.new mcu }
         ensures part { IsPartOfPicture self.old → HasInterval self.old.scan strip.now.interval → IsPartOfPicture self.new }
     {
-        strip.be_strip();
+        strip.assert_invariant();
         let restart = self.scan.head().restart() as usize;
         let first = strip.number() as usize * restart + strip.first() as usize;
         self.show(first, strip.mcus() as usize, &Shown::OfStrip(strip));
@@ -172,7 +172,7 @@ impl View {
         ensures others { (mcu : ℕ) → IsNotOfPiece self.old piece.now mcu → IsSameAt self.old self.new mcu }
         ensures part { IsPartOfPicture self.old → HasInterval self.old.scan piece.now.interval → IsPartOfPicture self.new }
     {
-        piece.be_outcome();
+        piece.assert_invariant();
         let first = piece.number() as usize * self.scan.head().restart() as usize;
         let count = interval_size(self.scan.head());
         self.show(first, count, &Shown::OfPiece(piece));

@@ -19,7 +19,7 @@ impl Board {
         ensures picture { IsPicture self.now.scan (marks_of self.now) (samples_of self.now) }
         ensures counts { AreCounts (marks_of self.now) result.sound result.damaged result.blank }
     {
-        self.be_lawful();
+        self.assert_invariant();
         // By its contract a header is valid.
         let _lawful = self.head();
         Counts {

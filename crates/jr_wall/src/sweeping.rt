@@ -22,7 +22,7 @@ fn is_left(board: &Board, scan: &Scan, n: u32) -> bool
     if !board.is_of(scan) {
         return false;
     }
-    board.be_lawful();
+    board.assert_invariant();
     for i in n..scan.intervals() {
         if board.mark(i) != Mark::Blank {
             return false;
@@ -52,7 +52,7 @@ fn decode_one(alloc: Global, scan: &Scan, board: &mut Board, i: u32) -> Result<(
     ensures places { OnOk result (length board.new.pieces ≡ length board.old.pieces) }
     ensures others { OnOk result ((k : ℕ) → k ≢ i → mark_at board.new k ≡ mark_at board.old k) }
 {
-    board.be_lawful();
+    board.assert_invariant();
     let interval = scan.interval(i)?;
     let Ok(piece) = Piece::make(alloc, interval) else {
         return Err(Memory);
@@ -71,7 +71,7 @@ pub(crate) fn sweep(alloc: Global, scan: &Scan, mut board: Board, n: u32) -> Res
     requires blank { (i : ℕ) → n ≤ i → mark_at board i ≡ Blank }
     ensures { IfOk result (λ b. IsDecoded scan.now n b) }
 {
-    board.be_lawful();
+    board.assert_invariant();
     for i in 0..n {
         if board.mark(i) == Mark::Blank {
             decode_one(alloc, scan, &mut board, i)?;

@@ -10,15 +10,13 @@ use crate::progress::{Progress, ScanStrip, StripTask};
 use crate::reading::{Reading, strip_mcus};
 use crate::tuning::{MAX_TASKS, MIN_READERS, MIN_READS, READS_OF_STRIP_WORKER, STEPS_OF_BUFFER};
 use crate::{GuessQueue, GuessTask, OneScan, ScanGuess, windows_of};
+use jr_base::limits::MAX_WORKERS;
 use jr_code::Memory;
 use jr_piece::{Piece, Strip};
 use jr_scan::{Interval, Scan};
 use std::alloc::Global;
 use std::marker::Model;
 use std::sync::{Arc, Condvar, Mutex, Wait};
-
-/// Maximum number of workers with a buffer for speculative reads.
-const MOST_WORKERS: usize = 64;
 
 /// An interval that several workers decode, a strip at a time, each by a free worker. One of them reads strip after
 /// strip. With three and more, others read ahead speculatively: a strip that these reads cover is skipped, and read
@@ -59,7 +57,7 @@ fn open_guesses<S: OneScan>(
     if workers < MIN_READERS as usize || windows < MIN_READS {
         return None;
     }
-    let most = workers.min(MOST_WORKERS) as u32 * READS_OF_STRIP_WORKER;
+    let most = workers.min(MAX_WORKERS as usize) as u32 * READS_OF_STRIP_WORKER;
     let count = windows.min(u64::from(most)) as u32;
     let Ok(interval) = scan.interval(i) else {
         return None;

@@ -63,7 +63,7 @@ fn next_strip(
         let Some(strip) = reader.pass_by(guesses, each)? else {
             return Ok(None);
         };
-        return Ok(Some(WaitingStrip::Placed(strip, guesses.again())));
+        return Ok(Some(WaitingStrip::Placed(strip, guesses.fork())));
     }
     let Some(strip) = reader.next(alloc, each)? else {
         return Ok(None);

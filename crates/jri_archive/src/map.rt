@@ -109,7 +109,7 @@ fn damaged_run(file: &[u8], span: CodedSpan, interval: IntervalRef<'_>) -> Optio
     requires there { interval.number < intervals_of interval.head }
     requires spelled { IsSpelledAt file.now span interval.bytes }
 {
-    let damaged = damaged_interval(interval.again(), span)?;
+    let damaged = damaged_interval(interval.fork(), span)?;
     let decodable_to = decodable_end(file, span, interval);
     Some(DamagedRun::of(damaged, decodable_to))
 }

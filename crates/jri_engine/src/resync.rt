@@ -56,7 +56,7 @@ fn cut_file(alloc: Global, head: Head, file: Vec<u8>) -> Result<Arc<Scan>, Fault
     ensures scan { IfOk result (λ scan. IsScanOfFile file.items (arc_value scan)) }
     ensures fault { IfErr result (λ f. f ≡ Fault.Memory) }
 {
-    head.be_lawful();
+    head.assert_invariant();
     let Ok(scan) = Scan::cut_in_place(alloc, head, file) else {
         return Err(Fault::Memory);
     };

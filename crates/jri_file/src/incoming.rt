@@ -54,7 +54,7 @@ fn cut_while_read<R: Read>(
     ensures failed { result ≡ Err Fault.Read → has_failed input.new ≡ true }
     ensures unfailed { result ≢ Err Fault.Read → has_failed input.new ≡ false }
 {
-    head.be_lawful();
+    head.assert_invariant();
     let before = first.len();
     let Ok(mut scan) = PartialScan::of(alloc, head, first) else {
         return Err(Fault::Memory);

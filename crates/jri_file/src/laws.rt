@@ -28,7 +28,7 @@ pub fn each_scan_has_a_picture()
 pub fn each_accepted_file_has_a_picture(head: &Head)
     ensures { (file : List ℕ) (first : Option ℕ) → All (λ b. b < 256) file → HeadOf file head.now → HasPictureOf file first }
 {
-    head.be_lawful();
+    head.assert_invariant();
     // Its contract says that there is an interval.
     let _some = head.intervals();
 }

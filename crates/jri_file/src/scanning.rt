@@ -32,7 +32,7 @@ pub fn scan_of_file(alloc: Global, file: &[u8]) -> Result<Arc<Scan>, Refusal>
     ensures refused { IfErr result (λ f. f ≢ refusal.Memory → RefusalOf file.now f) }
 {
     let head = read_head(alloc, file)?;
-    head.be_lawful();
+    head.assert_invariant();
     let Ok(scan) = Scan::cut(alloc, head, file) else {
         return Err(Refusal::Memory);
     };
@@ -45,7 +45,7 @@ pub(crate) fn scan_in_place(alloc: Global, file: Vec<u8>) -> Result<Arc<Scan>, R
     ensures refused { IfErr result (λ f. f ≢ refusal.Memory → RefusalOf file.items f) }
 {
     let head = read_head(alloc, &file)?;
-    head.be_lawful();
+    head.assert_invariant();
     let Ok(scan) = Scan::cut_in_place(alloc, head, file) else {
         return Err(Refusal::Memory);
     };

@@ -74,7 +74,7 @@ fn lay_row(
     ensures stand { (b : BoardValue) → b.scan.head ≡ head.now → ShowsMcus b (row * mcus_across head.now) (units_in head.now work.old.lines.groups)
         → StandOn form.now (first_line head.now row) (first_line head.now row + line_count head.now row) (λ k. laid_line form.now (paint.line_of head.now (samples_of b) k)) canvas.old canvas.new }
 {
-    head.be_lawful();
+    head.assert_invariant();
     let (y, count) = lines_of(head, row);
     let size = count as usize * form.bytes_before();
     lay_some(head, work, y, count, &mut lines[..size], form, canvas);

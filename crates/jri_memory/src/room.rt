@@ -10,7 +10,7 @@ use jr_paint::bytes_of_line;
 pub(crate) fn bytes_of_picture(head: &Head) -> usize
     ensures value { result ≡ picture_size head.now }
 {
-    head.be_lawful();
+    head.assert_invariant();
     head.height() as usize * bytes_of_line(head)
 }
 

@@ -31,7 +31,7 @@ fn write_sampling(
     mark: &str,
 ) -> Result<(), AllocError> {
     // By its contract a header has so few components that their numbers are in order.
-    head.be_lawful();
+    head.assert_invariant();
     for c in 0..head.components() {
         if c > 0 {
             line.push_str(between)?;

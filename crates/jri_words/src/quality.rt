@@ -68,7 +68,7 @@ pub fn quality_of(head: &Head) -> Option<u32>
     ensures none { IfNone result ((q : ℕ) → 1 ≤ q → q ≤ 100 → HasQuality head.now q → ⊥) }
     ensures within { IfSome result (λ q. (1 ≤ q) × (q ≤ 100)) }
 {
-    head.be_lawful();
+    head.assert_invariant();
     let table = head.quantiser(0);
     for lower in 0..MAX_QUALITY {
         let quality = lower + 1;

@@ -98,8 +98,8 @@ fn check_readers(
 )
     requires { AreGuessesOf interval guesses.now }
 {
-    let found = read(interval.again(), plain);
-    assert!(rt; read_by(interval.again(), guesses, guessed) == found);
+    let found = read(interval.fork(), plain);
+    assert!(rt; read_by(interval.fork(), guesses, guessed) == found);
     assert!(rt; skip_by(interval, guesses) == (found.0, found.1));
     assert!(rt; are_same(plain, guessed));
 }

@@ -25,7 +25,7 @@ returns-clause-walks g c =
     let told : Walks keeps h i (record i { mcu = i.mcu + n; place = i.place }) done n old new = record {
       passes = passes_by h i n i.place is few is.window.bit is.window.in_range;
       stands = passes_grey h i n c.requires.over;
-      shows = grey_shows keeps h i c.be_lawful.ensures some is n done few old new c.requires.over e.grey;
+      shows = grey_shows keeps h i c.assert_invariant.ensures some is n done few old new c.requires.over e.grey;
       few = omega (arith, e.few, asked, c.shape_of.ensures.across, c.requires.within);
     } in
     subst (λ (d : ScanCursor). Walks keeps h i d done n old new) (sym c.pass.ensures) told

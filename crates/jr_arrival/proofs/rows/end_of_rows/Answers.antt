@@ -8,4 +8,4 @@ returns-clause-fits c to few =
     let h = c.args.head.now in
     let n : c.rows_with_room.result ≡ rows_with_room h c.args.row c.args.bytes = c.rows_with_room.ensures.value in
     let less : to ≤ c.args.row + rows_with_room h c.args.row c.args.bytes = search (rules, arith, few, n) in
-    fits h c.be_lawful.ensures.components.down c.args.row c.args.bytes c.requires to less
+    fits h c.assert_invariant.ensures.components.down c.args.row c.args.bytes c.requires to less

@@ -5,4 +5,4 @@ use Rattle.jr_arrival.proofs.rows.lines_before.Goals as goal
 pub returns-clause-value : goal.returns-clause-value
 returns-clause-value c =
     let h = c.args.head.now in
-    search (rules, lines_before_is h c.be_lawful.ensures.components.down c.args.row)
+    search (rules, lines_before_is h c.assert_invariant.ensures.components.down c.args.row)

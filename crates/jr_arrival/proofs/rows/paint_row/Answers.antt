@@ -17,4 +17,4 @@ returns-clause-painted c t marks f e shown shows =
     let painted = c.paint_some.ensures.lines ∙ ap (λ (y : ℕ). next_lines_of h (samples_in (record { head = h; groups = groups })) y c.lines_of-y.result.1) lines.first ∙ ap (next_lines_of h (samples_in (record { head = h; groups = groups })) (first_line h row)) lines.count in
     let told = row_lines t marks f row groups (subst (λ (g : HeadValue). row < mcus_down g) (sym e) c.requires.row) shown shows in
     let there = subst (λ (g : HeadValue). next_lines_of g (samples_in (record { head = g; groups = groups })) (first_line g row) (line_count g row) ≡ next_lines_of g f (first_line g row) (line_count g row)) e told in
-    painted ∙ there ∙ ap (λ (y : ℕ). next_lines_of h f y (line_count h row)) (sym (row_more h c.be_lawful.ensures.components.down row c.requires.row))
+    painted ∙ there ∙ ap (λ (y : ℕ). next_lines_of h f y (line_count h row)) (sym (row_more h c.assert_invariant.ensures.components.down row c.requires.row))

@@ -6,17 +6,17 @@ use Rattle.jr_arrival.proofs.rows.rows_with_room.Goals as goal
 pub returns-then-lines-left-clause-fits : goal.returns-then-lines-left-clause-fits
 returns-then-lines-left-clause-fits c =
     let h = c.args.head.now in
-    let some = c.be_lawful.ensures.components.down in
+    let some = c.assert_invariant.ensures.components.down in
     search (rules, fits h some c.args.row c.args.bytes c.requires (c.args.row + rows_with_room h c.args.row c.args.bytes) (omega arith))
 
 pub returns-clause-few : goal.returns-clause-few
 returns-clause-few c =
     let h = c.args.head.now in
-    let some = c.be_lawful.ensures.components.down in
+    let some = c.assert_invariant.ensures.components.down in
     search (rules, room_few h some c.args.row c.args.bytes c.requires)
 
 pub returns-clause-fits : goal.returns-clause-fits
 returns-clause-fits c =
     let h = c.args.head.now in
-    let some = c.be_lawful.ensures.components.down in
+    let some = c.assert_invariant.ensures.components.down in
     search (rules, fits h some c.args.row c.args.bytes c.requires (c.args.row + rows_with_room h c.args.row c.args.bytes) (omega arith))

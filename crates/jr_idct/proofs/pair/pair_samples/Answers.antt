@@ -1,7 +1,7 @@
 use Rattle.std.proofs.Common.{rules, ◌≡◌, ◌+◌, ◌-◌, ◌*◌, pos, inl, inr, [], ◌∷◌, slice_index, arith, subst, ◌∙◌}
 use Rattle.std.proofs.Math.IntN.{◌*ℤ◌}
 use Rattle.std.proofs.lemmas.Bool.{cases_lt}
-use Rattle.jr_base.specs.declared.quantisers.TheConstants.{MOST_PRODUCT}
+use Rattle.jr_base.specs.declared.quantisers.TheConstants.{MAX_PRODUCT}
 use Rattle.jr_idct.specs.Lanes.{lane}
 use Rattle.jr_idct.specs.Matrix.{at, IsWithin}
 use Rattle.jr_idct.proofs.pair.pair_samples.Goals as goal
@@ -18,7 +18,7 @@ sample_rows-rows-requires c k p h g =
       | inl l ↦ rw (c.rows_of-x.ensures.first k p h l ∙ c.small_products-products_a.ensures (8 * k + p) (omega (arith, h, l))) (c.requires.small_a (8 * k + p) (omega (arith, h, l)))
       | inr o ↦
           let e : 8 + (p - 8) ≡ p = omega (arith, o) in
-          subst (λ p. IsWithin MOST_PRODUCT (lane (c.rows_of-x.result.0 ∷ c.rows_of-x.result.1 ∷ c.rows_of-x.result.2 ∷ c.rows_of-x.result.3 ∷ c.rows_of-x.result.4 ∷ c.rows_of-x.result.5 ∷ c.rows_of-x.result.6 ∷ c.rows_of-x.result.7 ∷ []) k p)) e
+          subst (λ p. IsWithin MAX_PRODUCT (lane (c.rows_of-x.result.0 ∷ c.rows_of-x.result.1 ∷ c.rows_of-x.result.2 ∷ c.rows_of-x.result.3 ∷ c.rows_of-x.result.4 ∷ c.rows_of-x.result.5 ∷ c.rows_of-x.result.6 ∷ c.rows_of-x.result.7 ∷ []) k p)) e
           (rw (c.rows_of-x.ensures.second k (p - 8) h (omega (arith, o, g)) ∙ c.small_products-products_b.ensures (8 * k + (p - 8)) (omega (arith, h, o, g))) (c.requires.small_b (8 * k + (p - 8)) (omega (arith, h, o, g))))
     ]
 

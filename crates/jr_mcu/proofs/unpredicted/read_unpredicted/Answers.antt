@@ -15,7 +15,7 @@ returns-clause-some c =
     let zs = c.read_mcu.new.blocks in
     let s = c.in_ok-read_mcu.ensures.some in
     let all : s.0 ≡ zs = sym (s.3 refl) ∙ take_all (0 + length (order_of h)) zs (omega (arith, c.read_mcu.auto.blocks, c.requires.room)) in
-    let taken : TakesMcu h no_predictions zs c.args.bits.now c.read_mcu.new.bits = search (rules, same_mcu _ _ _ _ _ _ _ all c.again-left.ensures s.1) in
+    let taken : TakesMcu h no_predictions zs c.args.bits.now c.read_mcu.new.bits = search (rules, same_mcu _ _ _ _ _ _ _ all c.fork-left.ensures s.1) in
     let last : c.read_mcu.new.predictions ≡ predicted h no_predictions s.0 = search (rules, s.2) in
     (taken, subst (λ (b : List (List ℤ)). c.read_mcu.new.predictions ≡ predicted h no_predictions b) all last)
 

@@ -7,13 +7,13 @@ use Rattle.jr_paint.proofs.unit_lines.fill_line.Goals as goal
 
 pub overflow_cast-n : goal.overflow_cast-n
 overflow_cast-n g c =
-    let few = samples_across-le c.args.head.now c.args.c c.be_lawful.ensures c.requires.component in
-    omega (arith, few, c.be_lawful.ensures.narrow, c.requires.across, c.loop-n-test.true, div-mul-le_self (length c.args.out.now) 8)
+    let few = samples_across-le c.args.head.now c.args.c c.assert_invariant.ensures c.requires.component in
+    omega (arith, few, c.assert_invariant.ensures.narrow, c.requires.across, c.loop-n-test.true, div-mul-le_self (length c.args.out.now) 8)
 
 pub overflow_cast-whole : goal.overflow_cast-whole
 overflow_cast-whole g c =
-    let few = samples_across-le c.args.head.now c.args.c c.be_lawful.ensures c.requires.component in
-    omega (arith, few, c.be_lawful.ensures.narrow, c.requires.across, div-mul-le_self (length c.args.out.now) 8)
+    let few = samples_across-le c.args.head.now c.args.c c.assert_invariant.ensures c.requires.component in
+    omega (arith, few, c.assert_invariant.ensures.narrow, c.requires.across, div-mul-le_self (length c.args.out.now) 8)
 
 pub loop-n-preserved : goal.loop-n-preserved
 loop-n-preserved g c =

@@ -29,7 +29,7 @@ strips-preserved c =
     record {
       end = ap (λ n. c.strips.end + n) c.min-mcus.ensures ∙ next_end each c.args.front k c.strips.end c.strips.invariant.end;
       at = one_more (IsStripAt each c.args.front) (shared_strips strips) k s at (next_at each c.args.front k c.strips.end s c.strips.invariant.end (has.0, has.1, has.2 ∙ c.min-mcus.ensures)) c.strips.invariant.at;
-      are = one_more (λ _ t. IsStrip t) (shared_strips strips) k s at (subst IsStrip (c.deref.ensures ∙ sym c.deref-in-strips.ensures) c.be_strip.ensures) c.strips.invariant.are;
+      are = one_more (λ _ t. IsStrip t) (shared_strips strips) k s at (subst IsStrip (c.deref.ensures ∙ sym c.deref-in-strips.ensures) c.assert_invariant.ensures) c.strips.invariant.are;
     }
 
 pub returns-clause-order : goal.returns-clause-order

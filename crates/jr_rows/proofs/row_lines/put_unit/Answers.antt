@@ -33,20 +33,20 @@ fits h across groups m j p l room is lm lj =
 
 pub overflow_mul-mcu : goal.overflow_mul-mcu
 overflow_mul-mcu c =
-    let all = fits c.args.head.now c.args.across c.args.groups.now c.args.mcu c.args.j (slice_index_or c.args.starts.now c.args.j none) c.be_lawful.ensures c.requires.room (c.requires.starts.each c.args.j none c.requires.unit) c.requires.mcu c.requires.unit in
+    let all = fits c.args.head.now c.args.across c.args.groups.now c.args.mcu c.args.j (slice_index_or c.args.starts.now c.args.j none) c.assert_invariant.ensures c.requires.room (c.requires.starts.each c.args.j none c.requires.unit) c.requires.mcu c.requires.unit in
     search (rules, arith, all)
 
 pub overflow_add-start : goal.overflow_add-start
 overflow_add-start c =
-    let all = fits c.args.head.now c.args.across c.args.groups.now c.args.mcu c.args.j (slice_index_or c.args.starts.now c.args.j none) c.be_lawful.ensures c.requires.room (c.requires.starts.each c.args.j none c.requires.unit) c.requires.mcu c.requires.unit in
+    let all = fits c.args.head.now c.args.across c.args.groups.now c.args.mcu c.args.j (slice_index_or c.args.starts.now c.args.j none) c.assert_invariant.ensures c.requires.room (c.requires.starts.each c.args.j none c.requires.unit) c.requires.mcu c.requires.unit in
     search (rules, arith, all)
 
 pub put_rows-requires-clause-some : goal.put_rows-requires-clause-some
-put_rows-requires-clause-some c = search (rules, arith, some_across c.args.head.now c.args.mcu c.be_lawful.ensures c.requires.mcu)
+put_rows-requires-clause-some c = search (rules, arith, some_across c.args.head.now c.args.mcu c.assert_invariant.ensures c.requires.mcu)
 
 pub put_rows-requires-clause-room : goal.put_rows-requires-clause-room
 put_rows-requires-clause-room c =
-    let all = fits c.args.head.now c.args.across c.args.groups.now c.args.mcu c.args.j (slice_index_or c.args.starts.now c.args.j none) c.be_lawful.ensures c.requires.room (c.requires.starts.each c.args.j none c.requires.unit) c.requires.mcu c.requires.unit in
+    let all = fits c.args.head.now c.args.across c.args.groups.now c.args.mcu c.args.j (slice_index_or c.args.starts.now c.args.j none) c.assert_invariant.ensures c.requires.room (c.requires.starts.each c.args.j none c.requires.unit) c.requires.mcu c.requires.unit in
     search (rules, arith, all)
 
 -- row r of the data unit stands there
@@ -69,5 +69,5 @@ returns-clause-others c m i lm li other =
     let is = c.requires.starts.each c.args.j none c.requires.unit in
     unit_kept h c.put_rows.new.groups m i c.args.groups.now (λ r lr.
     c.put_rows.ensures.others (group_of h m i r) (λ q lq e.
-    let same = apart h m i r c.args.mcu c.args.j q c.be_lawful.ensures lm c.requires.mcu li c.requires.unit lr lq (e ∙ row_there h c.args.across c.args.groups.now c.args.mcu c.args.j (slice_index_or c.args.starts.now c.args.j none) c.requires.room is q) in
+    let same = apart h m i r c.args.mcu c.args.j q c.assert_invariant.ensures lm c.requires.mcu li c.requires.unit lr lq (e ∙ row_there h c.args.across c.args.groups.now c.args.mcu c.args.j (slice_index_or c.args.starts.now c.args.j none) c.requires.room is q) in
     other same.0 same.1.0))

@@ -107,7 +107,7 @@ pub returns-in_err-write_all-clause-sent : goal.returns-in_err-write_all-clause-
 returns-in_err-write_all-clause-sent g c b first =
     let h = (g.P.RowPainter.at c.args.painter.now).scan.head in
     let end : c.rows.row ≡ mcus_down h = omega (arith, c.rows.invariant.within, c.rows-test.false, c.shape_of-shape.ensures.down ∙ ap (λ (k : HeadValue). mcus_down k) c.requires.head) in
-    let lawful : IsLawful h = subst (λ (k : HeadValue). IsLawful k) c.requires.head c.be_lawful.ensures in
+    let lawful : IsLawful h = subst (λ (k : HeadValue). IsLawful k) c.requires.head c.assert_invariant.ensures in
     let sent = rw (end, all_lines h lawful, ← text_is h (samples_of b)) at (c.rows.invariant.sent b first) in
     let failed = subst (λ (ps : List ℕ). WritesBeginning g.W.Write.contents c.rows.out c.write_all.new.out (take c.rows.filled ps)) c.deref-2.ensures.value c.in_err-write_all.ensures.err in
     record {
@@ -126,7 +126,7 @@ pub returns-clause-sent : goal.returns-clause-sent
 returns-clause-sent g c b first =
     let h = (g.P.RowPainter.at c.args.painter.now).scan.head in
     let end : c.rows.row ≡ mcus_down h = omega (arith, c.rows.invariant.within, c.rows-test.false, c.shape_of-shape.ensures.down ∙ ap (λ (k : HeadValue). mcus_down k) c.requires.head) in
-    let lawful : IsLawful h = subst (λ (k : HeadValue). IsLawful k) c.requires.head c.be_lawful.ensures in
+    let lawful : IsLawful h = subst (λ (k : HeadValue). IsLawful k) c.requires.head c.assert_invariant.ensures in
     let sent = rw (end, all_lines h lawful, ← text_is h (samples_of b)) at (c.rows.invariant.sent b first) in
     let ready = take c.rows.filled c.rows.pixels.items in
     let ok : Writes g.W.Write.contents c.rows.out c.write_all.new.out ready = search (rules, c.in_ok-write_all.ensures.ok) in

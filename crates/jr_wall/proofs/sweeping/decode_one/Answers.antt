@@ -27,7 +27,7 @@ returns-clause-marked c =
     let p = arc_value c.in_ok-piece.piece in
     let is : p.interval ≡ interval_of c.args.scan.now c.args.i = ap (λ (q : PieceValue). q.interval) c.in_ok-piece.ensures.ok ∙ c.in-Ok.ensures.ok ∙ c.in_ok-interval.ensures in
     let number : p.interval.number ≡ c.args.i = ap (λ (v : IntervalValue). v.number) is in
-    let within : c.args.i < length c.args.board.now.pieces = omega (arith, c.be_lawful.ensures.places, ap (λ (xs : List (List ℕ)). length xs) c.requires.scan.1, c.requires.i) in
+    let within : c.args.i < length c.args.board.now.pieces = omega (arith, c.assert_invariant.ensures.places, ap (λ (xs : List (List ℕ)). length xs) c.requires.scan.1, c.requires.i) in
     posted_mark c.args.board.now c.post.new.self p c.args.i number c.in-Ok-post.ensures.ok within
 
 pub returns-clause-places : goal.returns-clause-places

@@ -32,7 +32,7 @@ returns-in-Ok-share-clause-scan g c =
     let same : s.head ≡ c.args.head = c.cut_on.ensures.head ∙ c.in-Ok.ensures.head in
     let is : IsScanOfFile file s = record {
       head = subst (HeadOf file) (sym same) (head_stays first cut.given small c.args.head c.requires.head);
-      lawful = subst IsLawful (sym same) c.be_lawful.ensures;
+      lawful = subst IsLawful (sym same) c.assert_invariant.ensures;
       cut = (cut.come first c.in-Ok.ensures.come).scan;
     } in
     of_file (λ f. IsScanOfFile f (arc_value c.in-Ok-share.scan)) (prepend_known first (g.R.Read.remaining c.args.input.now.inner)) (g.R.Read.remaining c.cut_on.new.input.inner) file (first_and _ _ first cut.given cut.read)

@@ -56,4 +56,4 @@ returns-then-not-find_end-clause-waits c told =
     let failed = c.if-not-find_end.true in
     let still = c.find_end.ensures.waits failed in
     let all : i.mcu ≡ mcus_in h i.interval = omega (arith, c.requires.cursor.is_in.few, c.mcus_in.ensures.value, c.if-self-mcus_in.false) in
-    subst (Waits h) (sym (c.find_end.ensures.kept failed)) (waits_behind h i c.requires.cursor c.be_lawful.ensures still.0 all still.1)
+    subst (Waits h) (sym (c.find_end.ensures.kept failed)) (waits_behind h i c.requires.cursor c.assert_invariant.ensures still.0 all still.1)

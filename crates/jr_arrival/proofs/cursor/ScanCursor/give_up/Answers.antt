@@ -23,7 +23,7 @@ returns-clause-stands c whole t may s =
       | inl stop ↦ inl (subst (λ (w : List ℕ). IsStop (drop end w)) (sym may.is) stop)
       | inr long ↦ inr (omega (arith, long, left))
     ] in
-    let stuck = stuck_true h i c.requires.cursor.window end e.spells.0 e.spells.1 e.spells.2 e.within e.spells.3 c.requires.cursor.is_in c.be_lawful.ensures (c.requires.none going) going e.stop whole t may final s in
+    let stuck = stuck_true h i c.requires.cursor.window end e.spells.0 e.spells.1 e.spells.2 e.within e.spells.3 c.requires.cursor.is_in c.assert_invariant.ensures (c.requires.none going) going e.stop whole t may final s in
     stands_by whole t d i.interval i.mcu end IsStuck d.place l.stays.interval l.stays.mcu l.at l.reading refl (omega (arith, s.from, e.spells.2)) stuck
 
 pub returns-then-not-is_stuck_at-clause-waits : goal.returns-then-not-is_stuck_at-clause-waits
@@ -41,4 +41,4 @@ returns-then-not-is_stuck_at-clause-waits c told =
       fill = fill.0;
       all = ap (λ (k : ℕ). drop k i.file.bytes.now) (sym e.spells.2) ∙ fill.1;
     } in
-    waits_within c.args.head.now i c.requires.cursor c.be_lawful.ensures still (c.requires.none going) going short
+    waits_within c.args.head.now i c.requires.cursor c.assert_invariant.ensures still (c.requires.none going) going short

@@ -37,7 +37,7 @@ pub read-requires-clause-same : goal.read-requires-clause-same
 read-requires-clause-same c =
     let t = c.args.part.now.scan in
     let r = c.ready.new.self in
-    let interval : c.again.result ≡ interval_of t r.number = c.again.ensures ∙ c.interval_ref-interval.ensures ∙ ap (λ (s : ScanValue). interval_of s r.number) c.scan-scan.ensures in
+    let interval : c.fork.result ≡ interval_of t r.number = c.fork.ensures ∙ c.interval_ref-interval.ensures ∙ ap (λ (s : ScanValue). interval_of s r.number) c.scan-scan.ensures in
     subst (λ (i : IntervalValue). IfSome c.of_interval-own.result (λ g. AreGuessesOf i g.now)) (sym interval) (c.of_interval-own.ensures t c.requires.same)
 
 pub marked-more-requires-clause-decoded : goal.marked-more-requires-clause-decoded
@@ -94,7 +94,7 @@ intervals-preserved c =
     let fits : c.units_to-end.result ≤ length old = omega (arith, c.units_to-end.ensures.within, room) in
     let long : length sub ≡ mcus * n = c.read.auto.blocks ∙ mid_len start c.units_to-end.result old fits ∙ omega (arith, start_is, end_is, add-mul done mcus n) in
     let inside : start ≤ length old = omega (arith, c.units_to-from.ensures.within, room) in
-    let interval : c.again.result ≡ interval_of t r.number = c.again.ensures ∙ c.interval_ref-interval.ensures ∙ ap (λ (s : ScanValue). interval_of s r.number) c.scan-scan.ensures in
+    let interval : c.fork.result ≡ interval_of t r.number = c.fork.ensures ∙ c.interval_ref-interval.ensures ∙ ap (λ (s : ScanValue). interval_of s r.number) c.scan-scan.ensures in
     let codes : (p : PieceValue) → IsOutcome p → p.interval ≡ interval_of t r.number → CodesUnits p (units_before (interval_of t r.number) r.mcu) sub =
     subst (λ (i : IntervalValue). (p : PieceValue) → IsOutcome p → p.interval ≡ i → CodesUnits p (units_before i r.mcu) sub) interval c.read.ensures.blocks in
     let part : (k : ℕ) → k < length sub → slice_index_or new (done * n + k) [] ≡ slice_index_or sub k [] =
@@ -133,7 +133,7 @@ marked-more-requires-clause-stands c =
     let t = c.args.part.now.scan in
     let r = c.ready.new.self in
     let next = c.read.new.self in
-    let interval : c.again.result ≡ interval_of t r.number = c.again.ensures ∙ c.interval_ref-interval.ensures ∙ ap (λ (s : ScanValue). interval_of s r.number) c.scan-scan.ensures in
+    let interval : c.fork.result ≡ interval_of t r.number = c.fork.ensures ∙ c.interval_ref-interval.ensures ∙ ap (λ (s : ScanValue). interval_of s r.number) c.scan-scan.ensures in
     record {
       number = omega (arith, c.ready.ensures.stands.number, ap (λ (s : ScanValue). length s.intervals) c.scan-scan.ensures, c.read.ensures.number);
       at = subst (λ (k : ℕ). IsPlaceAfter (interval_of t k) next.mcu next.place) (sym c.read.ensures.number) (subst (λ (i : IntervalValue). IsPlaceAfter i next.mcu next.place) interval c.read.ensures.at);

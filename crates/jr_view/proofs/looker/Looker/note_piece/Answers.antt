@@ -12,4 +12,4 @@ returns-clause-new c _ scan told has k =
     let room : p.interval.number < length l.pieces.items = search (rules, arith, number) in
     let read = get_or_read l.pieces.items c.number-at.result c.index.result.now (search (rules, arith)) (search rules) false in
     let untold : has_told l p.interval.number ≡ false = search (rules, number, read) in
-    keeps_piece scan l _ p told room untold (search rules) (search (rules, number)) (record { number = refl; interval = has; outcome = c.be_outcome.ensures }) k
+    keeps_piece scan l _ p told room untold (search rules) (search (rules, number)) (record { number = refl; interval = has; outcome = c.assert_invariant.ensures }) k

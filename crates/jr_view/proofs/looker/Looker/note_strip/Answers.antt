@@ -15,4 +15,4 @@ returns-clause-new c _ scan told lt k =
     let untold : has_told l s.interval.number ≡ false = search (rules, number) in
     let read = get_or_read l.strips.items c.number-number.result c.index.result.now (search (rules, arith)) (search rules) 0 in
     let here : get_or l.strips.items s.interval.number 0 ≤ s.first = search (rules, arith, read, ap (λ n. get_or l.strips.items n 0) number, first) in
-    keeps_strip scan l _ s told room untold here (search rules) (search (rules, number, next)) (c.be_strip.ensures, lt) k
+    keeps_strip scan l _ s told room untold here (search rules) (search (rules, number, next)) (c.assert_invariant.ensures, lt) k

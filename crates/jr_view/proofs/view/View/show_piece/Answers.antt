@@ -10,7 +10,7 @@ shows c = search rules
 
 pub returns-clause-part : goal.returns-clause-part
 returns-clause-part c part has =
-    piece_part c.args.self.now c.show.new.self c.args.piece.now (shows c) (record { number = refl; interval = has; outcome = c.be_outcome.ensures }) part
+    piece_part c.args.self.now c.show.new.self c.args.piece.now (shows c) (record { number = refl; interval = has; outcome = c.assert_invariant.ensures }) part
 
 pub returns-clause-seen : goal.returns-clause-seen
 returns-clause-seen c = (shows c).seen

@@ -22,4 +22,4 @@ pub returns-clause-others : goal.returns-clause-others
 returns-clause-others c = (shows c).others
 
 pub returns-clause-part : goal.returns-clause-part
-returns-clause-part c = strip_part c.args.self.now c.show.new.self c.args.strip.now (shows c) c.be_strip.ensures
+returns-clause-part c = strip_part c.args.self.now c.show.new.self c.args.strip.now (shows c) c.assert_invariant.ensures

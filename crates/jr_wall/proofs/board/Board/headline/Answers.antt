@@ -3,7 +3,7 @@ use Rattle.jr_picture.proofs.BoardPictures.{picture}
 use Rattle.jr_wall.proofs.board.Board.headline.Goals as goal
 
 pub returns-clause-picture : goal.returns-clause-picture
-returns-clause-picture c = picture c.args.self.now c.be_lawful.ensures (search rules)
+returns-clause-picture c = picture c.args.self.now c.assert_invariant.ensures (search rules)
 
 pub returns-clause-counts : goal.returns-clause-counts
 returns-clause-counts c = search rules
