@@ -1,1 +1,1 @@
-pub mod Benches
+pub mod RowBuffers

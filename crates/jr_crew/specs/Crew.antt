@@ -2,8 +2,8 @@
 use Rattle.std.specs.Prelude.{◌≡◌, ℕ, ◌%◌, ◌<◌, List, length, slice_get, Option, Some, None}
 use Rattle.jr_head.specs.Geometry.{mcus_down}
 use Rattle.jr_scan.specs.ScanValue.{ScanValue}
-use Rattle.jr_crew.specs.Bench.{OfPart}
-use Rattle.jr_crew.specs.BenchValue.{PaintedValue}
+use Rattle.jr_crew.specs.RowBuffer.{OfPart}
+use Rattle.jr_crew.specs.RowBufferValue.{PaintedValue}
 use Rattle.jr_rows.specs.FirstIntervalsValue.{FirstIntervalsValue}
 use Rattle.jr_rows.specs.Cursors.{AreGuessesIn}
 use Rattle.jr_rows.specs.Rows.{AreRowsOf}

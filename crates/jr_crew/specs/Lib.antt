@@ -1,3 +1,3 @@
-pub mod Bench
-pub mod BenchValue
+pub mod RowBuffer
+pub mod RowBufferValue
 pub mod Crew

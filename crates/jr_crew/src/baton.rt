@@ -5,9 +5,9 @@ ghost use Rattle.jr_scan.specs.Guesses.{AreGuessesOf};
 ghost use Rattle.jr_scan.specs.ScanValue.{interval_of};
 ghost use Rattle.jr_rows.specs.Rows.{AreRowsOf};
 
-use crate::bench::{Bench, CodedRow, Painted, WorkBench};
 use crate::one_first_intervals::OneFirstIntervals;
 use crate::paint_room::PaintRoom;
+use crate::row_buffer::{CodedRow, Painted, RowBuffer, WorkBuffer};
 use jr_picture::Gate;
 use jr_rows::{FirstIntervals, IntervalGuesses, Rows, announce, intervals_of_row, shape_of};
 use jr_scan::Guesses;
@@ -116,13 +116,13 @@ impl<S: OneFirstIntervals> Baton<S> {
     pub(crate) fn finish(
         self,
         part: &FirstIntervals<'_>,
-        bench: Bench<S>,
+        buffer: RowBuffer<S>,
         room: &mut PaintRoom<S>,
     ) -> Painted<S>
         requires { S.part ≡ Some part.now }
     {
         let mut rows = self.rows;
-        let painted = bench.decode(part, &mut rows, Some(&self.guesses), room);
+        let painted = buffer.decode(part, &mut rows, Some(&self.guesses), room);
         drop(rows);
         painted
     }
@@ -138,12 +138,12 @@ impl<S: OneFirstIntervals> Baton<S> {
     pub(crate) fn read(
         self,
         part: &FirstIntervals<'_>,
-        bench: WorkBench<S>,
+        buffer: WorkBuffer<S>,
     ) -> (CodedRow<S>, Option<Baton<S>>)
         requires { S.part ≡ Some part.now }
     {
         let mut rows = self.rows;
-        let coded = bench.read(part, &mut rows, Some(&self.guesses));
+        let coded = buffer.read(part, &mut rows, Some(&self.guesses));
         (coded, baton_over(part, rows))
     }
 
@@ -151,13 +151,13 @@ impl<S: OneFirstIntervals> Baton<S> {
     pub(crate) fn decode(
         self,
         part: &FirstIntervals<'_>,
-        bench: Bench<S>,
+        buffer: RowBuffer<S>,
         room: &mut PaintRoom<S>,
     ) -> (Painted<S>, Option<Baton<S>>)
         requires { S.part ≡ Some part.now }
     {
         let mut rows = self.rows;
-        let painted = bench.decode(part, &mut rows, Some(&self.guesses), room);
+        let painted = buffer.decode(part, &mut rows, Some(&self.guesses), room);
         (painted, baton_over(part, rows))
     }
 }

@@ -78,8 +78,8 @@ impl<R: Wait, G: Gate, S: OneFirstIntervals> RowPainter for Caller<'_, '_, R, G,
         // By its contract a row's number fits.
         let _rows = shape_of(crew.part().scan().head()).down;
         let painted = crew.painted(rt, self.row);
-        let (marked, bench) = painted.put_into(crew.part(), pixels, from, to);
-        crew.give_back(rt, bench);
+        let (marked, buffer) = painted.put_into(crew.part(), pixels, from, to);
+        crew.give_back(rt, buffer);
         self.row += 1;
         marked
     }

@@ -6,10 +6,10 @@ ghost use Rattle.jr_paint.specs.Lines.{line_size};
 ghost use Rattle.jr_paint.specs.declared.header.TheConstants.{HEADER_ROOM};
 
 use crate::baton::Baton;
-use crate::bench::{Bench, Painted, WorkBench};
 use crate::caller_room::CallerRoom;
 use crate::one_first_intervals::OneFirstIntervals;
 use crate::paint_room::PaintRoom;
+use crate::row_buffer::{Painted, RowBuffer, WorkBuffer};
 use crate::row_queue::{BegunRow, RowQueue, RowTask, Waiter};
 use crate::scan_of::ScanOf;
 use jr_base::Memory;
@@ -24,7 +24,7 @@ use std::sync::{Condvar, Mutex, Wait};
 /// What the threads share.
 ///
 /// A thread takes its next task from the queue, and does it outside of the lock. No row begins before the calling thread has
-/// all memory that it needs. A row is begun with a row buffer (`Bench`), so at most as many rows are in work. Each thread
+/// all memory that it needs. A row is begun with a `RowBuffer`, so at most as many rows are in work. Each thread
 /// allocates its row buffers as it starts; one gets memory for blocks when a row first waits in it to be painted.
 ///
 /// If rows are whole intervals, each thread decodes and paints rows by itself. Otherwise one thread at a time has the reader. If
@@ -70,15 +70,15 @@ impl<'a, S: OneFirstIntervals> Crew<'a, S> {
         }
     }
 
-    /// Allocates what the calling thread works with, and `benches` benches; then the first row may begin.
-    pub(crate) fn begin<R: Wait>(&self, rt: &R, benches: u32) -> Result<CallerRoom<S>, Memory>
+    /// Allocates what the calling thread works with, and `buffers` row buffers; then the first row may begin.
+    pub(crate) fn begin<R: Wait>(&self, rt: &R, buffers: u32) -> Result<CallerRoom<S>, Memory>
         ensures lines { IfOk result (λ r. 8 * vertical_max self.now.scan.head * line_size self.now.scan.head ≤ length r.pixels.items) }
         ensures header { IfOk result (λ r. HEADER_ROOM ≤ length r.pixels.items) }
     {
         let Ok(room) = CallerRoom::open(self.alloc, &self.part) else {
             return Err(Memory);
         };
-        if self.bring_benches(rt, benches).is_err() {
+        if self.bring_buffers(rt, buffers).is_err() {
             drop(room);
             return Err(Memory);
         }
@@ -87,13 +87,13 @@ impl<'a, S: OneFirstIntervals> Crew<'a, S> {
         Ok(room)
     }
 
-    /// Allocates `benches` row buffers and adds them to the queue.
-    fn bring_benches<R: Wait>(&self, rt: &R, benches: u32) -> Result<(), Memory> {
-        for _ in 0..benches {
-            let Ok(bench) = Bench::open(self.alloc, &self.part) else {
+    /// Allocates `buffers` row buffers and adds them to the queue.
+    fn bring_buffers<R: Wait>(&self, rt: &R, buffers: u32) -> Result<(), Memory> {
+        for _ in 0..buffers {
+            let Ok(buffer) = RowBuffer::open(self.alloc, &self.part) else {
                 return Err(Memory);
             };
-            self.give_back(rt, bench);
+            self.give_back(rt, buffer);
         }
         Ok(())
     }
@@ -154,22 +154,22 @@ impl<'a, S: OneFirstIntervals> Crew<'a, S> {
         if intervals_of_row(self.part.scan().head()).is_some() {
             return self.finish(rt, row, room);
         }
-        let BegunRow { baton, bench } = row;
-        match bench.with_work(self.alloc, &self.part) {
-            Ok(bench) => self.read_on(rt, baton, bench),
-            Err(bench) => self.decode_on(rt, baton, bench, room),
+        let BegunRow { baton, buffer } = row;
+        match buffer.with_work(self.alloc, &self.part) {
+            Ok(buffer) => self.read_on(rt, baton, buffer),
+            Err(buffer) => self.decode_on(rt, baton, buffer, room),
         }
     }
 
     /// Reads and paints a row, whose intervals were reported to the gate.
     fn finish<R: Wait>(&self, rt: &R, row: BegunRow<S>, room: &mut PaintRoom<S>) {
-        let BegunRow { baton, bench } = row;
-        self.put_painted(rt, baton.finish(&self.part, bench, room));
+        let BegunRow { baton, buffer } = row;
+        self.put_painted(rt, baton.finish(&self.part, buffer, room));
     }
 
     /// Reads a row, which then waits for a free thread.
-    fn read_on<R: Wait>(&self, rt: &R, baton: Baton<S>, bench: WorkBench<S>) {
-        let (coded, behind) = baton.read(&self.part, bench);
+    fn read_on<R: Wait>(&self, rt: &R, baton: Baton<S>, buffer: WorkBuffer<S>) {
+        let (coded, behind) = baton.read(&self.part, buffer);
         let waiter = self.queue.lock(rt).put_coded(&self.part, coded, behind);
         self.wake(waiter);
     }
@@ -179,10 +179,10 @@ impl<'a, S: OneFirstIntervals> Crew<'a, S> {
         &self,
         rt: &R,
         baton: Baton<S>,
-        bench: Bench<S>,
+        buffer: RowBuffer<S>,
         room: &mut PaintRoom<S>,
     ) {
-        let (painted, behind) = baton.decode(&self.part, bench, room);
+        let (painted, behind) = baton.decode(&self.part, buffer, room);
         let waiter = self.queue.lock(rt).put_behind(&self.part, behind);
         self.wake(waiter);
         self.put_painted(rt, painted);
@@ -202,7 +202,7 @@ impl<'a, S: OneFirstIntervals> Crew<'a, S> {
         let (baton, behind) = row.baton.pass(&self.part, gate);
         let passed = BegunRow {
             baton,
-            bench: row.bench,
+            buffer: row.buffer,
         };
         let waiter = self.queue.lock(rt).put_passed(&self.part, passed, behind);
         self.wake(waiter);
@@ -235,10 +235,10 @@ impl<'a, S: OneFirstIntervals> Crew<'a, S> {
     }
 
     /// Allocates a row buffer if one is lacking.
-    fn bring_bench<R: Wait>(&self, rt: &R) {
-        let is_lacking = self.queue.lock(rt).lacks_bench();
-        if is_lacking && let Ok(bench) = Bench::open(self.alloc, &self.part) {
-            self.give_back(rt, bench);
+    fn bring_buffer<R: Wait>(&self, rt: &R) {
+        let is_lacking = self.queue.lock(rt).lacks_buffer();
+        if is_lacking && let Ok(buffer) = RowBuffer::open(self.alloc, &self.part) {
+            self.give_back(rt, buffer);
         }
     }
 
@@ -259,7 +259,7 @@ impl<'a, S: OneFirstIntervals> Crew<'a, S> {
     }
 
     /// Allocates memory of its own, then reads and paints rows until none is left. If allocation fails, the others work
-    /// without this thread. Before it brings a bench it brings a buffer for speculative reads and makes one, if any are
+    /// without this thread. Before it brings a row buffer it brings a buffer for speculative reads and makes one, if any are
     /// made, so that the reader has them early.
     pub(crate) fn work<R: Wait, G: Gate>(&self, rt: &R, gate: &G) {
         let Ok(mut room) = PaintRoom::open(self.alloc, &self.part) else {
@@ -268,7 +268,7 @@ impl<'a, S: OneFirstIntervals> Crew<'a, S> {
         for _ in 0..ROW_BUFFERS_OF_WORKER {
             self.do_ready(rt, gate, &mut room);
             self.do_ready(rt, gate, &mut room);
-            self.bring_bench(rt);
+            self.bring_buffer(rt);
         }
         self.do_tasks(rt, gate, &mut room);
     }
@@ -295,8 +295,8 @@ impl<'a, S: OneFirstIntervals> Crew<'a, S> {
     }
 
     /// Returns a row buffer to the queue, so that another row can be read.
-    pub(crate) fn give_back<R: Wait>(&self, rt: &R, bench: Bench<S>) {
-        let is_waited_for = self.queue.lock(rt).give_back(bench);
+    pub(crate) fn give_back<R: Wait>(&self, rt: &R, buffer: RowBuffer<S>) {
+        let is_waited_for = self.queue.lock(rt).give_back(buffer);
         if is_waited_for {
             self.has_task.notify_one();
         }

@@ -3,7 +3,6 @@
 #![tactic(auto)]
 
 mod baton;
-mod bench;
 mod caller;
 mod caller_room;
 mod crew;
@@ -11,6 +10,7 @@ mod crew_size;
 mod one_first_intervals;
 mod paint_room;
 mod row;
+mod row_buffer;
 mod row_queue;
 mod scan_of;
 mod sending;

@@ -21,7 +21,7 @@ pub struct PaintRoom<S: OneFirstIntervals> {
 
 impl<S: OneFirstIntervals> Model for PaintRoom<S> {
     ghost use Rattle.std.specs.Prelude.{ℕ, length};
-    ghost use Rattle.jr_crew.specs.Bench.{HasLineRoom, HasSamples};
+    ghost use Rattle.jr_crew.specs.RowBuffer.{HasLineRoom, HasSamples};
 
     ghost Value = { ℕ };
 

@@ -4,8 +4,8 @@ ghost use Rattle.std.specs.Prelude.{◌≡◌, ◌<◌, Some, IsTrue, length};
 ghost use Rattle.jr_crew.specs.Crew.{HasRow};
 
 use crate::baton::Baton;
-use crate::bench::{Bench, CodedRow, Painted};
 use crate::one_first_intervals::OneFirstIntervals;
+use crate::row_buffer::{CodedRow, Painted, RowBuffer};
 use crate::scan_of::ScanOf;
 use jr_base::Memory;
 use jr_rows::{FirstIntervals, intervals_of_row};
@@ -38,14 +38,14 @@ pub(crate) enum RowTask<S: OneFirstIntervals> {
 #[derive(Drop)]
 pub(crate) enum Spare<S: OneFirstIntervals> {
     Guesses(GuessQueue<ScanOf<S>>),
-    Bench(Bench<S>),
+    RowBuffer(RowBuffer<S>),
 }
 
 /// A row that is begun, and what it is read on: so it needs nothing that a later row could take.
 #[derive(Drop)]
 pub(crate) struct BegunRow<S: OneFirstIntervals> {
     pub(crate) baton: Baton<S>,
-    pub(crate) bench: Bench<S>,
+    pub(crate) buffer: RowBuffer<S>,
 }
 
 /// The kind of task that a thread can do next.
@@ -72,7 +72,7 @@ pub(crate) enum Waiter {
     Caller,
 }
 
-/// The rows that are read and not yet written, no more than there are benches, and the threads that wait for them, so
+/// The rows that are read and not yet written, no more than there are row buffers, and the threads that wait for them, so
 /// that a wake-up is sent only if a thread waits.
 #[derive(Drop)]
 pub(crate) struct RowQueue<S: OneFirstIntervals> {
@@ -83,7 +83,7 @@ pub(crate) struct RowQueue<S: OneFirstIntervals> {
     /// Whether nothing more is read or painted.
     is_over: bool,
     /// Those with memory for a row's blocks come last.
-    free: VecDeque<Bench<S>>,
+    free: VecDeque<RowBuffer<S>>,
     /// Number of row buffers that no thread allocates yet.
     lacking: u32,
     pub(crate) guesses: GuessQueue<ScanOf<S>>,
@@ -146,7 +146,7 @@ impl<S: OneFirstIntervals> RowQueue<S> {
     }
 
     /// Returns whether a thread is to allocate a row buffer.
-    pub(crate) fn lacks_bench(&mut self) -> bool {
+    pub(crate) fn lacks_buffer(&mut self) -> bool {
         let is_lacking = self.lacking > 0;
         self.lacking = self.lacking.saturating_sub(1);
         is_lacking
@@ -197,14 +197,18 @@ impl<S: OneFirstIntervals> RowQueue<S> {
 
     /// Takes the rows that come next, with the speculative reads for the first of them, and the row buffer into which it
     /// is read.
-    fn begin(&mut self, part: &FirstIntervals<'_>, bench: Option<Bench<S>>) -> Option<BegunRow<S>>
+    fn begin(
+        &mut self,
+        part: &FirstIntervals<'_>,
+        buffer: Option<RowBuffer<S>>,
+    ) -> Option<BegunRow<S>>
         requires { S.part ≡ Some part.now }
     {
-        let Some(bench) = bench else {
+        let Some(buffer) = buffer else {
             return None;
         };
         let Some(baton) = self.baton.take() else {
-            drop(bench);
+            drop(buffer);
             return None;
         };
         self.start(baton.behind(part));
@@ -215,7 +219,7 @@ impl<S: OneFirstIntervals> RowQueue<S> {
         let number = self.guesses.number();
         let guesses = self.guesses.for_next(part.scan());
         let baton = baton.with_guesses(part, number, guesses);
-        Some(BegunRow { baton, bench })
+        Some(BegunRow { baton, buffer })
     }
 
     /// Returns the next task of a thread. `None` if it has to wait, or all is over.
@@ -224,14 +228,14 @@ impl<S: OneFirstIntervals> RowQueue<S> {
     {
         match self.choice(part.scan()) {
             Choice::Read => {
-                let bench = self.free.pop_back();
-                if let Some(row) = self.begin(part, bench) {
+                let buffer = self.free.pop_back();
+                if let Some(row) = self.begin(part, buffer) {
                     return Some(RowTask::Read(row));
                 }
             }
             Choice::Pass => {
-                let bench = self.free.pop_front();
-                if let Some(row) = self.begin(part, bench) {
+                let buffer = self.free.pop_front();
+                if let Some(row) = self.begin(part, buffer) {
                     return Some(RowTask::Pass(row));
                 }
             }
@@ -276,8 +280,8 @@ impl<S: OneFirstIntervals> RowQueue<S> {
             let guesses = replace(&mut self.guesses, GuessQueue::none(alloc));
             return Some(RowTask::GiveBack(Spare::Guesses(guesses)));
         }
-        if let Some(bench) = self.free.pop_front() {
-            return Some(RowTask::GiveBack(Spare::Bench(bench)));
+        if let Some(buffer) = self.free.pop_front() {
+            return Some(RowTask::GiveBack(Spare::RowBuffer(buffer)));
         }
         None
     }
@@ -388,11 +392,11 @@ impl<S: OneFirstIntervals> RowQueue<S> {
     }
 
     /// Keeps a row buffer, to be used again. It fits, since it came from here. Returns whether a thread waits.
-    pub(crate) fn give_back(&mut self, bench: Bench<S>) -> bool {
-        let kept = if bench.has_work() {
-            self.free.push_back(bench)
+    pub(crate) fn give_back(&mut self, buffer: RowBuffer<S>) -> bool {
+        let kept = if buffer.has_work() {
+            self.free.push_back(buffer)
         } else {
-            self.free.push_front(bench)
+            self.free.push_front(buffer)
         };
         drop(kept);
         self.is_waited_for()

@@ -61,8 +61,8 @@ pub(crate) struct Sending<'s, 'w, 'a, R: Wait, W: Write, G: Gate, S: OneFirstInt
     pub(crate) crew: &'s Crew<'a, S>,
     pub(crate) rt: &'s R,
     pub(crate) gate: &'s G,
-    /// Number of benches that are the calling thread's own.
-    pub(crate) benches: u32,
+    /// Number of row buffers that are the calling thread's own.
+    pub(crate) buffers: u32,
     pub(crate) out: &'w mut Tally<W>,
 }
 
@@ -80,10 +80,10 @@ impl<'s, 'w, 'a, R: Wait, W: Write, G: Gate, S: OneFirstIntervals> Beside
             crew,
             rt,
             gate,
-            benches,
+            buffers,
             out,
         } = self;
-        let sent = match crew.begin(rt, benches) {
+        let sent = match crew.begin(rt, buffers) {
             Ok(room) => Some(send(crew, rt, gate, room, out)),
             Err(_) => None,
         };

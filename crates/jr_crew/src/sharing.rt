@@ -7,10 +7,10 @@ ghost use Rattle.jr_picture.specs.Headline.{least};
 ghost use Rattle.jr_rows.specs.Stream.{WritesPicture, BeginsPicture, IsSentBy};
 
 use crate::baton::Baton;
-use crate::bench::Painted;
 use crate::crew::Crew;
 use crate::crew_size::crew_size;
 use crate::one_first_intervals::OneFirstIntervals;
+use crate::row_buffer::Painted;
 use crate::row_queue::RowQueue;
 use crate::scan_of::ScanOf;
 use crate::sending::{Helping, Sending};
@@ -48,7 +48,7 @@ fn open_slots<S: OneFirstIntervals>(
     Ok(slots)
 }
 
-/// Returns the maximum number of speculative reads that are kept for `count` benches: none if rows are whole intervals,
+/// Returns the maximum number of speculative reads that are kept for `count` row buffers: none if rows are whole intervals,
 /// which are read apart, or if there are few threads or few data, and no more than the data of the longest interval
 /// have bits for.
 fn guesses_of(part: &FirstIntervals<'_>, count: u32) -> u32 {
@@ -93,7 +93,7 @@ fn open_guesses<S: OneFirstIntervals>(
     GuessQueue::open(alloc, part.scan(), part.limit(), guesses, across, most)
 }
 
-/// Opens a queue of `count` benches, of which the calling thread brings `own`.
+/// Opens a queue of `count` row buffers, of which the calling thread brings `own`.
 fn open_queue<S: OneFirstIntervals>(
     alloc: Global,
     part: &FirstIntervals<'_>,
@@ -114,14 +114,14 @@ fn open_queue<S: OneFirstIntervals>(
     Ok(queue)
 }
 
-/// Writes what the worker pool paints: the calling thread, which brings some benches, and the other threads. `None` if
+/// Writes what the worker pool paints: the calling thread, which brings some row buffers, and the other threads. `None` if
 /// allocation fails in the calling thread.
 fn write_by_crew<R: Threads + Wait + Sync, W: Write, G: Gate + Sync, S: OneFirstIntervals + Send>(
     crew: &Crew<'_, S>,
     rt: &R,
     gate: &G,
     helpers: u32,
-    benches: u32,
+    buffers: u32,
     out: &mut Tally<W>,
 ) -> Option<Result<Marked, WriteFault>>
     requires unfailed { has_failed out.old ≡ false }
@@ -132,7 +132,7 @@ fn write_by_crew<R: Threads + Wait + Sync, W: Write, G: Gate + Sync, S: OneFirst
         crew,
         rt,
         gate,
-        benches,
+        buffers,
         out,
     };
     let helping = Helping { crew, rt, gate };
@@ -163,9 +163,9 @@ fn write_as<R: Threads + Wait + Sync, W: Write, G: Gate + Sync, S: OneFirstInter
     let (scan, limit) = (part.scan(), part.limit());
     let rows = scan.head().mcus_down();
     let workers = workers.min(rows);
-    let benches = rows.min(ROW_BUFFERS_OF_WORKER * workers);
-    let own = benches.min(ROW_BUFFERS_OF_WORKER);
-    let Ok(queue) = open_queue::<S>(alloc, &part, benches, own) else {
+    let buffers = rows.min(ROW_BUFFERS_OF_WORKER * workers);
+    let own = buffers.min(ROW_BUFFERS_OF_WORKER);
+    let Ok(queue) = open_queue::<S>(alloc, &part, buffers, own) else {
         return Err(PictureError::Memory);
     };
     let crew = Crew::of(alloc, part, queue);
@@ -186,7 +186,7 @@ fn write_as<R: Threads + Wait + Sync, W: Write, G: Gate + Sync, S: OneFirstInter
 /// fails, it works with less or not at all. If speculative reads are made, a thread that has nothing else to do brings
 /// a buffer for one, three for each thread at most: the blocks of a row and a quarter of MCUs, or of 512 MCUs if a row
 /// may have fewer bits than a speculative read. A row that waits to be painted uses memory for its blocks and samples,
-/// which stays with its bench; if allocation fails, the row is painted before the next one is read. Once the last row
+/// which stays with its row buffer; if allocation fails, the row is painted before the next one is read. Once the last row
 /// has begun, threads that would wait free what no thread needs any more.
 ///
 /// If a row has whole intervals, each worker decodes and paints its rows by itself. Otherwise one at a time has the

@@ -3,7 +3,7 @@ use Rattle.std.specs.Prelude.{ℕ, ◌*◌, ◌<◌, ◌≤◌, List, length, ta
 use Rattle.jr_head.specs.Geometry.{mcus_down, vertical_max}
 use Rattle.jr_paint.specs.Lines.{line_room, line_size}
 use Rattle.jr_rows.specs.FirstIntervalsValue.{FirstIntervalsValue}
-use Rattle.jr_crew.specs.BenchValue.{CodedRowValue, PaintedValue}
+use Rattle.jr_crew.specs.RowBufferValue.{CodedRowValue, PaintedValue}
 use Rattle.jr_rows.specs.Rows.{AreRead, CountsRow, HasRowRoom, HasSampleRoom, ShowsLines, line_count}
 use Rattle.jr_rows.specs.RowsValue.{RowValue, SampleRowValue}
 

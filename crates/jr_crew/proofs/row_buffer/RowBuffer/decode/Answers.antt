@@ -5,8 +5,8 @@ use Rattle.jr_paint.specs.Lines.{line_size}
 use Rattle.jr_rows.specs.FirstIntervalsValue.{FirstIntervalsValue}
 use Rattle.jr_rows.specs.Rows.{CountsRow, ShowsLines, line_count}
 use Rattle.jr_rows.proofs.Lent.{all_back}
-use Rattle.jr_crew.specs.Bench.{HasRoom, HasSamples, HasWork, IsPainted}
-use Rattle.jr_crew.proofs.bench.Bench.decode.Goals as goal
+use Rattle.jr_crew.specs.RowBuffer.{HasRoom, HasSamples, HasWork, IsPainted}
+use Rattle.jr_crew.proofs.row_buffer.RowBuffer.decode.Goals as goal
 
 pub decode_first-marked-requires-clause-row : goal.decode_first-marked-requires-clause-row
 decode_first-marked-requires-clause-row g c = c.requires.row

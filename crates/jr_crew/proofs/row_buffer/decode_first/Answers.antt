@@ -7,8 +7,8 @@ use Rattle.jr_paint.specs.Lines.{line_size}
 use Rattle.jr_scan.specs.ScanValue.{ScanValue}
 use Rattle.jr_rows.specs.Rows.{HasSampleRoom, PaintsRowLines, line_count}
 use Rattle.jr_rows.proofs.PaintedRows.{shows}
-use Rattle.jr_crew.proofs.Benches.{row_fits}
-use Rattle.jr_crew.proofs.bench.decode_first.Goals as goal
+use Rattle.jr_crew.proofs.RowBuffers.{row_fits}
+use Rattle.jr_crew.proofs.row_buffer.decode_first.Goals as goal
 
 pub returns-clause-lines : goal.returns-clause-lines
 returns-clause-lines c b first =

@@ -3,8 +3,8 @@ use Rattle.jr_head.specs.Geometry.{vertical_max}
 use Rattle.jr_paint.specs.Lines.{line_room, line_size}
 use Rattle.jr_rows.specs.FirstIntervalsValue.{FirstIntervalsValue}
 use Rattle.jr_rows.proofs.Lent.{all_back}
-use Rattle.jr_crew.specs.Bench.{HasLineRoom, HasRoom, HasSamples, HasWork, IsPainted, IsRead}
-use Rattle.jr_crew.proofs.bench.CodedRow.paint.Goals as goal
+use Rattle.jr_crew.specs.RowBuffer.{HasLineRoom, HasRoom, HasSamples, HasWork, IsPainted, IsRead}
+use Rattle.jr_crew.proofs.row_buffer.CodedRow.paint.Goals as goal
 
 pub invariant_of-result : goal.invariant_of-result
 invariant_of-result g c =

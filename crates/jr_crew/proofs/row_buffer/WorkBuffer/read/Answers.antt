@@ -1,8 +1,8 @@
 use Rattle.std.proofs.Common.{arith, sym, subst, ℕ, Option}
 use Rattle.jr_rows.specs.FirstIntervalsValue.{FirstIntervalsValue}
 use Rattle.jr_rows.specs.Rows.{AreRead, CountsRow}
-use Rattle.jr_crew.specs.Bench.{HasRoom, HasWork, IsRead}
-use Rattle.jr_crew.proofs.bench.WorkBench.read.Goals as goal
+use Rattle.jr_crew.specs.RowBuffer.{HasRoom, HasWork, IsRead}
+use Rattle.jr_crew.proofs.row_buffer.WorkBuffer.read.Goals as goal
 
 pub read-marked-requires-clause-room : goal.read-marked-requires-clause-room
 read-marked-requires-clause-room g c =

@@ -6,10 +6,10 @@ use Rattle.jr_head.specs.Geometry.{vertical_max}
 use Rattle.jr_paint.specs.Lines.{line_size}
 use Rattle.jr_rows.specs.FirstIntervalsValue.{FirstIntervalsValue}
 use Rattle.jr_rows.specs.Rows.{line_count}
-use Rattle.jr_crew.specs.Bench.{HasRoom, IsPainted}
-use Rattle.jr_crew.specs.BenchValue.{PaintedValue}
+use Rattle.jr_crew.specs.RowBuffer.{HasRoom, IsPainted}
+use Rattle.jr_crew.specs.RowBufferValue.{PaintedValue}
 use Rattle.jr_rows.proofs.Lent.{all_back, part_back}
-use Rattle.jr_crew.proofs.bench.Painted.put_into.Goals as goal
+use Rattle.jr_crew.proofs.row_buffer.Painted.put_into.Goals as goal
 
 pub copy_to-requires-clause-room : goal.copy_to-requires-clause-room
 copy_to-requires-clause-room g c =
@@ -86,8 +86,8 @@ returns-clause-kept g c =
     let zero_from : c.args.from ≡ 0 = omega (arith, c.if-from-gt0.false) in
     ap (λ (j : ℕ). take j c.swap.new.y.items) zero_from ∙ ap (λ (j : ℕ). take j c.args.pixels.now.items) (sym zero_from)
 
-pub invariant_of-bench : goal.invariant_of-bench
-invariant_of-bench g c =
+pub invariant_of-buffer : goal.invariant_of-buffer
+invariant_of-buffer g c =
     let t = c.args.part.now.scan in
     let room : 8 * vertical_max t.head * line_size t.head ≤ length c.self.inside.pixels.items = subst (λ (k : Option FirstIntervalsValue). HasRoom k c.self.inside.pixels.items) c.requires.part c.self.invariant.1 in
     let same : length c.swap.new.x.items ≡ length c.self.inside.pixels.items = search (rules, arith, c.swap.ensures.x_after, c.if-len.false) in

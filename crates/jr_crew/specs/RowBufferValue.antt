@@ -4,12 +4,12 @@ use Rattle.jr_rows.specs.RowsValue.{RowValue}
 use Rattle.jr_rows.specs.declared.marked.Marked.{Marked}
 
 -- buffers for its lines and, if there are some, for its blocks and samples
-pub record BenchValue : Type 0 where
+pub record RowBufferValue : Type 0 where
   pub work : Option RowValue
   pub pixels : List ℕ
 
 -- buffers for its blocks and samples, and for its lines
-pub record WorkBenchValue : Type 0 where
+pub record WorkBufferValue : Type 0 where
   pub work : RowValue
   pub pixels : List ℕ
 

@@ -6,8 +6,8 @@ use Rattle.jr_head.specs.Geometry.{mcus_down}
 use Rattle.jr_paint.specs.Lines.{line_room, line_size}
 use Rattle.jr_scan.specs.ScanValue.{ScanValue}
 use Rattle.jr_rows.specs.Rows.{AreRead, HasRowRoom, ShowsLines, line_count}
-use Rattle.jr_crew.proofs.Benches.{row_fits}
-use Rattle.jr_crew.proofs.bench.paint_first.Goals as goal
+use Rattle.jr_crew.proofs.RowBuffers.{row_fits}
+use Rattle.jr_crew.proofs.row_buffer.paint_first.Goals as goal
 
 pub paint-requires : goal.paint-requires
 paint-requires c =

@@ -1,11 +1,11 @@
--- A bench has room for the lines of each row.
+-- A row buffer has room for the lines of each row.
 use Rattle.std.proofs.Common.{◌≡◌, ℕ, ◌*◌, ◌≤◌, List, length, take, Option, Some, sym, subst, arith}
 use Rattle.std.proofs.lemmas.List.{length-take-le}
 use Rattle.std.proofs.Math.Nat.{mul-le-mul_right}
 use Rattle.jr_head.specs.Geometry.{vertical_max}
 use Rattle.jr_paint.specs.Lines.{line_size}
 use Rattle.jr_scan.specs.ScanValue.{ScanValue}
-use Rattle.jr_crew.specs.Bench.{HasRoom}
+use Rattle.jr_crew.specs.RowBuffer.{HasRoom}
 use Rattle.jr_rows.specs.FirstIntervalsValue.{FirstIntervalsValue}
 use Rattle.jr_rows.specs.Rows.{line_count}
 

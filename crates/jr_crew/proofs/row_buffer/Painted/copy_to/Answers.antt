@@ -1,6 +1,6 @@
 use Rattle.std.proofs.Common.{sym, subst, ◌≡◌, ℕ, List, length, take}
-use Rattle.jr_crew.proofs.Benches.{first_bytes}
-use Rattle.jr_crew.proofs.bench.Painted.copy_to.Goals as goal
+use Rattle.jr_crew.proofs.RowBuffers.{first_bytes}
+use Rattle.jr_crew.proofs.row_buffer.Painted.copy_to.Goals as goal
 
 pub slice_bounds-copy_from_slice-end : goal.slice_bounds-copy_from_slice-end
 slice_bounds-copy_from_slice-end g c =

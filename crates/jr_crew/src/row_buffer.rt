@@ -69,33 +69,33 @@ fn decode_first(
 
 /// Memory for the lines of a row of MCUs of the scan, and for its blocks and samples, where a row has been read by it.
 #[derive(Drop)]
-pub struct Bench<S: OneFirstIntervals> {
+pub struct RowBuffer<S: OneFirstIntervals> {
     work: Option<Row>,
     pixels: Vec<u8>,
     of: PhantomData<S>,
 }
 
-impl<S: OneFirstIntervals> Model for Bench<S> {
+impl<S: OneFirstIntervals> Model for RowBuffer<S> {
     ghost use Rattle.std.specs.Prelude.{IfSome};
-    ghost use Rattle.jr_crew.specs.BenchValue.{BenchValue};
-    ghost use Rattle.jr_crew.specs.Bench.{HasRoom, HasWork};
+    ghost use Rattle.jr_crew.specs.RowBufferValue.{RowBufferValue};
+    ghost use Rattle.jr_crew.specs.RowBuffer.{HasRoom, HasWork};
 
-    ghost Value = { BenchValue };
+    ghost Value = { RowBufferValue };
 
     ghost view = { λ b. record { work = b.work; pixels = b.pixels.items } };
 
     ghost invariant = { λ b. IfSome b.work (HasWork S.part) × HasRoom S.part b.pixels.items };
 }
 
-impl<S: OneFirstIntervals> Bench<S> {
+impl<S: OneFirstIntervals> RowBuffer<S> {
     /// Returns an empty row buffer.
-    pub fn open(alloc: Global, part: &FirstIntervals<'_>) -> Result<Bench<S>, Memory>
+    pub fn open(alloc: Global, part: &FirstIntervals<'_>) -> Result<RowBuffer<S>, Memory>
         requires { S.part ≡ Some part.now }
     {
         let Ok(pixels) = vec![in alloc; 0; bytes_of_row(part.scan().head())] else {
             return Err(Memory);
         };
-        Ok(Bench {
+        Ok(RowBuffer {
             work: None,
             pixels,
             of: PhantomData,
@@ -139,17 +139,17 @@ impl<S: OneFirstIntervals> Bench<S> {
         self,
         alloc: Global,
         part: &FirstIntervals<'_>,
-    ) -> Result<WorkBench<S>, Bench<S>>
+    ) -> Result<WorkBuffer<S>, RowBuffer<S>>
         requires { S.part ≡ Some part.now }
     {
         let pixels = self.pixels;
         let of = PhantomData;
         if let Some(work) = self.work {
-            return Ok(WorkBench { work, pixels, of });
+            return Ok(WorkBuffer { work, pixels, of });
         }
         match Row::open(alloc, part.scan().head()) {
-            Ok(work) => Ok(WorkBench { work, pixels, of }),
-            Err(_) => Err(Bench {
+            Ok(work) => Ok(WorkBuffer { work, pixels, of }),
+            Err(_) => Err(RowBuffer {
                 work: None,
                 pixels,
                 of,
@@ -160,24 +160,24 @@ impl<S: OneFirstIntervals> Bench<S> {
 
 /// Memory for the blocks, the samples and the lines of a row of MCUs of the scan.
 #[derive(Drop)]
-pub struct WorkBench<S: OneFirstIntervals> {
+pub struct WorkBuffer<S: OneFirstIntervals> {
     work: Row,
     pixels: Vec<u8>,
     of: PhantomData<S>,
 }
 
-impl<S: OneFirstIntervals> Model for WorkBench<S> {
-    ghost use Rattle.jr_crew.specs.BenchValue.{WorkBenchValue};
-    ghost use Rattle.jr_crew.specs.Bench.{HasRoom, HasWork};
+impl<S: OneFirstIntervals> Model for WorkBuffer<S> {
+    ghost use Rattle.jr_crew.specs.RowBufferValue.{WorkBufferValue};
+    ghost use Rattle.jr_crew.specs.RowBuffer.{HasRoom, HasWork};
 
-    ghost Value = { WorkBenchValue };
+    ghost Value = { WorkBufferValue };
 
     ghost view = { λ b. record { work = b.work; pixels = b.pixels.items } };
 
     ghost invariant = { λ b. HasWork S.part b.work × HasRoom S.part b.pixels.items };
 }
 
-impl<S: OneFirstIntervals> WorkBench<S> {
+impl<S: OneFirstIntervals> WorkBuffer<S> {
     /// Reads the next row of the scan.
     pub fn read(
         self,
@@ -217,8 +217,8 @@ pub struct CodedRow<S: OneFirstIntervals> {
 }
 
 impl<S: OneFirstIntervals> Model for CodedRow<S> {
-    ghost use Rattle.jr_crew.specs.BenchValue.{CodedRowValue};
-    ghost use Rattle.jr_crew.specs.Bench.{HasRoom, HasWork, IsRead};
+    ghost use Rattle.jr_crew.specs.RowBufferValue.{CodedRowValue};
+    ghost use Rattle.jr_crew.specs.RowBuffer.{HasRoom, HasWork, IsRead};
 
     ghost Value = { CodedRowValue };
 
@@ -258,8 +258,8 @@ pub struct Painted<S: OneFirstIntervals> {
 
 impl<S: OneFirstIntervals> Model for Painted<S> {
     ghost use Rattle.std.specs.Prelude.{IfSome};
-    ghost use Rattle.jr_crew.specs.BenchValue.{PaintedValue};
-    ghost use Rattle.jr_crew.specs.Bench.{HasRoom, HasWork, IsPainted};
+    ghost use Rattle.jr_crew.specs.RowBufferValue.{PaintedValue};
+    ghost use Rattle.jr_crew.specs.RowBuffer.{HasRoom, HasWork, IsPainted};
 
     ghost Value = { PaintedValue };
 
@@ -286,8 +286,8 @@ impl<S: OneFirstIntervals> Painted<S> {
     }
 
     /// Returns the row buffer, to be used again.
-    fn into_bench(self) -> Bench<S> {
-        Bench {
+    fn into_buffer(self) -> RowBuffer<S> {
+        RowBuffer {
             work: self.work,
             pixels: self.pixels,
             of: PhantomData,
@@ -296,14 +296,14 @@ impl<S: OneFirstIntervals> Painted<S> {
 
     /// Writes the lines between two byte offsets, which have exactly that space. If these are all bytes from the start,
     /// it exchanges the buffers instead of copying. Returns the marks of the intervals that end in the row, and the
-    /// bench, to be used again.
+    /// row buffer, to be used again.
     pub fn put_into(
         self,
         part: &FirstIntervals<'_>,
         pixels: &mut Vec<u8>,
         from: usize,
         to: usize,
-    ) -> (Marked, Bench<S>)
+    ) -> (Marked, RowBuffer<S>)
         requires part { S.part ≡ Some part.now }
         requires room { to ≡ from + line_count part.now.scan.head self.row * line_size part.now.scan.head }
         requires within { to ≤ length pixels.old.items }
@@ -315,15 +315,15 @@ impl<S: OneFirstIntervals> Painted<S> {
         let marked = self.marked;
         if from > 0 || self.pixels.len() != pixels.len() {
             self.copy_to(part, &mut pixels[from..to]);
-            return (marked, self.into_bench());
+            return (marked, self.into_buffer());
         }
         let mut lines = self.pixels;
         mem::swap(&mut lines, pixels);
-        let bench = Bench {
+        let buffer = RowBuffer {
             work: self.work,
             pixels: lines,
             of: PhantomData,
         };
-        (marked, bench)
+        (marked, buffer)
     }
 }
