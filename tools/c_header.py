@@ -1,4 +1,4 @@
-"""The structs and calls of C declarations, of include/jri.h first of all: for the tools that compare or use them."""
+"""The structs and calls of C declarations, above all of include/jri.h, for the tools that compare or use them."""
 
 import ctypes
 import os

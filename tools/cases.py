@@ -1,4 +1,4 @@
-"""The table of cases, crates/cases/data/cases.txt, whose first lines explain it: its rows, and the files that they stand for."""
+"""The table of cases, crates/cases/data/cases.txt, whose first lines explain it: its rows, and the files that they describe."""
 
 import os
 import re

@@ -1,4 +1,4 @@
-"""The machine on which a tool measures, for the table that it prints."""
+"""The machine on which a tool measures, for its table."""
 
 import datetime
 import os

@@ -1,4 +1,4 @@
-"""Pictures to compress for comparisons: photo-like noise over gradients and edges, the same on every machine."""
+"""Images to compress for comparisons: photo-like noise over gradients and edges, the same on every machine."""
 
 import struct
 import subprocess

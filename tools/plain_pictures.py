@@ -1,6 +1,7 @@
-"""A plain decoder of baseline files, sample by sample as ITU-T T.81 has them: the report, the exit status and the Netpbm picture that
-`jri` has to give. It reads intervals by tools/plain_reader.py, transforms by the integer matrix of libjpeg's accurate transform, and
-repeats the samples of coarser components. It shares nothing with jri, and takes only files whose header is accepted."""
+"""A plain decoder of baseline files, sample by sample as in ITU-T T.81: the report, the exit status and the Netpbm image that
+`jri` must write. It reads intervals by tools/plain_reader.py, transforms by the integer matrix of libjpeg's accurate
+transform, and repeats the samples of coarser components. It shares nothing with jri, and takes only files whose header is
+accepted."""
 
 import re
 

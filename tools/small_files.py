@@ -1,4 +1,4 @@
-"""Files of a few bytes from the table of cases, with the pictures that follow from ITU-T T.81 by hand, and parts of such files."""
+"""Files of a few bytes from the table of cases, with the images that follow from ITU-T T.81 by hand, and parts of such files."""
 
 import cases
 
