@@ -1,6 +1,6 @@
 """A plain reader of baseline scans, bit by bit as in ITU-T T.81: which restart intervals have a decoding, how far the others
-can be decoded, where their bytes are, which values no 8-bit image has, and what follows EOI. For comparisons: it shares nothing with
-jri, and takes only files whose header is accepted."""
+can be decoded, where their bytes are, which values no 8-bit image has, and what follows EOI. For comparisons: it shares
+nothing with jri, and takes only files whose header is accepted."""
 
 import re
 
