@@ -5,7 +5,7 @@
 use jri_engine::{
     Ended, Mode, describe_request, many_request, program, program_for_headers, program_for_many,
 };
-use jri_machine::{Machine, hold_streams};
+use jri_words::{Machine, hold_streams};
 use std::env;
 use std::io::Result as IoResult;
 use std::rt::Env;

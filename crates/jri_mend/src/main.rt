@@ -14,7 +14,7 @@ mod runs;
 
 use crate::ended::Ended;
 use crate::running::program;
-use jri_machine::{Machine, hold_streams};
+use jri_words::{Machine, hold_streams};
 use std::env;
 use std::io::Result as IoResult;
 use std::rt::Env;

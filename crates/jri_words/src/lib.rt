@@ -1,4 +1,4 @@
-//! What the arguments of the command line ask for, what the program asks of its machine, and what it reports.
+//! What the arguments of a command line ask for, the machine on which a program runs, and what it reports.
 #![tactic(auto)]
 
 mod answers;
@@ -10,6 +10,7 @@ mod finishing;
 mod head_line;
 mod help;
 mod line;
+mod machine;
 mod many;
 mod modes;
 mod opening;
@@ -23,6 +24,7 @@ pub use devices::{Destination, Devices, Noted, Source};
 pub use ending::{Ending, Names, report_breaks, report_ending};
 pub use finishing::{finish, flushed};
 pub use head_line::describe;
+pub use machine::{Machine, hold_streams};
 pub use many::{ManyRequest, image_name, many_request};
 pub use modes::Mode;
 pub use opening::{answer, opened, understood, warn_of_name};

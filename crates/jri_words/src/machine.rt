@@ -1,7 +1,6 @@
-//! The machine that the programs run on.
-#![tactic(auto)]
+//! The machine on which a program runs.
 
-use jri_words::{Destination, Devices};
+use crate::devices::{Destination, Devices};
 use std::fs::{File, Metadata, OpenOptions};
 use std::io::{IsTerminal, Read, Result as IoResult, Stdin, Stdout, Write};
 use std::os::fd::AsRawFd;
@@ -69,7 +68,7 @@ impl Write for Opened {
     }
 }
 
-/// The machine that a program runs on.
+/// The machine on which a program runs.
 #[derive(Drop)]
 pub struct Machine<'a> {
     pub rt: &'a HostRuntime,
