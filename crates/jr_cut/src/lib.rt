@@ -1,6 +1,7 @@
 //! The bytes of a scan, cut into the segments between its restart markers, without their stuffing (T.81, B.1.1.5 and F.1.2.3).
 #![tactic(auto)]
 
+mod breaks;
 mod coded_segments;
 mod front;
 mod into_buffer;
@@ -12,6 +13,7 @@ mod span;
 mod stop;
 mod unstuff;
 
+pub use breaks::Break;
 pub use coded_segments::{CodedSegments, SegmentsToEnd, cut, cut_to_end};
 pub use front::{fill_count, plain_count, segment_length};
 pub use into_buffer::{Spelled, unstuff_into, unstuff_segment};

@@ -12,7 +12,7 @@ use Rattle.jr_head.specs.HeadValue.{HeadValue}
 use Rattle.jr_head.specs.Heads.{HeadOf}
 use Rattle.jr_head.proofs.HeadStays.{header_stays}
 use Rattle.jr_scan.specs.ScanValue.{intervals_of}
-use Rattle.jr_mend.specs.declared.breaks.Break.{Break}
+use Rattle.jr_cut.specs.declared.breaks.Break.{Break}
 use Rattle.jr_mend.specs.declared.following.FoundMarker.{FoundMarker}
 use Rattle.jr_mend.specs.declared.reading.Reading.{Reading}
 use Rattle.jr_mend.specs.Reading.{Becomes, HasResyncedTo, IsTooLong, Meets, Takes}

@@ -4,7 +4,7 @@ use Rattle.std.specs.List.{AllZip, flat_map}
 use Rattle.jr_cut.specs.declared.scan_end.ScanEnd.{ScanEnd}
 use Rattle.jr_cut.specs.Cut.{IsRaw}
 use Rattle.jr_cut.proofs.Cuts.{raw_none}
-use Rattle.jr_mend.specs.declared.breaks.Break.{Break}
+use Rattle.jr_cut.specs.declared.breaks.Break.{Break}
 use Rattle.jr_mend.specs.declared.pace.Pace.{Pace}
 use Rattle.jr_mend.specs.Resync.{EndsResync, IsMeaning, Part, PartsFrom, Resync, break_at, pace_after, last_number, max_missing, new_segments, number_after, part_bytes}
 

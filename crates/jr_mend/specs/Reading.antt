@@ -8,7 +8,7 @@ use Rattle.jr_cut.specs.Cut.{IsCut, IsRaw, IsStop, marker}
 use Rattle.jr_head.specs.HeadValue.{HeadValue}
 use Rattle.jr_head.specs.Heads.{HeadOf}
 use Rattle.jr_scan.specs.ScanValue.{IsScanOf, intervals_of, scan_of_segments}
-use Rattle.jr_mend.specs.declared.breaks.Break.{Break}
+use Rattle.jr_cut.specs.declared.breaks.Break.{Break}
 use Rattle.jr_mend.specs.declared.following.Following.{Following}
 use Rattle.jr_mend.specs.declared.following.Following.TheVariants.{End, Marker}
 use Rattle.jr_mend.specs.declared.following.FoundMarker.{FoundMarker}

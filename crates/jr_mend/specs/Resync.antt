@@ -6,7 +6,7 @@ use Rattle.jr_base.specs.declared.marker.TheConstants.{EOI, PREFIX, RST0}
 use Rattle.jr_cut.specs.declared.scan_end.ScanEnd.{ScanEnd}
 use Rattle.jr_cut.specs.declared.scan_end.ScanEnd.TheVariants.{EndOfImage, OtherMarker, OutOfStep, ExtraRestart, EndOfFile}
 use Rattle.jr_cut.specs.Cut.{IsRaw, marker, IsEnding}
-use Rattle.jr_mend.specs.declared.breaks.Break.{Break}
+use Rattle.jr_cut.specs.declared.breaks.Break.{Break}
 use Rattle.jr_mend.specs.declared.pace.Pace.{Pace}
 use Rattle.jr_mend.specs.declared.pace.TheConstants.{MAX_EARLY, SURE_BYTES}
 

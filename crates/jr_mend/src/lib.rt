@@ -3,7 +3,6 @@
 //! are out of step, or those of copies of a file, each from a copy in which it is sound.
 #![tactic(auto)]
 
-mod breaks;
 mod choice;
 mod file_copy;
 mod following;
@@ -19,11 +18,11 @@ mod resync;
 mod soundness;
 mod splice;
 
-pub use breaks::Break;
 pub use choice::{Choice, MAX_COPIES, choose};
 pub use file_copy::FileCopy;
 pub use headers::under_header;
 pub use in_step::is_in_step;
+pub use jr_cut::Break;
 pub use laws::{
     each_scan_resyncs, file_in_step_is_resynced, file_in_step_stays, header_stays, in_step_stays,
     intervals_are_cut, one_resync, spliced_has_its_scan,

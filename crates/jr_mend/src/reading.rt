@@ -8,12 +8,11 @@ ghost use Rattle.jr_mend.specs.Resync.{EndsResync, break_at, first_pace, new_seg
 ghost use Rattle.jr_mend.specs.Splice.{joined_intervals};
 ghost use Rattle.jr_scan.specs.ScanValue.{intervals_of};
 
-use crate::breaks::Break;
 use crate::following::{Following, FoundMarker, following_at};
 use crate::pace::Pace;
 use crate::splice::{write_header, write_interval};
 use jr_base::Memory;
-use jr_cut::{ScanEnd, segment_length};
+use jr_cut::{Break, ScanEnd, segment_length};
 use jr_head::Head;
 use std::alloc::Global;
 

@@ -4,12 +4,11 @@ ghost use Rattle.std.specs.Prelude.{◌≡◌, IfOk, IfErr};
 ghost use Rattle.jr_head.specs.Heads.{HeadOf};
 ghost use Rattle.jr_mend.specs.Reading.{IsResyncFault, IsResynced};
 
-use crate::breaks::Break;
 use crate::reading::Reading;
 use crate::splice::write_image_end;
 use jr_base::Memory;
 use jr_base::limits::MAX_FILE_BYTES;
-use jr_cut::ScanEnd;
+use jr_cut::{Break, ScanEnd};
 use jr_head::Head;
 use std::alloc::Global;
 

@@ -4,7 +4,7 @@ use Rattle.jr_segments.specs.declared.refusal.Refusal.{Refusal}
 use Rattle.jr_cut.specs.declared.scan_end.ScanEnd.{ScanEnd}
 use Rattle.jr_head.specs.HeadValue.{HeadValue}
 use Rattle.jr_head.specs.Heads.{HeadOf, RefusalOf}
-use Rattle.jr_mend.specs.declared.breaks.Break.{Break}
+use Rattle.jr_cut.specs.declared.breaks.Break.{Break}
 use Rattle.jr_mend.specs.Reading.{Becomes, IsTooLong}
 use Rattle.jri_archive.specs.declared.reading.ReadError.{ReadError}
 use Rattle.jri_archive.specs.declared.reading.ReadError.TheVariants.{Memory, TooLong}

@@ -6,7 +6,7 @@ use Rattle.jr_head.specs.HeadValue.{HeadValue}
 use Rattle.jr_head.specs.Heads.{HeadOf, RefusalOf}
 use Rattle.jr_scan.specs.ScanValue.{ScanValue}
 use Rattle.jr_cut.specs.declared.scan_end.ScanEnd.{ScanEnd}
-use Rattle.jr_mend.specs.declared.breaks.Break.{Break}
+use Rattle.jr_cut.specs.declared.breaks.Break.{Break}
 use Rattle.jr_mend.specs.Reading.{Becomes, IsTooLong}
 use Rattle.jri_file.specs.declared.report.Fault.{Fault}
 use Rattle.jri_file.specs.declared.report.Fault.TheVariants as fault

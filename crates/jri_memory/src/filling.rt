@@ -1,7 +1,7 @@
 //! Buffers whose first entries are written.
 
 ghost use Rattle.std.specs.Prelude.{◌≡◌, ◌≤◌, length};
-ghost use Rattle.jr_mend.specs.declared.breaks.Break.{Break};
+ghost use Rattle.jr_cut.specs.declared.breaks.Break.{Break};
 ghost use Rattle.jri_memory.specs.Calls.{over};
 ghost use Rattle.jri_memory.specs.Filling.{listed_over};
 

@@ -1,7 +1,7 @@
 //! A damaged file in memory, written with its restart markers in step.
 
 ghost use Rattle.std.specs.Prelude.{◌≡◌, ◌≢◌, ◌<◌, ◌≤◌, ℕ, List, length, IfOk, IfErr};
-ghost use Rattle.jr_mend.specs.declared.breaks.Break.{Break};
+ghost use Rattle.jr_cut.specs.declared.breaks.Break.{Break};
 ghost use Rattle.jr_segments.specs.Refusal.{number_of};
 ghost use Rattle.jri_memory.specs.Calls.{TellsFault, detail_of, over};
 ghost use Rattle.jri_memory.specs.Filling.{listed_over};

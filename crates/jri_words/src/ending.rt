@@ -5,7 +5,7 @@ ghost use Rattle.jri_file.specs.Status.{fault_status, report_status};
 
 use crate::answers::{Asked, Target, Verbosity};
 use crate::line::{LineContext, write_line};
-use jr_mend::Break;
+use jr_cut::Break;
 use jri_file::{Fault, Report};
 use std::io::{Error, ErrorKind, Result as IoResult, Write};
 
