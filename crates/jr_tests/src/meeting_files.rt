@@ -3,30 +3,23 @@
 use crate::archive::{NO_LIST, request_of, stateless};
 use jri_archive::{Entry, Folder, ReadError, check_all};
 use std::alloc::Global;
-use std::sync::atomic::{AtomicU64, Ordering};
+use std::sync::atomic::{AtomicU32, Ordering};
 use std::test::Fail;
-use std::thread;
-
-/// How often a reading looks at most whether the other one has begun.
-const TURNS: u32 = 10_000_000;
+use test_files::waiting::has_come;
 
 /// Files of no bytes, whose readings wait until two have begun.
 #[derive(Drop)]
 struct Meeting<'a> {
-    begun: &'a AtomicU64,
+    begun: &'a AtomicU32,
     /// Readings that have seen the other one.
-    met: &'a AtomicU64,
+    met: &'a AtomicU32,
 }
 
 impl<'a> Folder for Meeting<'a> {
     fn read(&self, alloc: Global, _name: &str) -> Result<Vec<u8>, ReadError> {
         self.begun.fetch_add(1, Ordering::SeqCst);
-        for _turn in 0..TURNS {
-            if self.begun.load(Ordering::SeqCst) == 2 {
-                self.met.fetch_add(1, Ordering::SeqCst);
-                return Ok(Vec::new(alloc));
-            }
-            thread::yield_now();
+        if has_come(self.begun, 2) {
+            self.met.fetch_add(1, Ordering::SeqCst);
         }
         Ok(Vec::new(alloc))
     }
@@ -39,8 +32,8 @@ impl<'a> Folder for Meeting<'a> {
 #[test]
 fn two_files_are_read_at_once(rt: HostRuntime) -> Result<(), Fail> {
     let asked = request_of(rt.alloc(), &[b"a", b"b"], 2)?;
-    let begun = AtomicU64::new(0);
-    let met = AtomicU64::new(0);
+    let begun = AtomicU32::new(0);
+    let met = AtomicU32::new(0);
     let folder = Meeting {
         begun: &begun,
         met: &met,

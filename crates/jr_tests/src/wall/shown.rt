@@ -8,8 +8,7 @@ use jr_head::Head;
 use jr_paint::Samples;
 use jr_scan::Scan;
 use jr_wall::{
-    Board, Cells, CodedStrip, Decoding, Glimpse, Mark, OpenGate, Piece, Seat, Strip, StripReader,
-    decode_all, glance,
+    Board, Cells, Decoding, Glimpse, Mark, OpenGate, Piece, Seat, decode_all, glance,
 };
 use std::alloc::Global;
 use std::sync::{Arc, Mutex, Wait};
@@ -24,24 +23,6 @@ pub(crate) fn piece(alloc: Global, scan: &Scan, number: u32) -> Result<Arc<Piece
     let interval = scan.interval(number)?;
     let piece = Piece::make(alloc, interval).ok().ok_or("no memory")?;
     Ok(Arc::new(alloc, piece)?)
-}
-
-/// Returns whether the piece shows one value at a data unit.
-pub(crate) fn is_flat(piece: &Piece, k: u32, value: u8) -> bool {
-    piece.block(k) == Some(&[value; 64])
-}
-
-/// What a reader gives of an interval: a strip of so many MCUs at most.
-pub(crate) fn next_strip(
-    alloc: Global,
-    reader: &mut StripReader,
-    most: u32,
-) -> Result<Option<CodedStrip>, Fail> {
-    Ok(reader.next(alloc, most)?)
-}
-
-pub(crate) fn decoded(alloc: Global, coded: &CodedStrip) -> Result<Strip, Fail> {
-    Ok(coded.decode(alloc)?)
 }
 
 /// Returns the board of a scan's first intervals, or of all, by so many workers.
