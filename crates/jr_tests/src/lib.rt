@@ -7,8 +7,6 @@ mod archive;
 #[cfg(test)]
 mod archive_state;
 #[cfg(test)]
-mod archive_words;
-#[cfg(test)]
 mod arrival;
 #[cfg(test)]
 mod base;
@@ -20,8 +18,6 @@ mod desk;
 mod head;
 #[cfg(test)]
 mod idct;
-#[cfg(test)]
-mod meeting_files;
 #[cfg(test)]
 mod plain;
 #[cfg(test)]
