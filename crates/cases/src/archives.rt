@@ -193,7 +193,14 @@ fn compare_run<R: Threads + Wait + Sync>(
         },
         progress: None,
     };
-    let ended = program(rt, alloc, Shelf { table }, &Shelf { table }, Ok(words), streams);
+    let ended = program(
+        rt,
+        alloc,
+        Shelf { table },
+        &Shelf { table },
+        Ok(words),
+        streams,
+    );
     let subject = Subject { name, path: before };
     let wanted = u64::from(field(line, 3).parse::<u8>()?);
     compare_numbers(out, subject, wanted, u64::from(ended.status()));

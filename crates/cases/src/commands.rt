@@ -155,7 +155,12 @@ fn made<'a>(command: &Command<'a>, number: usize) -> Option<(&'a str, &'a str)> 
 
 /// Returns whether a command makes a file of this name.
 fn makes(command: &Command<'_>, name: &str) -> bool {
-    (0..3usize).any(|number| made(command, number).is_some_and(|made| made.0 == name))
+    for number in 0..3usize {
+        if made(command, number).is_some_and(|made| made.0 == name) {
+            return true;
+        }
+    }
+    false
 }
 
 /// Compares the files that a command makes, and those of the table, which are otherwise unchanged; there are no more.
@@ -204,10 +209,22 @@ fn compare_run<R: Threads + Wait + Sync>(
     let path = "status";
     compare_numbers(out, Subject { name, path }, wanted, u64::from(status));
     let path = "standard error";
-    compare_field(alloc, Subject { name, path }, command.lines, lines.as_slice(), out)?;
+    compare_field(
+        alloc,
+        Subject { name, path },
+        command.lines,
+        lines.as_slice(),
+        out,
+    )?;
     let path = "standard output";
     let written = machine.written()?;
-    compare_field(alloc, Subject { name, path }, command.output, written.as_slice(), out)?;
+    compare_field(
+        alloc,
+        Subject { name, path },
+        command.output,
+        written.as_slice(),
+        out,
+    )?;
     compare_files(alloc, table, command, &machine, out)
 }
 

@@ -35,7 +35,10 @@ const LINES: [(&str, u32, usize); 4] = [
 fn asks_for_workers_and_names(rt: HostRuntime) -> Result<(), Fail> {
     for (line, workers, names) in &LINES {
         let asked = request_of(rt.alloc(), line)?;
-        assert!(rt; (asked.workers, asked.names.len()) == (*workers, *names), "{line}");
+        assert!(rt;
+            (asked.workers, asked.names.len()) == (*workers, *names),
+            "{line}"
+        );
     }
     Ok(())
 }

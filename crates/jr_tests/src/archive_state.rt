@@ -323,7 +323,12 @@ const NEW_VERSION: [Step; 3] = [
         (1, 1, false),
         "two: damaged, 1 of 2 intervals, lines 0 to 7\n",
     ),
-    ("--state s two", (CUT, 8), (1, 0, true), "two: unchanged, damaged\n"),
+    (
+        "--state s two",
+        (CUT, 8),
+        (1, 0, true),
+        "two: unchanged, damaged\n",
+    ),
 ];
 
 const CHANGED: Step = (

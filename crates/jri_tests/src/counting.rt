@@ -117,7 +117,10 @@ fn decodes_by<R: Threads + Wait + Sync + AllocGlobal>(rt: &R, workers: u32) -> R
 fn counts_workers(rt: HostRuntime) -> Result<(), Fail> {
     for workers in [1, 2, 4] {
         assert!(rt; runs_by(&rt, workers)?, "{workers} workers by run");
-        assert!(rt; decodes_by(&rt, workers)?, "{workers} workers by decode_all");
+        assert!(rt;
+            decodes_by(&rt, workers)?,
+            "{workers} workers by decode_all"
+        );
     }
     Ok(())
 }

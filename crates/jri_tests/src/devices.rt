@@ -134,7 +134,10 @@ fn check<R: Threads + Wait + Sync + AllocGlobal + Abort>(
     let bytes = file(rt.alloc(), words)?;
     let (_fault, whole) = written(rt, &bytes, 2, Device::new(rt.alloc(), &[], 100_000));
     let (fault, all) = written(rt, &bytes, workers, Device::new(rt.alloc(), &[], most));
-    assert!(rt; fault.is_none() && all.bytes == whole.bytes, "{words} by {most}");
+    assert!(rt;
+        fault.is_none() && all.bytes == whole.bytes,
+        "{words} by {most}"
+    );
     for failing in 1..=all.calls {
         let mut out = Device::new(rt.alloc(), &[], most);
         out.failing = failing;
@@ -155,9 +158,24 @@ const SMALL: [Output; 6] = [
     ("G 63 E", 1, 1, FULL),
     ("G 63 E", 1, 1, Some(ErrorKind::Interrupted)),
     ("G 63 E", 1, 1, None),
-    ("S Q F:0011:0009 D A2:00:01 I:0005 C M:0005:0006:0001 E", 1, 1, FULL),
-    ("S Q F3:0011:0005:12 D A2:00:01 I:0005 C3 M:0005:0002:0004 E", 1, 1, FULL),
-    ("S Q F:0001:00F9 D A2:00:01 I:0005 C M:0005:0020:0001 E", 3, 1, FULL),
+    (
+        "S Q F:0011:0009 D A2:00:01 I:0005 C M:0005:0006:0001 E",
+        1,
+        1,
+        FULL,
+    ),
+    (
+        "S Q F3:0011:0005:12 D A2:00:01 I:0005 C3 M:0005:0002:0004 E",
+        1,
+        1,
+        FULL,
+    ),
+    (
+        "S Q F:0001:00F9 D A2:00:01 I:0005 C M:0005:0020:0001 E",
+        3,
+        1,
+        FULL,
+    ),
 ];
 
 /// 11 rows of 129 MCUs.
@@ -311,10 +329,16 @@ fn tells_each_line_at_once(rt: HostRuntime) -> Result<(), Fail> {
     for (ended, line) in &ENDS {
         let lines = format!(in alloc; "{counts}{line}")?;
         let outcome = Ok(report(*ended));
-        assert!(rt; is_told(alloc, Vec::new(alloc), outcome, lines.as_str()), "{line}");
+        assert!(rt;
+            is_told(alloc, Vec::new(alloc), outcome, lines.as_str()),
+            "{line}"
+        );
     }
     for (fault, line) in &FAULTS {
-        assert!(rt; is_told(alloc, Vec::new(alloc), Err(*fault), line), "{line}");
+        assert!(rt;
+            is_told(alloc, Vec::new(alloc), Err(*fault), line),
+            "{line}"
+        );
     }
     let out = Barred {
         bytes: Vec::new(alloc),

@@ -152,8 +152,14 @@ fn tells_a_gate_a_long_interval_once(rt: HostRuntime) -> Result<(), Fail> {
         let board = decode_all(&rt, rt.alloc(), scan, workers, None, &calls)?;
         let counts = (board.sound(), calls.passed.load(Ordering::SeqCst));
         assert!(rt; counts == (1, 1), "{workers} workers");
-        assert!(rt; calls.pieces.load(Ordering::SeqCst) == 1, "{workers} workers");
-        assert!(rt; calls.mcus.load(Ordering::SeqCst) == 1056, "{workers} workers");
+        assert!(rt;
+            calls.pieces.load(Ordering::SeqCst) == 1,
+            "{workers} workers"
+        );
+        assert!(rt;
+            calls.mcus.load(Ordering::SeqCst) == 1056,
+            "{workers} workers"
+        );
     }
     Ok(())
 }

@@ -55,7 +55,12 @@ fn resynchronises(rt: HostRuntime) -> Result<(), Fail> {
     let answer = resynchronise_file(rt.alloc(), &lost, &mut out, &mut breaks, &mut report);
     assert!(rt; answer == OK && (report.size, report.breaks) == (175, 1));
     assert!(rt; front(&out, 175) == in_step.as_slice() && out[175] == BYTE);
-    let found = (breaks[0].at, breaks[0].code, breaks[0].due, breaks[0].skipped);
+    let found = (
+        breaks[0].at,
+        breaks[0].code,
+        breaks[0].due,
+        breaks[0].skipped,
+    );
     assert!(rt; found == (150, 0xD2, 1, 1));
     Ok(())
 }
@@ -82,7 +87,14 @@ fn mends(rt: HostRuntime) -> Result<(), Fail> {
         detail: 7,
     };
     let sizes = [SIZE, SIZE];
-    let answer = mend_files(rt.alloc(), &files, &sizes, &mut out, &mut choices, &mut report);
+    let answer = mend_files(
+        rt.alloc(),
+        &files,
+        &sizes,
+        &mut out,
+        &mut choices,
+        &mut report,
+    );
     assert!(rt; answer == SOUND && (report.intervals, report.damaged, report.size) == (10, 0, 176));
     assert!(rt; out.as_slice() == whole.as_slice());
     assert!(rt; (choices[0].copy, choices[1].copy, choices[2].copy) == (0, 1, 0));
@@ -97,10 +109,13 @@ fn lays_out(rt: HostRuntime) {
     ];
     let mut canvas = [BYTE; 29];
     assert!(rt; lay_out(&line, 7, 3, &mut canvas, 29, 4) == OK);
-    assert!(rt; canvas == [
-        3, 2, 1, 255, 6, 5, 4, 255, 9, 8, 7, 255, 12, 11, 10, 255, 15, 14, 13, 255, 18, 17, 16,
-        255, 21, 20, 19, 255, BYTE,
-    ]);
+    assert!(rt;
+        canvas
+            == [
+                3, 2, 1, 255, 6, 5, 4, 255, 9, 8, 7, 255, 12, 11, 10, 255, 15, 14, 13, 255, 18, 17,
+                16, 255, 21, 20, 19, 255, BYTE,
+            ]
+    );
     let mut text = [BYTE; 4];
     assert!(rt; build_text(&mut text) == 4 && &text == b"jri ");
 }

@@ -156,7 +156,10 @@ fn run_by<R: Threads + Wait + Clock + Sync + AllocGlobal + Abort>(
     let mut out = Tally::of(Vec::new(rt.alloc()));
     let outcome = run(rt, rt.alloc(), &mut input, &mut out, workers, None, &gate);
     let report = outcome.ok().ok_or("a run that failed")?;
-    assert!(rt; gate.calls.are_first(INTERVALS, 0), "a run with {workers} workers");
+    assert!(rt;
+        gate.calls.are_first(INTERVALS, 0),
+        "a run with {workers} workers"
+    );
     let run = Run {
         image: out.into_inner(),
         sound: report.sound,
@@ -226,7 +229,10 @@ fn decoded_by<R: Threads + Wait + Clock + Sync + AllocGlobal + Abort>(
     let gate = Hold::new(rt, 0);
     let shared = Arc::try_clone(scan)?;
     let board = decode_all(rt, rt.alloc(), shared, workers, Some(first), &gate)?;
-    assert!(rt; gate.calls.are_first(first, first), "{workers} workers at a board");
+    assert!(rt;
+        gate.calls.are_first(first, first),
+        "{workers} workers at a board"
+    );
     let mut out = Tally::of(Vec::new(rt.alloc()));
     assert!(rt; write_netpbm(&board, &mut out).is_ok());
     Ok(out.into_inner())

@@ -30,7 +30,11 @@ fn asks_for_a_decoding(rt: HostRuntime) -> Result<(), Fail> {
         let words = words_of(rt.alloc(), line)?;
         let request = decode_request(rt.alloc(), &words).ok();
         let request = request.ok_or("words that are refused")?;
-        let found = (request.asked.workers, request.asked.first, request.is_resync);
+        let found = (
+            request.asked.workers,
+            request.asked.first,
+            request.is_resync,
+        );
         assert!(rt; found == (*workers, *first, *is_resync), "{line}");
     }
     Ok(())

@@ -66,7 +66,6 @@ impl Counts {
 struct Told<'a> {
     view: View,
     counts: &'a Counts,
-    strips: u32,
     pieces: u32,
     /// Whether a strip came behind the piece of the one interval.
     is_late: bool,
@@ -84,7 +83,6 @@ impl<'a> Told<'a> {
         Ok(Told {
             view: View::of(alloc, scan)?,
             counts,
-            strips: 0,
             pieces: 0,
             is_late: false,
             is_lazy,
@@ -95,7 +93,6 @@ impl<'a> Told<'a> {
 impl<'a> Screen for Told<'a> {
     fn show_strip(&mut self, strip: &Strip) {
         self.view.show_strip(strip);
-        self.strips = self.strips.saturating_add(1);
         self.is_late = self.is_late || self.pieces > 0;
         self.counts.mcus.fetch_add(strip.mcus(), Ordering::SeqCst);
     }
@@ -135,7 +132,8 @@ struct Held<'a> {
 impl<'a> Gate for Held<'a> {
     fn pass(&self, _number: u32) {
         self.counts.claims.fetch_add(1, Ordering::SeqCst);
-        self.counts.wait_for(&self.counts.claims, self.awaited.claims);
+        self.counts
+            .wait_for(&self.counts.claims, self.awaited.claims);
     }
 
     fn made(&self, _piece: &Piece) {
@@ -170,7 +168,7 @@ fn check_told<R: Threads + Wait + Clock + Sync + AllocGlobal + Abort>(
     };
     let mut told = Told::of(rt.alloc(), &scan, &counts, is_lazy)?;
     assert!(rt; blank_behind(rt, &scan, &gate, &mut told)? == 0);
-    assert!(rt; told.pieces == scan.intervals());
+    assert!(rt; told.pieces == scan.intervals() && told.view.has_seen(0));
     assert!(rt; shows_all(rt.alloc(), &told.view, &scan)?);
     let asked = Counts::of(&counts.asked);
     assert!(rt; asked == 2 || asked > 2 && !is_lazy);
