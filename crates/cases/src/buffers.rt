@@ -5,7 +5,7 @@ use crate::differences::{Differences, compare_bytes, compare_numbers};
 use crate::failure::Failure;
 use crate::row::part;
 use crate::texts::{is_doubt, map_of};
-use jri_memory::status::BUFFER_TOO_SMALL;
+use jri_memory::status::{BUFFER_TOO_SMALL, OK};
 use jri_memory::{
     DecodeReport, Header, check_marks, decode_file, end_text, read_header, refusal_text,
 };
@@ -141,6 +141,10 @@ fn check_header(case: &Case<'_>, out: &mut Differences) {
     compare_bytes(out, case.at("header"), header.as_bytes(), front);
     let size = case.picture.len().saturating_sub(header.len());
     compare_numbers(out, case.at("pixels"), size as u64, case.header.pixels);
+    let mut partial = Header::empty();
+    let answer = read_header(case.alloc, case.bytes, 1, &mut partial);
+    let is_same = answer == OK && partial == case.header;
+    compare_numbers(out, case.at("header, more may come"), 1, u64::from(is_same));
 }
 
 /// Decodes a case's file, checks it, and reads its header.

@@ -192,7 +192,7 @@ fn put_listed(
         let _answer = list_damages(case.alloc, bytes, next, at, damages, &mut report);
         let count = (report.count as usize).min(damages.len());
         run = put_damages(text, run, &damages[..count])?;
-        if report.next >= intervals {
+        if count < damages.len() || report.next >= intervals {
             break;
         }
     }

@@ -1,16 +1,20 @@
-//! `cases TABLE`: decodes the file of each row of a table on every path of the decoder, and compares what each path gives with the
-//! row. It writes a line for each difference, and `every case holds` if there is none. The exit status is 0 then, otherwise 1.
+//! `cases TABLE ..`: decodes the file of each row of a table on every path of the decoder, or makes the row's run of `jri` or of
+//! `jri_check`, and compares what comes of it with the row. It writes a line for each difference, and `every case holds` if there
+//! is none. The exit status is 0 then, otherwise 1.
 //!
-//! The table is text that the program reads when it runs: a row needs no proof. Its first lines explain it.
+//! The tables are text that the program reads when it runs: a row needs no proof. The first lines of each explain it.
 #![tactic(auto)]
 
+mod archives;
 mod arrival;
 mod buffers;
 mod case;
 mod checks;
+mod commands;
 mod differences;
 mod failure;
 mod lines;
+mod machine;
 mod places;
 mod row;
 mod runs;
@@ -19,7 +23,9 @@ mod sums;
 mod sweeps;
 mod texts;
 
+use crate::archives::check_archive;
 use crate::case::check_row;
+use crate::commands::check_command;
 use crate::differences::Differences;
 use crate::row::row_of;
 use std::alloc::Global;
@@ -33,12 +39,21 @@ use std::{env, fs};
 fn check_line<R: Threads + Wait + Sync>(
     rt: &R,
     alloc: Global,
+    table: &str,
     line: &str,
     out: &mut Differences,
 ) -> bool {
     let line = line.trim();
-    if line.is_empty() || line.starts_with('#') {
+    if line.is_empty() || line.starts_with('#') || line.starts_with('=') || line.starts_with('/') {
         return false;
+    }
+    if let Some(command) = line.strip_prefix('$') {
+        check_command(rt, alloc, table, command, out);
+        return true;
+    }
+    if let Some(command) = line.strip_prefix('%') {
+        check_archive(rt, alloc, table, command, out);
+        return true;
     }
     match row_of(line) {
         Ok(row) => check_row(rt, alloc, &row, out),
@@ -47,7 +62,7 @@ fn check_line<R: Threads + Wait + Sync>(
     true
 }
 
-/// The number of rows of a table, and of differing ones.
+/// The number of rows of the tables, and of differing ones.
 #[derive(Clone, Copy)]
 struct Rows {
     all: u32,
@@ -60,11 +75,12 @@ impl Rows {
         &mut self,
         rt: &R,
         alloc: Global,
+        table: &str,
         (number, line): (usize, &str),
         out: &mut W,
     ) -> IoResult<()> {
         let mut differences = Differences::new(alloc);
-        let is_row = check_line(rt, alloc, line, &mut differences);
+        let is_row = check_line(rt, alloc, table, line, &mut differences);
         let has_failed = differences.failure().is_some();
         if is_row && !has_failed {
             self.all = self.all.saturating_add(1);
@@ -74,43 +90,33 @@ impl Rows {
         }
         differences.write(number, out)
     }
+
+    /// Checks each row of a table, and writes the differences.
+    fn check_table<R: Threads + Wait + Sync, W: Write>(
+        &mut self,
+        rt: &R,
+        alloc: Global,
+        table: &str,
+        out: &mut W,
+    ) -> IoResult<()> {
+        let mut number: usize = 0;
+        for line in table.lines() {
+            number = number.saturating_add(1);
+            self.check(rt, alloc, table, (number, line), out)?;
+        }
+        Ok(())
+    }
 }
 
-/// Checks each row of a table, and writes the differences.
-fn check_table<R: Threads + Wait + Sync, W: Write>(
-    rt: &R,
-    alloc: Global,
-    table: &str,
-    out: &mut W,
-) -> IoResult<Rows> {
+/// Checks the tables that the arguments name, and returns whether there are rows and every row holds.
+fn check<W: Write>(rt: &HostRuntime, out: &mut W) -> IoResult<bool> {
     let mut rows = Rows { all: 0, wrong: 0 };
-    let mut number: usize = 0;
-    for line in table.lines() {
-        number = number.saturating_add(1);
-        rows.check(rt, alloc, (number, line), out)?;
+    for name in env::args(rt)?.skip(1) {
+        let table = fs::read_to_string(rt, name.as_str())?;
+        rows.check_table(rt, rt.alloc(), table.as_str(), out)?;
     }
-    Ok(rows)
-}
-
-/// Returns the text of the file that the first word names.
-fn table_of(rt: &HostRuntime) -> IoResult<String> {
-    let mut words = env::args(rt)?.skip(1);
-    match words.next() {
-        Some(name) => fs::read_to_string(rt, name.as_str()),
-        None => Ok(String::new(rt.alloc())),
-    }
-}
-
-/// Checks a table, and returns whether it has rows and every row holds.
-fn check<R: Threads + Wait + Sync, W: Write>(
-    rt: &R,
-    alloc: Global,
-    table: &str,
-    out: &mut W,
-) -> IoResult<bool> {
-    let rows = check_table(rt, alloc, table, out)?;
     if rows.all == 0 {
-        writeln!(out, "the table has no rows")?;
+        writeln!(out, "the tables have no rows")?;
     } else if rows.wrong == 0 {
         writeln!(out, "every case holds")?;
     }
@@ -118,15 +124,11 @@ fn check<R: Threads + Wait + Sync, W: Write>(
 }
 
 fn main(rt: HostRuntime) -> ExitCode {
-    let checked = match table_of(&rt) {
-        Ok(table) => check(&rt, rt.alloc(), table.as_str(), &mut rt.stdout()),
-        Err(error) => Err(error),
-    };
-    match checked {
+    match check(&rt, &mut rt.stdout()) {
         Ok(true) => ExitCode::SUCCESS,
         Ok(false) => ExitCode::FAILURE,
         Err(error) => {
-            let _ = writeln!(rt.stderr(), "cannot read the table, or write: {error}");
+            let _ = writeln!(rt.stderr(), "cannot read a table, or write: {error}");
             ExitCode::FAILURE
         }
     }

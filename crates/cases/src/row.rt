@@ -73,7 +73,7 @@ fn options_of(words: &str) -> Result<Options, Failure> {
 }
 
 /// Returns the field of this number, without the spaces around it; nothing if the line has fewer.
-fn field(line: &str, number: usize) -> &str {
+pub(crate) fn field(line: &str, number: usize) -> &str {
     part(line, '|', number).trim()
 }
 

@@ -245,25 +245,25 @@ impl<'a, R: Wait> Write for Log<'a, R> {
     }
 }
 
-/// What a run came to: its status, its lines, the state file after it, and the number of reads.
-#[derive(Drop)]
-struct Run {
-    status: u8,
-    lines: Vec<u8>,
-    state: Vec<u8>,
-    reads: u64,
-}
+/// A run with the state file that the run before it left: the arguments, the bytes of `two` and their time, the status, the number of
+/// reads, whether the state file is unchanged, and the lines.
+type Step = (
+    &'static str,
+    (&'static str, i64),
+    (u8, u64, bool),
+    &'static str,
+);
 
-/// Checks files of a state file, whose bytes these are.
-fn run_with<R: Threads + Wait + Sync + AllocGlobal>(
+/// Makes the run of a step over these bytes of a state file. Returns the status, the number of reads, the lines, and the state file
+/// after it.
+fn run_of<R: Threads + Wait + Sync + AllocGlobal>(
     rt: &R,
     state: &[u8],
-    words: &[&[u8]],
-    two: &'static str,
-    seconds: i64,
-) -> Result<Run, Fail> {
+    step: &Step,
+) -> Result<(u8, u64, Vec<u8>, Vec<u8>), Fail> {
     let alloc: Global = rt.alloc();
-    let asked = request_of(alloc, words, 3)?;
+    let (words, (two, seconds), _, _) = *step;
+    let asked = request_of(alloc, words)?;
     let (reads, bytes) = (AtomicU64::new(0), Mutex::new(state.to_vec(alloc)?));
     let log = Log { rt, bytes: &bytes };
     let state = State::open(alloc, state, log, asked.is_verifying).map_err(|_| Fail::from(
@@ -280,12 +280,8 @@ fn run_with<R: Threads + Wait + Sync + AllocGlobal>(
     };
     let nowhere: Option<Vec<u8>> = None;
     let (report, lines) = check_all(rt, alloc, source, asked, NO_LIST, Vec::new(alloc), nowhere);
-    Ok(Run {
-        status: report.status(),
-        lines,
-        state: bytes.into_inner(),
-        reads: reads.load(Ordering::SeqCst),
-    })
+    let reads = reads.load(Ordering::SeqCst);
+    Ok((report.status(), reads, lines, bytes.into_inner()))
 }
 
 /// Two intervals of one MCU, both sound, and the second without its bits.
@@ -293,94 +289,105 @@ const TWO: &str = "GI 63 FF D0 63 E";
 
 const CUT: &str = "GI 63 FF D0 E";
 
-const NAMES: [&[u8]; 7] = [
-    b"--state",
-    b"s",
-    b"two",
-    b"ten",
-    b"progressive",
-    b"gone",
-    b"busy",
+const FIVE: &str = "-j 3 --state s two ten progressive gone busy";
+
+const VERIFY: &str = "-j 3 --verify --counts --state s two ten";
+
+const SOUND: &str = "two: sound, 2 intervals\n";
+
+/// Unchanged files are not read, but for one that is written meanwhile.
+const UNCHANGED: [Step; 2] = [
+    (
+        FIVE,
+        (TWO, 7),
+        (3, 5, false),
+        "two: sound, 2 intervals\nten: sound, 10 intervals\n\
+         progressive: unsupported 5: progressive JPEG (SOF2) is not supported\n\
+         gone: cannot be read: no such file\nbusy: sound, 10 intervals\n",
+    ),
+    (
+        FIVE,
+        (TWO, 7),
+        (3, 2, true),
+        "two: unchanged, sound\nten: unchanged, sound\nprogressive: unchanged, unsupported\n\
+         gone: cannot be read: no such file\nbusy: sound, 10 intervals\n",
+    ),
+];
+
+/// A file of another time is a new version, and is recorded again.
+const NEW_VERSION: [Step; 3] = [
+    ("--state s two", (TWO, 7), (0, 1, false), SOUND),
+    (
+        "--state s two",
+        (CUT, 8),
+        (1, 1, false),
+        "two: damaged, 1 of 2 intervals, lines 0 to 7\n",
+    ),
+    (
+        "--state s two",
+        (CUT, 8),
+        (1, 0, true),
+        "two: unchanged, damaged\n",
+    ),
+];
+
+const CHANGED: Step = (
+    VERIFY,
+    (CUT, 7),
+    (1, 2, true),
+    "two: changed, damaged, 1 of 2 intervals, lines 0 to 7\nten: sound, 10 intervals\n\
+     1 sound, 1 changed\n",
+);
+
+/// Each verification reports changed bytes, since the record stays.
+const VERIFIED: [Step; 4] = [
+    (
+        "--state s two ten",
+        (TWO, 7),
+        (0, 2, false),
+        "two: sound, 2 intervals\nten: sound, 10 intervals\n",
+    ),
+    (
+        VERIFY,
+        (TWO, 7),
+        (0, 2, true),
+        "two: sound, 2 intervals\nten: sound, 10 intervals\n2 sound\n",
+    ),
+    CHANGED,
+    CHANGED,
+];
+
+/// The objects of files that are unchanged, changed and refused.
+const OBJECTS: [Step; 3] = [
+    ("--state s two", (TWO, 7), (0, 1, false), SOUND),
+    (
+        "--json --state s two",
+        (TWO, 7),
+        (0, 0, true),
+        "{\"file\":\"two\",\"is\":\"unchanged\",\"was\":\"sound\"}\n",
+    ),
+    (
+        "--json --counts --verify --state s two",
+        ("S FF C2", 7),
+        (1, 1, true),
+        "{\"file\":\"two\",\"is\":\"changed\",\"now\":\"unsupported\",\"refusal\":5,\"detail\":194,\"why\":\"progressive JPEG (SOF2) is not supported\"}\n\
+         {\"sound\":0,\"damaged\":0,\"refused\":0,\"unsupported\":0,\"unread\":0,\"out_of_memory\":0,\"changed\":1}\n",
+    ),
 ];
 
 #[test]
-fn unchanged_files_are_not_read(rt: HostRuntime) -> Result<(), Fail> {
-    let first = run_with(&rt, b"", &NAMES, TWO, 7)?;
-    let lines = "two: sound, 2 intervals\n\
-                 ten: sound, 10 intervals\n\
-                 progressive: unsupported 5: progressive JPEG (SOF2) is not supported\n\
-                 gone: cannot be read: no such file\n\
-                 busy: sound, 10 intervals\n";
-    assert!(rt; first.lines.as_slice() == lines.as_bytes());
-    assert!(rt; first.status == 3 && first.reads == 5);
-    let second = run_with(&rt, first.state.as_slice(), &NAMES, TWO, 7)?;
-    let lines = "two: unchanged, sound\n\
-                 ten: unchanged, sound\n\
-                 progressive: unchanged, unsupported\n\
-                 gone: cannot be read: no such file\n\
-                 busy: sound, 10 intervals\n";
-    assert!(rt; second.lines.as_slice() == lines.as_bytes());
-    assert!(rt; second.status == 3 && second.reads == 2);
-    assert!(rt; second.state.as_slice() == first.state.as_slice());
-    Ok(())
-}
-
-/// A file of another time is a new version, and is recorded again.
-#[test]
-fn new_versions_are_checked(rt: HostRuntime) -> Result<(), Fail> {
-    let words: [&[u8]; 3] = [b"--state", b"s", b"two"];
-    let first = run_with(&rt, b"", &words, TWO, 7)?;
-    let second = run_with(&rt, first.state.as_slice(), &words, CUT, 8)?;
-    assert!(rt; second.status == 1 && second.reads == 1);
-    let third = run_with(&rt, second.state.as_slice(), &words, CUT, 8)?;
-    assert!(rt; third.lines.as_slice() == b"two: unchanged, damaged\n".as_slice());
-    assert!(rt; third.status == 1 && third.reads == 0);
-    assert!(rt; third.state.as_slice() == second.state.as_slice());
-    Ok(())
-}
-
-/// Each verification reports changed bytes, since the record stays.
-#[test]
-fn changed_bytes_are_reported(rt: HostRuntime) -> Result<(), Fail> {
-    let first = run_with(&rt, b"", &[b"--state", b"s", b"two", b"ten"], TWO, 7)?;
-    let words: [&[u8]; 6] = [b"--verify", b"--counts", b"--state", b"s", b"two", b"ten"];
-    let same = run_with(&rt, first.state.as_slice(), &words, TWO, 7)?;
-    let lines = "two: sound, 2 intervals\nten: sound, 10 intervals\n2 sound\n";
-    assert!(rt; same.lines.as_slice() == lines.as_bytes());
-    assert!(rt; same.status == 0 && same.reads == 2);
-    for _ in 0..2 {
-        let found = run_with(&rt, first.state.as_slice(), &words, CUT, 7)?;
-        let lines = "two: changed, damaged, 1 of 2 intervals, lines 0 to 7\n\
-                     ten: sound, 10 intervals\n\
-                     1 sound, 1 changed\n";
-        assert!(rt; found.lines.as_slice() == lines.as_bytes());
-        assert!(rt; found.status == 1 && found.reads == 2);
-        assert!(rt; found.state.as_slice() == first.state.as_slice());
+fn files_are_read_and_recorded(rt: HostRuntime) -> Result<(), Fail> {
+    let sequences: [&[Step]; 4] = [&UNCHANGED, &NEW_VERSION, &VERIFIED, &OBJECTS];
+    for steps in sequences {
+        let mut state = Vec::new(rt.alloc());
+        for step in steps {
+            let (status, reads, lines, after) = run_of(&rt, state.as_slice(), step)?;
+            let is_kept = after == state;
+            assert!(rt; (status, reads, is_kept) == step.2, "{}", step.3);
+            assert!(rt; lines.as_slice() == step.3.as_bytes(), "{}", step.3);
+            state = after;
+        }
     }
-    Ok(())
-}
-
-/// The objects of files that are unchanged, changed and refused.
-#[test]
-fn objects_tell_of_records(rt: HostRuntime) -> Result<(), Fail> {
-    let words: [&[u8]; 4] = [b"--json", b"--state", b"s", b"two"];
-    let first = run_with(&rt, b"", &words, TWO, 7)?;
-    let second = run_with(&rt, first.state.as_slice(), &words, TWO, 7)?;
-    let line = "{\"file\":\"two\",\"is\":\"unchanged\",\"was\":\"sound\"}\n";
-    assert!(rt; second.lines.as_slice() == line.as_bytes());
-    let words: [&[u8]; 6] = [
-        b"--json",
-        b"--counts",
-        b"--verify",
-        b"--state",
-        b"s",
-        b"two",
-    ];
-    let third = run_with(&rt, first.state.as_slice(), &words, "S FF C2", 7)?;
-    let lines =
-        "{\"file\":\"two\",\"is\":\"changed\",\"now\":\"unsupported\",\"refusal\":5,\"detail\":194,\"why\":\"progressive JPEG (SOF2) is not supported\"}\n\
-                 {\"sound\":0,\"damaged\":0,\"refused\":0,\"unsupported\":0,\"unread\":0,\"out_of_memory\":0,\"changed\":1}\n";
-    assert!(rt; third.lines.as_slice() == lines.as_bytes());
     Ok(())
 }
 
@@ -390,7 +397,7 @@ fn run_into<R: Threads + Wait + Sync + AllocGlobal, const N: usize>(
     log: [u8; N],
 ) -> Result<CheckReport, Fail> {
     let alloc: Global = rt.alloc();
-    let asked = request_of(alloc, &[b"ten", b"ten"], 1)?;
+    let asked = request_of(alloc, "-j 1 ten ten")?;
     let state = State::open(alloc, FRONT.as_bytes(), Cursor::new(log), false).map_err(
         |_| Fail::from("damaged"),
     )?;
@@ -414,10 +421,8 @@ fn run_into<R: Threads + Wait + Sync + AllocGlobal, const N: usize>(
 fn full_state_files_end_runs(rt: HostRuntime) -> Result<(), Fail> {
     let report = run_into(&rt, [0; 10])?;
     assert!(rt; report.end == CheckEnd::Unrecorded);
-    assert!(rt; report.counts.sound == 1);
-    assert!(rt; report.status() == 4);
+    assert!(rt; (report.counts.sound, report.status()) == (1, 4));
     let report = run_into(&rt, [0; 400])?;
-    assert!(rt; report.end == CheckEnd::AllTold);
-    assert!(rt; report.status() == 0);
+    assert!(rt; report.end == CheckEnd::AllTold && report.status() == 0);
     Ok(())
 }

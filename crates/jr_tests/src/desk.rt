@@ -1,4 +1,4 @@
-//! Desks that hand out numbers, and seats that claim them in turn and in threads.
+//! A desk that hands out numbers to seats in threads.
 
 ghost use Rattle.std.specs.Prelude.{◌≡◌, length, All, IfOk};
 
@@ -8,46 +8,6 @@ use std::sync::atomic::{AtomicU64, Ordering};
 use std::test::Fail;
 use std::thread;
 use std::thread::Threads;
-
-/// The next number, at a seat of this desk.
-fn claim(desk: &Desk, seat: &mut Seat) -> Option<u32>
-    requires { seat.old.desk ≡ desk.now }
-    ensures { seat.new.desk ≡ seat.old.desk }
-{
-    desk.claim(seat)
-}
-
-/// What two seats get of a desk of three numbers, in turn.
-fn claim_in_turn(desk: &Desk, a: &mut Seat, b: &mut Seat) -> [Option<u32>; 6]
-    requires a { a.old.desk ≡ desk.now }
-    requires b { b.old.desk ≡ desk.now }
-    ensures a { a.new.desk ≡ a.old.desk }
-    ensures b { b.new.desk ≡ b.old.desk }
-{
-    [
-        claim(desk, a),
-        claim(desk, b),
-        claim(desk, a),
-        claim(desk, b),
-        claim(desk, a),
-        claim(desk, a),
-    ]
-}
-
-#[test]
-fn hands_out_to_two_seats_in_turn(rt: HostRuntime) -> Result<(), Fail> {
-    let (desk, mut seats) = Desk::open(rt.alloc(), 3, 2)?;
-    assert!(rt; seats.len() == 2);
-    let (mut b, mut a) = (seats.remove(1), seats.remove(0));
-    let numbers = claim_in_turn(&desk, &mut a, &mut b);
-    assert!(rt; numbers == [Some(0), Some(1), Some(2), None, None, None]);
-    assert!(rt; (a.drawn(), b.drawn()) == (2, 1));
-    let mut ended = Vec::new(rt.alloc());
-    ended.push(a)?;
-    ended.push(b)?;
-    assert!(rt; desk.gather(ended).total() == 3);
-    Ok(())
-}
 
 /// Claims until the seat has ended, and counts each number that it draws.
 fn claim_all(desk: &Desk, mut seat: Seat, counts: &[AtomicU64]) -> Seat

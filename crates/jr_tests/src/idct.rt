@@ -1,12 +1,10 @@
-//! Samples known from outside.
+//! Samples known from outside, by each form of the transform.
 
 ghost use Rattle.std.specs.Prelude.{ℕ, ◌<◌};
 ghost use Rattle.jr_idct.specs.Matrix.{at, IsWithin};
 
 use jr_base::{Coefficients, Quantisers};
-use jr_idct::{
-    even, floors, matrix_transform, odd, tables_agree, transform, transform_one, transform_two,
-};
+use jr_idct::{even, matrix_transform, odd, transform, transform_one, transform_two};
 use std::process::Abort;
 
 /// Returns a block with two coefficients, the second one at a zigzag place.
@@ -20,18 +18,6 @@ fn block_with(first: i32, place: usize, value: i32) -> [i32; 64]
     coefficients[0] = first;
     coefficients[place] = value;
     coefficients
-}
-
-/// What is given of a block with a first coefficient alone, at quantisers of 16.
-fn first_alone(first: i16) -> [u8; 64] {
-    transform(&block_with(0, 0, i32::from(first)), &[16; 64])
-}
-
-#[test]
-fn transforms_first_coefficients(rt: HostRuntime) {
-    for (first, sample) in [(4, 136), (0, 128), (-4, 120), (16, 160), (2047, 255)] {
-        assert!(rt; first_alone(first) == [sample; 64]);
-    }
 }
 
 /// Returns the samples of a block with two coefficients, the second one beside the first, at quantisers of 16: by the two
@@ -69,8 +55,6 @@ fn transforms_lines_alike(rt: HostRuntime) {
 
 #[test]
 fn butterflies_give_columns_of_the_matrix(rt: HostRuntime) {
-    tables_agree();
-    floors();
     assert!(rt; even(&[0, 1, 0, 0]) == [10703, 4433, -4433, -10703]);
     assert!(rt; odd(&[0, 0, 0, 1]) == [2260, -6436, 9633, -11363]);
 }

@@ -1,14 +1,11 @@
-//! Tests through the crates' public calls: devices, bits and code tables, heads, scans and blocks, the transform,
-//! painting, desks, archives, files that arrive in parts, and boards; against answers worked out by hand from T.81, and
-//! beside plain readers and painters.
+//! Tests through the crates' public calls, for what the program `cases` does not show: devices, bits and code tables, long heads,
+//! scans beside a plain reader, the transform, desks, archives, when the lines of a file that arrives are there, and boards.
 #![tactic(auto)]
 
 #[cfg(test)]
 mod archive;
 #[cfg(test)]
 mod archive_state;
-#[cfg(test)]
-mod archive_words;
 #[cfg(test)]
 mod arrival;
 #[cfg(test)]
@@ -21,12 +18,6 @@ mod desk;
 mod head;
 #[cfg(test)]
 mod idct;
-#[cfg(test)]
-mod meeting_files;
-#[cfg(test)]
-mod paint;
-#[cfg(test)]
-mod places;
 #[cfg(test)]
 mod plain;
 #[cfg(test)]

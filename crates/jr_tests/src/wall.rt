@@ -5,8 +5,6 @@ mod damage;
 mod glances;
 mod helping;
 mod long_views;
-mod partial_views;
-mod seen_views;
 mod shown;
 mod views;
 mod watched;

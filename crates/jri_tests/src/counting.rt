@@ -4,16 +4,15 @@ ghost use Rattle.std.specs.Prelude.{◌≤◌};
 ghost use Rattle.jr_base.specs.declared.limits.TheConstants.{MAX_WORKERS};
 
 use crate::decoding::outcome_of;
-use crate::workers::TURNS;
 use jr_wall::{Gate, Piece, decode_all};
-use std::process::Abort;
 use std::sync::Wait;
-use std::sync::atomic::{AtomicU64, Ordering};
+use std::sync::atomic::{AtomicU32, Ordering};
 use std::test::Fail;
 use std::thread;
 use std::thread::Threads;
 use test_files::files::{TEN, file};
 use test_files::scans::scan;
+use test_files::waiting::has_come;
 
 /// How often a call looks whether one more worker comes than it waits for.
 const MORE_TURNS: u32 = 10_000;
@@ -21,29 +20,29 @@ const MORE_TURNS: u32 = 10_000;
 /// Holds each call until that number are inside at once, and then a while longer.
 #[derive(Drop)]
 struct Crowd {
-    number: u64,
-    inside: AtomicU64,
+    number: u32,
+    inside: AtomicU32,
     /// The greatest number that was inside at once.
-    greatest: AtomicU64,
-    calls: AtomicU64,
+    greatest: AtomicU32,
+    calls: AtomicU32,
     /// Calls that used up their turns.
-    late: AtomicU64,
+    late: AtomicU32,
 }
 
 impl Crowd {
     fn of(number: u32) -> Crowd {
         Crowd {
-            number: u64::from(number),
-            inside: AtomicU64::new(0),
-            greatest: AtomicU64::new(0),
-            calls: AtomicU64::new(0),
-            late: AtomicU64::new(0),
+            number,
+            inside: AtomicU32::new(0),
+            greatest: AtomicU32::new(0),
+            calls: AtomicU32::new(0),
+            late: AtomicU32::new(0),
         }
     }
 
     /// Notes that this number are inside. There are at most 64 workers, and each turn that fails has seen a greater
     /// number.
-    fn note(&self, number: u64) {
+    fn note(&self, number: u32) {
         for _turn in 0..64u32 {
             let greatest = self.greatest.load(Ordering::SeqCst);
             if number <= greatest {
@@ -55,15 +54,14 @@ impl Crowd {
         }
     }
 
-    /// Waits until this many have been inside at once; false where that takes too many turns.
-    fn await_crowd(&self, number: u64, turns: u32) -> bool {
-        for _turn in 0..turns {
-            if self.greatest.load(Ordering::SeqCst) >= number {
-                return true;
+    /// Waits a while for one more than that number.
+    fn await_more(&self) {
+        for _turn in 0..MORE_TURNS {
+            if self.greatest.load(Ordering::SeqCst) > self.number {
+                return;
             }
             thread::yield_now();
         }
-        false
     }
 
     /// Returns whether exactly that number came, for the ten intervals.
@@ -79,15 +77,11 @@ impl Gate for Crowd {
         self.calls.fetch_add(1, Ordering::SeqCst);
         let before = self.inside.fetch_add(1, Ordering::SeqCst);
         self.note(before.saturating_add(1));
-        let turns = if self.late.load(Ordering::SeqCst) == 0 {
-            TURNS
-        } else {
-            0
-        };
-        if self.await_crowd(self.number, turns) {
-            let _ = self.await_crowd(self.number.saturating_add(1), MORE_TURNS);
-        } else {
+        let is_late = self.late.load(Ordering::SeqCst) > 0;
+        if is_late || !has_come(&self.greatest, self.number) {
             self.late.fetch_add(1, Ordering::SeqCst);
+        } else {
+            self.await_more();
         }
         self.inside.fetch_sub(1, Ordering::SeqCst);
     }
@@ -118,27 +112,15 @@ fn decodes_by<R: Threads + Wait + Sync + AllocGlobal>(rt: &R, workers: u32) -> R
     Ok(board.sound() == 10 && gate.is_exact())
 }
 
-/// Checks that as many workers come as `run` and `decode_all` are asked for.
-fn check<R: Threads + Wait + Sync + AllocGlobal + Abort>(rt: &R, workers: u32) -> Result<(), Fail>
-    requires some { 1 ≤ workers }
-    requires few { workers ≤ MAX_WORKERS }
-{
-    assert!(rt; runs_by(rt, workers)?, "{workers} workers by run");
-    assert!(rt; decodes_by(rt, workers)?, "{workers} workers by decode_all");
+/// As many workers come as `run` and `decode_all` are asked for.
+#[test]
+fn counts_workers(rt: HostRuntime) -> Result<(), Fail> {
+    for workers in [1, 2, 4] {
+        assert!(rt; runs_by(&rt, workers)?, "{workers} workers by run");
+        assert!(rt;
+            decodes_by(&rt, workers)?,
+            "{workers} workers by decode_all"
+        );
+    }
     Ok(())
-}
-
-#[test]
-fn counts_one_worker(rt: HostRuntime) -> Result<(), Fail> {
-    check(&rt, 1)
-}
-
-#[test]
-fn counts_two_workers(rt: HostRuntime) -> Result<(), Fail> {
-    check(&rt, 2)
-}
-
-#[test]
-fn counts_four_workers(rt: HostRuntime) -> Result<(), Fail> {
-    check(&rt, 4)
 }

@@ -1,118 +1,251 @@
-//! Devices that fail, through `run` and `finish`: what was written, the line, and the exit status.
+//! Inputs and outputs that move few bytes a call and fail at one call, through `run`; and the lines of `finish`.
 
-use crate::decoding::finished;
+ghost use Rattle.std.specs.Prelude.{◌≤◌};
+ghost use Rattle.jr_base.specs.declared.limits.TheConstants.{MAX_WORKERS};
+
+use crate::decoding::outcome_of;
+use jr_base::limits::MAX_WORKERS;
 use jr_head::Refusal;
 use jr_paint::Tally;
 use jr_scan::ScanEnd;
+use jr_wall::OpenGate;
 use jri_engine::{Fault, Report, finish};
 use std::alloc::Global;
 use std::io::{Error, ErrorKind, Read, Result as IoResult, Write};
+use std::process::Abort;
+use std::sync::Wait;
 use std::test::Fail;
-use test_files::files::file;
-use test_files::pictures::picture;
+use std::thread::Threads;
+use test_files::files::{file, front};
 
-/// Takes a number of bytes, three a call, and then fails; or fails only when it is flushed.
+/// Moves at most `most` bytes a call. The call of one number fails, and those after it continue.
 #[derive(Drop)]
-struct Full {
+struct Device<'a> {
+    /// What is to be read.
+    rest: &'a [u8],
+    /// What was written.
     bytes: Vec<u8>,
-    room: usize,
-    is_flushed: bool,
+    most: usize,
+    calls: u32,
+    /// The number of the call that fails; 0: none does.
+    failing: u32,
+    /// How it fails; `None`: it moves no byte.
+    error: Option<ErrorKind>,
 }
 
-impl Full {
-    fn new(alloc: Global, room: usize, is_flushed: bool) -> Full {
-        Full {
+impl<'a> Device<'a> {
+    fn new(alloc: Global, rest: &'a [u8], most: usize) -> Device<'a> {
+        Device {
+            rest,
             bytes: Vec::new(alloc),
-            room,
-            is_flushed,
+            most,
+            calls: 0,
+            failing: 0,
+            error: None,
         }
     }
 }
 
-impl Write for Full {
-    fn write(&mut self, buf: &[u8]) -> IoResult<usize> {
-        let most = buf.len().min(3);
-        if self.room < most {
-            return Err(Error::from(ErrorKind::StorageFull));
+impl Read for Device<'_> {
+    fn read(&mut self, buf: &mut [u8]) -> IoResult<usize> {
+        self.calls = self.calls.wrapping_add(1);
+        if self.calls == self.failing {
+            return Err(Error::from(self.error.unwrap_or(ErrorKind::Other)));
         }
-        self.room -= most;
+        let count = buf.len().min(self.most).min(self.rest.len());
+        let (part, rest) = self.rest.split_at(count);
+        buf[..count].copy_from_slice(part);
+        self.rest = rest;
+        Ok(count)
+    }
+}
+
+impl Write for Device<'_> {
+    fn write(&mut self, buf: &[u8]) -> IoResult<usize> {
+        self.calls = self.calls.wrapping_add(1);
+        if self.calls == self.failing {
+            return match self.error {
+                Some(kind) => Err(Error::from(kind)),
+                None => Ok(0),
+            };
+        }
+        let most = buf.len().min(self.most);
         self.bytes.extend_from_slice(&buf[..most])?;
         Ok(most)
     }
 
     fn flush(&mut self) -> IoResult<()> {
-        if self.is_flushed {
-            Ok(())
-        } else {
-            Err(Error::from(ErrorKind::StorageFull))
+        Ok(())
+    }
+}
+
+/// Returns whether a run with one worker and this input cannot read it, and writes nothing.
+fn is_unread<R: Threads + Wait + Sync + AllocGlobal>(rt: &R, input: Device<'_>) -> bool {
+    let out = Vec::new(rt.alloc());
+    let (outcome, out) = outcome_of(rt, input, out, 1, None, &OpenGate);
+    outcome.err() == Some(Fault::Read) && out.into_inner().is_empty()
+}
+
+/// The smallest file has 143 bytes, so call 144 reports its end. The larger one is not read at once, and its call 2 or 3 fails.
+#[test]
+fn tells_an_input_that_fails_at_one_call(rt: HostRuntime) -> Result<(), Fail> {
+    let bytes = file(rt.alloc(), "G 63 E")?;
+    for kind in [ErrorKind::Other, ErrorKind::Interrupted] {
+        for failing in 1..=144 {
+            let mut input = Device::new(rt.alloc(), bytes.as_slice(), 1);
+            input.failing = failing;
+            input.error = Some(kind);
+            assert!(rt; is_unread(&rt, input), "call {failing}");
         }
     }
+    let bytes = file(rt.alloc(), "G 63 70000*FF E")?;
+    for (count, failing) in [(65_536, 2), (65_537, 3), (70_000, 3)] {
+        let mut input = Device::new(rt.alloc(), front(bytes.as_slice(), count), 65_536);
+        input.failing = failing;
+        assert!(rt; is_unread(&rt, input), "behind {count} bytes");
+    }
+    Ok(())
 }
 
-/// An input that can't be read.
+/// Returns the fault of a run with this output, whose input has a byte a call, and the output.
+fn written<R: Threads + Wait + Sync + AllocGlobal>(
+    rt: &R,
+    bytes: &[u8],
+    workers: u32,
+    out: Device<'static>,
+) -> (Option<Fault>, Device<'static>)
+    requires some { 1 ≤ workers }
+    requires few { workers ≤ MAX_WORKERS }
+{
+    let input = Device::new(rt.alloc(), bytes, 1);
+    let (outcome, out) = outcome_of(rt, input, out, workers, None, &OpenGate);
+    (outcome.err(), out.into_inner())
+}
+
+/// A file, the number of workers, the most bytes of a call, and how it fails.
+type Output = (&'static str, u32, usize, Option<ErrorKind>);
+
+/// Checks that the whole image is written if no call fails; otherwise what precedes that call, and none is made after it.
+fn check<R: Threads + Wait + Sync + AllocGlobal + Abort>(
+    rt: &R,
+    (words, workers, most, error): Output,
+) -> Result<(), Fail> {
+    let workers = workers.clamp(1, MAX_WORKERS);
+    let bytes = file(rt.alloc(), words)?;
+    let (_fault, whole) = written(rt, &bytes, 2, Device::new(rt.alloc(), &[], 100_000));
+    let (fault, all) = written(rt, &bytes, workers, Device::new(rt.alloc(), &[], most));
+    assert!(rt;
+        fault.is_none() && all.bytes == whole.bytes,
+        "{words} by {most}"
+    );
+    for failing in 1..=all.calls {
+        let mut out = Device::new(rt.alloc(), &[], most);
+        out.failing = failing;
+        out.error = error;
+        let (fault, out) = written(rt, &bytes, workers, out);
+        let is_last = fault == Some(Fault::Write) && out.calls == failing;
+        assert!(rt; is_last, "{words} call {failing}");
+        let is_front = whole.bytes.as_slice().starts_with(out.bytes.as_slice());
+        assert!(rt; is_front, "{words} call {failing}");
+    }
+    Ok(())
+}
+
+const FULL: Option<ErrorKind> = Some(ErrorKind::StorageFull);
+
+/// Some rows of MCUs, by a byte a call.
+const SMALL: [Output; 6] = [
+    ("G 63 E", 1, 1, FULL),
+    ("G 63 E", 1, 1, Some(ErrorKind::Interrupted)),
+    ("G 63 E", 1, 1, None),
+    (
+        "S Q F:0011:0009 D A2:00:01 I:0005 C M:0005:0006:0001 E",
+        1,
+        1,
+        FULL,
+    ),
+    (
+        "S Q F3:0011:0005:12 D A2:00:01 I:0005 C3 M:0005:0002:0004 E",
+        1,
+        1,
+        FULL,
+    ),
+    (
+        "S Q F:0001:00F9 D A2:00:01 I:0005 C M:0005:0020:0001 E",
+        3,
+        1,
+        FULL,
+    ),
+];
+
+/// 11 rows of 129 MCUs.
+const LARGE: &str = "S Q F:0051:0401 D A2:00:01 I:0005 C M:0005:058B:0001 E";
+
+/// 5 rows of 33 MCUs.
+const LARGE_COLOURED: &str = "S Q F3:0041:0201:22 D A2:00:01 I:0005 C3 M:0005:00A5:0006 E";
+
+#[test]
+fn tells_an_output_that_fails_at_one_call(rt: HostRuntime) -> Result<(), Fail> {
+    for output in SMALL {
+        check(&rt, output)?;
+    }
+    Ok(())
+}
+
+/// More rows of MCUs than one write takes.
+#[test]
+fn writes_large_pictures_by_larger_calls(rt: HostRuntime) -> Result<(), Fail> {
+    for workers in [1, 3] {
+        check(&rt, (LARGE, workers, 10_000, FULL))?;
+        check(&rt, (LARGE_COLOURED, workers, 73_728, FULL))?;
+    }
+    Ok(())
+}
+
+/// A picture of 33 rows of MCUs and 98 KB takes few writes: a write has the lines of many rows.
+#[test]
+fn writes_many_rows_by_a_call(rt: HostRuntime) -> Result<(), Fail> {
+    let bytes = file(rt.alloc(), LARGE_COLOURED)?;
+    for workers in 1..=3 {
+        let out = Device::new(rt.alloc(), &[], 100_000);
+        let (fault, all) = written(&rt, &bytes, workers, out);
+        let is_right = fault.is_none() && all.calls <= 4;
+        assert!(rt; is_right, "{workers} workers, {} calls", all.calls);
+    }
+    Ok(())
+}
+
+/// A pipe of packets: a call returns one packet, and drops what of it has no space.
 #[derive(Drop)]
-struct Unreadable;
+struct Packets<'a> {
+    rest: &'a [u8],
+    size: usize,
+}
 
-impl Read for Unreadable {
-    fn read(&mut self, _buf: &mut [u8]) -> IoResult<usize> {
-        Err(Error::from(ErrorKind::Other))
+impl Read for Packets<'_> {
+    fn read(&mut self, buf: &mut [u8]) -> IoResult<usize> {
+        let (packet, rest) = self.rest.split_at(self.size.min(self.rest.len()));
+        let count = packet.len().min(buf.len());
+        buf[..count].copy_from_slice(&packet[..count]);
+        self.rest = rest;
+        Ok(count)
     }
 }
 
-/// Returns the lines and the exit status of an outcome, over a writer that takes everything.
-fn lines_and_status(alloc: Global, outcome: Result<Report, Fault>) -> (Vec<u8>, u8) {
-    let mut out = Tally::of(Vec::new(alloc));
-    let mut lines = Vec::new(alloc);
-    let status = finish(outcome, &mut out, &mut lines);
-    (lines, status)
-}
-
 #[test]
-fn tells_an_input_that_cannot_be_read(rt: HostRuntime) -> Result<(), Fail> {
-    let (picture, lines, status) = finished(&rt, Unreadable, Vec::new(rt.alloc()));
-    assert!(rt; picture.is_empty());
-    assert!(rt; lines.as_slice() == b"cannot read the input\n".as_slice());
-    assert!(rt; status == 1);
-    Ok(())
-}
-
-#[test]
-fn tells_a_full_device(rt: HostRuntime) -> Result<(), Fail> {
-    let bytes = file(rt.alloc(), "G 63 E")?;
-    let whole = picture(rt.alloc(), "P5 8 8 : 8*136")?;
-    for room in 0..whole.len() {
-        let full = Full::new(rt.alloc(), room, true);
-        let (full, lines, status) = finished(&rt, bytes.as_slice(), full);
-        let is_front = whole.as_slice().starts_with(full.bytes.as_slice());
-        assert!(rt; is_front, "room for {room}");
-        let is_told = lines.as_slice() == b"cannot write the picture\n".as_slice();
-        assert!(rt; is_told && status == 1, "room for {room}");
+fn loses_nothing_of_packets(rt: HostRuntime) -> Result<(), Fail> {
+    let bytes = file(rt.alloc(), "G 63 70000*FF E")?;
+    for size in [3000, 4096, 65_530, 65_536] {
+        let rest = bytes.as_slice();
+        let out = Vec::new(rt.alloc());
+        let (outcome, _) = outcome_of(&rt, Packets { rest, size }, out, 1, None, &OpenGate);
+        let is_whole = outcome.is_ok_and(|report| report.ended == ScanEnd::EndOfImage);
+        assert!(rt; is_whole, "packets of {size} bytes");
     }
     Ok(())
 }
 
-#[test]
-fn tells_a_failed_flush(rt: HostRuntime) -> Result<(), Fail> {
-    let bytes = file(rt.alloc(), "G 63 E")?;
-    let full = Full::new(rt.alloc(), 1000, false);
-    let (_full, lines, status) = finished(&rt, bytes.as_slice(), full);
-    assert!(rt; lines.as_slice() == b"cannot write the picture\n".as_slice());
-    assert!(rt; status == 1);
-    Ok(())
-}
-
-#[test]
-fn tells_faults_that_no_file_has(rt: HostRuntime) -> Result<(), Fail> {
-    let (lines, status) = lines_and_status(rt.alloc(), Err(Fault::NoFile));
-    assert!(rt; lines.as_slice() == b"cannot open the file\n".as_slice());
-    assert!(rt; status == 1);
-    let (lines, status) = lines_and_status(rt.alloc(), Err(Fault::Memory));
-    assert!(rt; lines.as_slice() == b"out of memory\n".as_slice());
-    assert!(rt; status == 1);
-    Ok(())
-}
-
-/// Takes all of each call, and appends a bar.
+/// Takes all of each call and appends a bar, but cannot be flushed.
 #[derive(Drop)]
 struct Barred {
     bytes: Vec<u8>,
@@ -126,17 +259,21 @@ impl Write for Barred {
     }
 
     fn flush(&mut self) -> IoResult<()> {
-        Ok(())
+        Err(Error::from(ErrorKind::StorageFull))
     }
 }
 
 /// Returns whether exactly these lines are written, each by one call.
-fn is_told(alloc: Global, outcome: Result<Report, Fault>, lines: &str) -> bool {
-    let mut out = Tally::of(Vec::new(alloc));
+fn is_told<O: Write + Drop>(
+    alloc: Global,
+    out: O,
+    outcome: Result<Report, Fault>,
+    lines: &str,
+) -> bool {
     let mut errors = Barred {
         bytes: Vec::new(alloc),
     };
-    finish(outcome, &mut out, &mut errors);
+    finish(outcome, &mut Tally::of(out), &mut errors);
     errors.bytes.as_slice() == lines.as_bytes()
 }
 
@@ -184,17 +321,29 @@ const FAULTS: [(Fault, &str); 5] = [
     ),
 ];
 
-/// Each line by one call, the longest among them.
+/// Each line by one call, the longest among them; and the line of an output that cannot be flushed.
 #[test]
 fn tells_each_line_at_once(rt: HostRuntime) -> Result<(), Fail> {
+    let alloc = rt.alloc();
     let counts = "intervals 4294967295 sound 1234567890 damaged 9 blank 0\n|";
     for (ended, line) in &ENDS {
-        let lines = format!(in rt.alloc(); "{counts}{line}")?;
+        let lines = format!(in alloc; "{counts}{line}")?;
         let outcome = Ok(report(*ended));
-        assert!(rt; is_told(rt.alloc(), outcome, lines.as_str()), "{line}");
+        assert!(rt;
+            is_told(alloc, Vec::new(alloc), outcome, lines.as_str()),
+            "{line}"
+        );
     }
     for (fault, line) in &FAULTS {
-        assert!(rt; is_told(rt.alloc(), Err(*fault), line), "{line}");
+        assert!(rt;
+            is_told(alloc, Vec::new(alloc), Err(*fault), line),
+            "{line}"
+        );
     }
+    let out = Barred {
+        bytes: Vec::new(alloc),
+    };
+    let outcome = Ok(report(ScanEnd::EndOfImage));
+    assert!(rt; is_told(alloc, out, outcome, "cannot write the picture\n|"));
     Ok(())
 }

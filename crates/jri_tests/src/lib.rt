@@ -1,41 +1,19 @@
-//! Tests of runs through public calls, for what the program `cases` does not show of whole files: buffers without enough
-//! capacity, several workers at a gate, the program's arguments, and devices that fail.
+//! Tests of runs through public calls, for what the program `cases` does not show: devices that move few bytes and fail, several
+//! workers at a gate, speculative reads, and calls of the library that it does not make.
 #![tactic(auto)]
 
 #[cfg(test)]
-mod canvas;
-#[cfg(test)]
 mod counting;
-#[cfg(test)]
-mod damages;
 #[cfg(test)]
 mod decoding;
 #[cfg(test)]
 mod devices;
 #[cfg(test)]
-mod long_intervals;
+mod gates;
 #[cfg(test)]
-mod machine;
-#[cfg(test)]
-mod many;
-#[cfg(test)]
-mod memory;
-#[cfg(test)]
-mod mending;
-#[cfg(test)]
-mod one_byte;
-#[cfg(test)]
-mod parts;
-#[cfg(test)]
-mod program;
-#[cfg(test)]
-mod resync;
-#[cfg(test)]
-mod rows;
+mod library;
 #[cfg(test)]
 mod speculation;
-#[cfg(test)]
-mod streams;
 #[cfg(test)]
 mod words;
 #[cfg(test)]

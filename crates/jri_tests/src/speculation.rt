@@ -4,6 +4,7 @@
 ghost use Rattle.std.specs.Prelude.{◌≤◌};
 ghost use Rattle.jr_base.specs.declared.limits.TheConstants.{MAX_WORKERS};
 
+use crate::gates::Calls;
 use jr_damage::{check_scan, check_scan_by};
 use jr_head::read_head;
 use jr_paint::{Tally, write_netpbm};
@@ -12,7 +13,7 @@ use jr_wall::{Gate, Piece, decode_all};
 use jri_engine::run;
 use std::alloc::{AllocError, Global};
 use std::process::Abort;
-use std::sync::atomic::{AtomicU32, AtomicU64, Ordering};
+use std::sync::atomic::{AtomicU64, Ordering};
 use std::sync::{Arc, Wait};
 use std::test::Fail;
 use std::thread;
@@ -95,12 +96,7 @@ fn nanos<R: Clock>(rt: &R) -> u64 {
 struct Hold<'a, R: Clock> {
     rt: &'a R,
     millis: u64,
-    /// The number of intervals that have passed.
-    passed: AtomicU32,
-    /// A bit for each of them.
-    numbers: AtomicU32,
-    /// The number of pieces that were made.
-    made: AtomicU32,
+    calls: Calls,
     /// When the last hold ended.
     released: AtomicU64,
     /// The shortest time from the end of a hold to the next interval.
@@ -112,20 +108,10 @@ impl<'a, R: Clock> Hold<'a, R> {
         Hold {
             rt,
             millis,
-            passed: AtomicU32::new(0),
-            numbers: AtomicU32::new(0),
-            made: AtomicU32::new(0),
+            calls: Calls::new(),
             released: AtomicU64::new(0),
             shortest: AtomicU64::new(u64::MAX),
         }
-    }
-
-    /// Returns whether it was called once for each of the first intervals, and once for as many pieces as given.
-    fn is_told(&self, intervals: u32, pieces: u32) -> bool {
-        let all = 1_u32.wrapping_shl(intervals).wrapping_sub(1);
-        self.passed.load(Ordering::SeqCst) == intervals
-            && self.numbers.load(Ordering::SeqCst) == all
-            && self.made.load(Ordering::SeqCst) == pieces
     }
 }
 
@@ -135,17 +121,15 @@ impl<R: Clock> Gate for Hold<'_, R> {
         if number > 1 && since < self.shortest.load(Ordering::SeqCst) {
             self.shortest.store(since, Ordering::SeqCst);
         }
-        self.passed.fetch_add(1, Ordering::SeqCst);
-        self.numbers
-            .fetch_or(1_u32.wrapping_shl(number), Ordering::SeqCst);
+        self.calls.pass(number);
         if self.millis > 0 {
             thread::sleep(self.rt, Duration::from_millis(self.millis));
         }
         self.released.store(nanos(self.rt), Ordering::SeqCst);
     }
 
-    fn made(&self, _piece: &Piece) {
-        self.made.fetch_add(1, Ordering::SeqCst);
+    fn made(&self, piece: &Piece) {
+        self.calls.made(piece);
     }
 }
 
@@ -172,7 +156,10 @@ fn run_by<R: Threads + Wait + Clock + Sync + AllocGlobal + Abort>(
     let mut out = Tally::of(Vec::new(rt.alloc()));
     let outcome = run(rt, rt.alloc(), &mut input, &mut out, workers, None, &gate);
     let report = outcome.ok().ok_or("a run that failed")?;
-    assert!(rt; gate.is_told(INTERVALS, 0), "a run with {workers} workers");
+    assert!(rt;
+        gate.calls.are_first(INTERVALS, 0),
+        "a run with {workers} workers"
+    );
     let run = Run {
         image: out.into_inner(),
         sound: report.sound,
@@ -242,7 +229,10 @@ fn decoded_by<R: Threads + Wait + Clock + Sync + AllocGlobal + Abort>(
     let gate = Hold::new(rt, 0);
     let shared = Arc::try_clone(scan)?;
     let board = decode_all(rt, rt.alloc(), shared, workers, Some(first), &gate)?;
-    assert!(rt; gate.is_told(first, first), "{workers} workers at a board");
+    assert!(rt;
+        gate.calls.are_first(first, first),
+        "{workers} workers at a board"
+    );
     let mut out = Tally::of(Vec::new(rt.alloc()));
     assert!(rt; write_netpbm(&board, &mut out).is_ok());
     Ok(out.into_inner())

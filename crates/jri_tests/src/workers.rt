@@ -1,61 +1,55 @@
-//! Two workers that meet at a gate.
+//! Several workers at work on one picture, of whom one waits for another: at a gate, or at its first write.
+
+ghost use Rattle.std.specs.Prelude.{◌≤◌};
+ghost use Rattle.jr_base.specs.declared.limits.TheConstants.{MAX_WORKERS};
 
 use crate::decoding::outcome_of;
+use jr_crew::write_scan_by;
+use jr_paint::Tally;
 use jr_wall::{Gate, Piece};
-use std::sync::atomic::{AtomicU64, Ordering};
+use std::io::{Result as IoResult, Write};
+use std::sync::Wait;
+use std::sync::atomic::{AtomicU32, Ordering};
 use std::test::Fail;
-use std::thread;
+use std::thread::Threads;
 use test_files::files::file;
-use test_files::pictures::picture;
+use test_files::scans::scan;
+use test_files::waiting::has_come;
 
-/// How often a call looks at most whether others have come.
-pub(crate) const TURNS: u32 = 10_000_000;
-
-/// Holds each of two intervals, at each of the two calls, until the other interval has come to that call.
+/// Holds the calls for intervals 0 and 1 until both have come: one worker that does all by itself comes to the second only after the
+/// first. If pieces are made it also holds these.
 #[derive(Drop)]
 struct Meeting {
-    passed: [AtomicU64; 2],
-    made: [AtomicU64; 2],
-    /// Calls that used up their turns, of a third interval, or with a damaged piece.
-    wrong: AtomicU64,
+    passed: AtomicU32,
+    made: AtomicU32,
+    /// Calls that waited in vain, and damaged pieces.
+    wrong: AtomicU32,
 }
 
 impl Meeting {
     fn new() -> Meeting {
         Meeting {
-            passed: [AtomicU64::new(0), AtomicU64::new(0)],
-            made: [AtomicU64::new(0), AtomicU64::new(0)],
-            wrong: AtomicU64::new(0),
+            passed: AtomicU32::new(0),
+            made: AtomicU32::new(0),
+            wrong: AtomicU32::new(0),
         }
     }
 
-    fn count_wrong(&self) {
-        self.wrong.fetch_add(1, Ordering::SeqCst);
-    }
-
-    fn hold(&self, calls: &[AtomicU64; 2], number: u32) {
-        let (mine, other) = match number {
-            0 => (&calls[0], &calls[1]),
-            1 => (&calls[1], &calls[0]),
-            _ => return self.count_wrong(),
-        };
-        mine.fetch_add(1, Ordering::SeqCst);
-        for _turn in 0..TURNS {
-            if other.load(Ordering::SeqCst) != 0 {
-                return;
-            }
-            thread::yield_now();
+    /// Waits for the other one of two calls.
+    fn hold(&self, calls: &AtomicU32, number: u32) {
+        if number > 1 {
+            return;
         }
-        self.count_wrong();
+        calls.fetch_add(1, Ordering::SeqCst);
+        if !has_come(calls, 2) {
+            self.wrong.fetch_add(1, Ordering::SeqCst);
+        }
     }
 
-    /// Returns whether each call came once for each interval, in time.
-    fn is_met(&self) -> bool {
-        let once = |calls: &AtomicU64| calls.load(Ordering::SeqCst) == 1;
-        once(&self.passed[0])
-            && once(&self.passed[1])
-            && once(&self.made[0])
-            && once(&self.made[1])
+    /// Returns whether both intervals have passed, in time, and this number of pieces.
+    fn is_met(&self, pieces: u32) -> bool {
+        self.passed.load(Ordering::SeqCst) == 2
+            && self.made.load(Ordering::SeqCst) == pieces
             && self.wrong.load(Ordering::SeqCst) == 0
     }
 }
@@ -67,22 +61,116 @@ impl Gate for Meeting {
 
     fn made(&self, piece: &Piece) {
         if !piece.is_sound() {
-            self.count_wrong();
+            self.wrong.fetch_add(1, Ordering::SeqCst);
         }
         self.hold(&self.made, piece.number());
     }
 }
 
-#[test]
-fn two_workers_meet(rt: HostRuntime) -> Result<(), Fail> {
-    let bytes = file(rt.alloc(), "GI 63 FF D0 63 E")?;
+/// Returns whether the workers of a run meet, at their pieces also if there are any.
+fn meet<R: Threads + Wait + Sync + AllocGlobal>(
+    rt: &R,
+    words: &str,
+    workers: u32,
+    pieces: u32,
+) -> Result<bool, Fail>
+    requires some { 1 ≤ workers }
+    requires few { workers ≤ MAX_WORKERS }
+{
+    let bytes = file(rt.alloc(), words)?;
     let gate = Meeting::new();
     let out = Vec::new(rt.alloc());
-    let (outcome, out) = outcome_of(&rt, bytes.as_slice(), out, 2, None, &gate);
-    let report = outcome.ok().ok_or("a decoding that failed")?;
-    assert!(rt; gate.is_met());
-    assert!(rt; (report.sound, report.damaged, report.blank) == (2, 0, 0));
-    let expected = picture(rt.alloc(), "P5 16 8 : 16*136")?;
-    assert!(rt; out.into_inner().as_slice() == expected.as_slice());
+    let (outcome, _out) = outcome_of(rt, bytes.as_slice(), out, workers, None, &gate);
+    Ok(outcome.is_ok() && gate.is_met(pieces))
+}
+
+/// 129 rows of eight MCUs, each an interval: more than a small picture has.
+const ROWS: &str = "S Q F:0408:0040 D A I:0008 C 63 FF D0 63 E";
+
+#[test]
+fn workers_decode_intervals_at_once(rt: HostRuntime) -> Result<(), Fail> {
+    assert!(rt; meet(&rt, "GI 63 FF D0 63 E", 2, 2)?);
+    assert!(rt; meet(&rt, ROWS, 2, 0)?);
+    assert!(rt; meet(&rt, ROWS, 8, 0)?);
+    let scan = scan(rt.alloc(), ROWS)?;
+    let gate = Meeting::new();
+    let mut out = Tally::of(Vec::new(rt.alloc()));
+    assert!(rt; write_scan_by(&rt, rt.alloc(), &scan, 2, None, &gate, &mut out).is_ok());
+    assert!(rt; gate.is_met(0), "a crew of two");
+    Ok(())
+}
+
+/// The number of intervals that have passed.
+#[derive(Drop)]
+struct Reached {
+    passed: AtomicU32,
+}
+
+impl Gate for Reached {
+    fn pass(&self, _number: u32) {
+        self.passed.fetch_add(1, Ordering::SeqCst);
+    }
+
+    fn made(&self, _piece: &Piece) {}
+}
+
+/// Holds its first write until a number of intervals have passed, or in vain.
+#[derive(Drop)]
+struct Held<'g> {
+    gate: &'g Reached,
+    awaited: u32,
+    /// How many had passed then.
+    seen: Option<u32>,
+}
+
+impl<'g> Write for Held<'g> {
+    fn write(&mut self, bytes: &[u8]) -> IoResult<usize> {
+        if self.seen.is_none() {
+            let _ = has_come(&self.gate.passed, self.awaited);
+            self.seen = Some(self.gate.passed.load(Ordering::SeqCst));
+        }
+        Ok(bytes.len())
+    }
+
+    fn flush(&mut self) -> IoResult<()> {
+        Ok(())
+    }
+}
+
+/// 256 rows of 128 MCUs, of which an interval has one and a half.
+const LONG_ROWS: &str = "S Q F:0800:0400 D A I:00C0 C 63 FF D0 63 E";
+
+/// Returns how many intervals have passed when the first write ends, which waits for a number of them.
+fn seen<R: Threads + Wait + Sync + AllocGlobal>(
+    rt: &R,
+    workers: u32,
+    awaited: u32,
+) -> Result<Option<u32>, Fail>
+    requires some { 1 ≤ workers }
+    requires few { workers ≤ MAX_WORKERS }
+{
+    let scan = scan(rt.alloc(), LONG_ROWS)?;
+    let gate = Reached {
+        passed: AtomicU32::new(0),
+    };
+    let mut out = Tally::of(Held {
+        gate: &gate,
+        awaited,
+        seen: None,
+    });
+    match write_scan_by(rt, rt.alloc(), &scan, workers, None, &gate, &mut out) {
+        Ok(_) => Ok(out.into_inner().seen),
+        Err(_) => Err(Fail::from("it is not written")),
+    }
+}
+
+#[test]
+fn others_read_on_while_the_first_lines_are_written(rt: HostRuntime) -> Result<(), Fail> {
+    let alone = seen(&rt, 1, 0)?.ok_or("one worker writes nothing")?;
+    for (workers, more) in [(2, 1), (3, 1), (8, 4)] {
+        let awaited = alone.wrapping_add(more);
+        let reached = seen(&rt, workers, awaited)?;
+        assert!(rt; reached >= Some(awaited), "{workers} workers");
+    }
     Ok(())
 }

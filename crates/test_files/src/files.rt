@@ -63,10 +63,8 @@ pub const TEN: &str =
 pub const MIXED: &str =
     "GW 63 FF D0 E0 FF D1 63 FF D2 63 63 FF D3 E0 FF D4 63 FF D5 FF D6 63 FF D7 E0 FF D0 63 E";
 
-/// Two intervals of three components; the same where the second has no decoding.
+/// Two intervals of three components.
 pub const COLOURED: &str = "S Q F3:0009:0011:22 D:00:03:06 A I C3 00 01 48 FF D0 60 00 07 E";
-
-pub const COLOURED_DAMAGED: &str = "S Q F3:0009:0011:22 D:00:03:06 A I C3 00 01 48 FF D0 E0 E";
 
 /// One interval of 1056 MCUs: twelve, each 8 lighter than the one before, then twelve, each 8 darker, and so on.
 pub const LONG: &str = "S Q F:0108:0100 D A C 44*618618618618618618596596596596596596 E";

@@ -1,7 +1,8 @@
-//! Files for tests, in a short notation, their scans, and pictures in a notation.
+//! Files for tests, in a short notation, their scans, pictures in a notation, and waiting.
 #![tactic(auto)]
 
 pub mod error;
 pub mod files;
 pub mod pictures;
 pub mod scans;
+pub mod waiting;

@@ -1,6 +1,5 @@
 //! A parser written from the definitions, bit by bit and byte by byte, beside the reader.
 
-use super::front_of;
 use crate::plain::{number, value, word};
 use jr_scan::{Block, Interval, Scan, ScanEnd};
 use std::alloc::Global;
@@ -204,7 +203,7 @@ fn check_interval(
 ) -> Result<(), Fail> {
     assert!(rt; interval.bytes() == bytes);
     let (blocks, is_sound) = front(alloc, picture, bytes)?;
-    let read = front_of(alloc, interval)?;
+    let read = interval.read_front(alloc)?;
     assert!(rt; read.blocks() == blocks.as_slice());
     assert!(rt; read.is_sound() == is_sound);
     assert!(rt; (read.mcus() as usize).checked_mul(picture.order.len()) == Some(blocks.len()));

@@ -3,9 +3,7 @@
 ghost use Rattle.std.specs.Prelude.{◌≡◌};
 
 use crate::wall::shown::piece;
-use crate::wall::views::{
-    Content, content_of, contents_now, contents_of, is_kept, look, watch_twice,
-};
+use crate::wall::views::{Content, contents_now, contents_of, is_kept, watch_twice};
 use jr_cells::{Cells, Sight};
 use jr_piece::Piece;
 use std::alloc::Global;
@@ -39,11 +37,6 @@ fn pieces_of(alloc: Global, words: &str) -> Result<Vec<Arc<Piece>>, Fail> {
         pieces.push(piece(alloc, &scan, i)?)?;
     }
     Ok(pieces)
-}
-
-/// Returns the last piece of a file.
-fn last_piece_of(alloc: Global, words: &str) -> Result<Arc<Piece>, Fail> {
-    Ok(pieces_of(alloc, words)?.pop().ok_or("ten pieces")?)
 }
 
 /// Hangs a piece into the cell of its number.
@@ -103,52 +96,6 @@ fn pieces_of_another_thread_are_found(rt: HostRuntime) -> Result<(), Fail> {
     let (count, ()) = thread::join(&rt, move || hang_all(shared, pieces), || ());
     assert!(rt; count == 10);
     assert!(rt; contents_now(&cells)? == contents_of(&RISING_GREYS));
-    Ok(())
-}
-
-/// What comes back where a piece is hung, and whether it is this very piece; none where its cell takes it.
-fn back_of(
-    cells: &Cells,
-    piece: Arc<Piece>,
-    sight: &mut Sight,
-) -> Result<Option<(Content, bool)>, Fail>
-    requires { sight.old.cells ≡ cells.now }
-    ensures { sight.new.cells ≡ sight.old.cells }
-{
-    let kept = Arc::try_clone(&piece)?;
-    let Err(back) = hang(cells, piece, sight) else {
-        return Ok(None);
-    };
-    let content = content_of(&back).ok_or("a data unit")?;
-    Ok(Some((content, Arc::strong_count(&kept) == 2)))
-}
-
-#[test]
-fn a_full_cell_gives_the_second_piece_back(rt: HostRuntime) -> Result<(), Fail> {
-    let cells = Cells::open(rt.alloc(), 10)?;
-    let mut sight = cells.sight()?;
-    assert!(rt; hang(&cells, last_piece_of(rt.alloc(), RISING)?, &mut sight).is_ok());
-    let back = back_of(&cells, last_piece_of(rt.alloc(), FALLING)?, &mut sight)?;
-    assert!(rt; back == Some(((9, true, [114; 64]), true)));
-    assert!(rt; look(&cells, 9, &mut sight) == Some((9, true, [160; 64])));
-    Ok(())
-}
-
-#[test]
-fn an_empty_cell_is_empty_until_a_piece_is_hung(rt: HostRuntime) -> Result<(), Fail> {
-    let cells = Cells::open(rt.alloc(), 10)?;
-    assert!(rt; cells.count() == 10);
-    let mut one = cells.sight()?;
-    let mut two = cells.sight()?;
-    let last = last_piece_of(rt.alloc(), RISING)?;
-    assert!(rt; look(&cells, 9, &mut one).is_none());
-    assert!(rt; look(&cells, 9, &mut one).is_none());
-    assert!(rt; hang(&cells, last, &mut two).is_ok());
-    assert!(rt; look(&cells, 9, &mut one) == Some((9, true, [160; 64])));
-    assert!(rt; look(&cells, 9, &mut two) == Some((9, true, [160; 64])));
-    assert!(rt; look(&cells, 8, &mut one).is_none());
-    cells.agree(&mut one, &mut two);
-    assert!(rt; Cells::open(rt.alloc(), 0)?.count() == 0);
     Ok(())
 }
 

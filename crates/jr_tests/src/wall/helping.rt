@@ -7,8 +7,9 @@ use std::test::Fail;
 use std::thread;
 use test_files::files::TWO_LONG;
 use test_files::scans::scan;
+use test_files::waiting::has_come;
 
-/// How often somebody looks at most whether what it waits for has come.
+/// How often a viewer looks at most.
 const TURNS: u32 = 10_000_000;
 
 /// Holds the worker that has claimed interval 0, before it decodes any of it, until a strip of that interval is seen: which
@@ -20,17 +21,6 @@ struct Held {
 }
 
 impl Held {
-    /// Waits until a strip is seen.
-    fn hold(&self) {
-        for _turn in 0..TURNS {
-            if self.seen.load(Ordering::SeqCst) > 0 {
-                return;
-            }
-            thread::yield_now();
-        }
-        self.vain.fetch_add(1, Ordering::SeqCst);
-    }
-
     /// Looks for the first strip of interval 0 until it is there; whether it came.
     fn watch(&self, decoding: &Decoding) -> bool {
         let Some(strips) = decoding.strips(0) else {
@@ -52,8 +42,8 @@ impl Held {
 
 impl Gate for Held {
     fn pass(&self, number: u32) {
-        if number == 0 {
-            self.hold();
+        if number == 0 && !has_come(&self.seen, 1) {
+            self.vain.fetch_add(1, Ordering::SeqCst);
         }
     }
 

@@ -7,10 +7,7 @@ ghost use Rattle.jr_paint.specs.Geometry.{samples_across, samples_down};
 use jr_head::Head;
 use jr_paint::Samples;
 use jr_scan::Scan;
-use jr_wall::{
-    Board, Cells, CodedStrip, Decoding, Glimpse, Mark, OpenGate, Piece, Seat, Strip, StripReader,
-    decode_all, glance,
-};
+use jr_wall::{Board, Cells, Decoding, Glimpse, Mark, OpenGate, Piece, Seat, decode_all, glance};
 use std::alloc::Global;
 use std::sync::{Arc, Mutex, Wait};
 use std::test::Fail;
@@ -24,24 +21,6 @@ pub(crate) fn piece(alloc: Global, scan: &Scan, number: u32) -> Result<Arc<Piece
     let interval = scan.interval(number)?;
     let piece = Piece::make(alloc, interval).ok().ok_or("no memory")?;
     Ok(Arc::new(alloc, piece)?)
-}
-
-/// Returns whether the piece shows one value at a data unit.
-pub(crate) fn is_flat(piece: &Piece, k: u32, value: u8) -> bool {
-    piece.block(k) == Some(&[value; 64])
-}
-
-/// What a reader gives of an interval: a strip of so many MCUs at most.
-pub(crate) fn next_strip(
-    alloc: Global,
-    reader: &mut StripReader,
-    most: u32,
-) -> Result<Option<CodedStrip>, Fail> {
-    Ok(reader.next(alloc, most)?)
-}
-
-pub(crate) fn decoded(alloc: Global, coded: &CodedStrip) -> Result<Strip, Fail> {
-    Ok(coded.decode(alloc)?)
 }
 
 /// Returns the board of a scan's first intervals, or of all, by so many workers.
@@ -129,15 +108,6 @@ fn has_sample(head: &Head, c: u32, x: u32, y: u32) -> bool
     x < across && y < down
 }
 
-/// Returns the sample of the first component in column x and line y; none outside the picture.
-fn sample_at(board: &Board, x: u32, y: u32) -> Option<u8> {
-    if has_sample(board.head(), 0, x, y) {
-        Some(board.sample(0, x, y))
-    } else {
-        None
-    }
-}
-
 /// Returns a look at the sample of component c in column x and line y; none outside the picture.
 pub(crate) fn look(board: &Board, c: u32, x: u32, y: u32) -> Option<Glimpse> {
     if has_sample(board.head(), c, x, y) {
@@ -161,16 +131,4 @@ pub(crate) fn glimpse<R: Wait>(
     } else {
         None
     }
-}
-
-/// Returns whether the 8 by 8 samples from column x on have one value.
-pub(crate) fn shows(board: &Board, x: u32, value: u8) -> bool {
-    for y in 0..8 {
-        for column in 0..8 {
-            if sample_at(board, x.saturating_add(column), y) != Some(value) {
-                return false;
-            }
-        }
-    }
-    true
 }

@@ -19,13 +19,13 @@ pub(crate) fn contents_of(greys: &[u8; 10]) -> [Option<Content>; 10] {
     contents
 }
 
-pub(crate) fn content_of(piece: &Piece) -> Option<Content> {
+fn content_of(piece: &Piece) -> Option<Content> {
     let samples = piece.block(0)?;
     Some((piece.number(), piece.is_sound(), *samples))
 }
 
 /// Looks into the cell of a number; none also where there is no such cell.
-pub(crate) fn look(cells: &Cells, number: u32, sight: &mut Sight) -> Option<Content>
+fn look(cells: &Cells, number: u32, sight: &mut Sight) -> Option<Content>
     requires { sight.old.cells ≡ cells.now }
     ensures { sight.new.cells ≡ sight.old.cells }
 {

@@ -1,22 +1,33 @@
 //! What a screen is told while workers decode.
 
-use crate::wall::seen_views::{show_piece, show_strip, shows_all, view_of};
+use jr_paint::{Samples, Tally, write_netpbm};
 use jr_scan::Scan;
 use jr_view::{Screen, View, watch};
-use jr_wall::{Gate, OpenGate, Piece, Strip};
+use jr_wall::{Gate, Piece, Strip, decode_alone};
 use std::alloc::Global;
 use std::process::Abort;
 use std::sync::atomic::{AtomicU32, Ordering};
 use std::sync::{Arc, Wait};
 use std::test::Fail;
-use std::thread;
 use std::thread::Threads;
 use std::time::Clock;
 use test_files::files::{LONG, MIXED, TEN, TWO_LONG};
 use test_files::scans::scan;
+use test_files::waiting::has_come;
 
-/// How often somebody looks at most whether what it waits for has come.
-const TURNS: u32 = 10_000_000;
+/// Returns the text of a picture.
+fn text_of<S: Samples>(alloc: Global, picture: &S) -> Result<Vec<u8>, Fail> {
+    let mut text = Tally::of(Vec::new(alloc));
+    write_netpbm(picture, &mut text).ok().ok_or("no memory")?;
+    Ok(text.into_inner())
+}
+
+/// Returns whether a view shows what a board of all intervals does, and all rows of MCUs.
+fn shows_all(alloc: Global, view: &View, scan: &Arc<Scan>) -> Result<bool, Fail> {
+    let board = decode_alone(alloc, scan, None)?;
+    let is_same = text_of(alloc, view)?.as_slice() == text_of(alloc, &board)?.as_slice();
+    Ok(is_same && view.rows() == view.mcu_rows())
+}
 
 /// What a screen was told, for a gate that waits for it.
 #[derive(Drop)]
@@ -42,15 +53,11 @@ impl Counts {
         counter.load(Ordering::SeqCst)
     }
 
-    /// Waits until a counter stands at so many.
-    fn wait_for(&self, counter: &AtomicU32, count: u32) {
-        for _turn in 0..TURNS {
-            if Counts::of(counter) >= count {
-                return;
-            }
-            thread::yield_now();
+    /// Waits until a counter has reached a number.
+    fn wait_for(&self, counter: &AtomicU32, number: u32) {
+        if !has_come(counter, number) {
+            self.vain.fetch_add(1, Ordering::SeqCst);
         }
-        self.vain.fetch_add(1, Ordering::SeqCst);
     }
 }
 
@@ -59,7 +66,6 @@ impl Counts {
 struct Told<'a> {
     view: View,
     counts: &'a Counts,
-    strips: u32,
     pieces: u32,
     /// Whether a strip came behind the piece of the one interval.
     is_late: bool,
@@ -75,9 +81,8 @@ impl<'a> Told<'a> {
         is_lazy: bool,
     ) -> Result<Told<'a>, Fail> {
         Ok(Told {
-            view: view_of(alloc, scan)?,
+            view: View::of(alloc, scan)?,
             counts,
-            strips: 0,
             pieces: 0,
             is_late: false,
             is_lazy,
@@ -87,14 +92,13 @@ impl<'a> Told<'a> {
 
 impl<'a> Screen for Told<'a> {
     fn show_strip(&mut self, strip: &Strip) {
-        show_strip(&mut self.view, strip);
-        self.strips = self.strips.saturating_add(1);
+        self.view.show_strip(strip);
         self.is_late = self.is_late || self.pieces > 0;
         self.counts.mcus.fetch_add(strip.mcus(), Ordering::SeqCst);
     }
 
     fn show_piece(&mut self, piece: &Piece) {
-        show_piece(&mut self.view, piece);
+        self.view.show_piece(piece);
         self.pieces = self.pieces.saturating_add(1);
     }
 
@@ -104,119 +108,100 @@ impl<'a> Screen for Told<'a> {
     }
 }
 
-/// Lets each worker decode at once.
-#[derive(Drop)]
-struct Meeting<'a> {
-    counts: &'a Counts,
+/// What a gate waits for: that this number of intervals are claimed before one is decoded, and that the screen was told strips of
+/// this number of MCUs, and was asked this often, before a piece is shown.
+#[derive(Clone, Copy)]
+struct Awaited {
+    claims: u32,
+    mcus: u32,
+    asked: u32,
 }
 
-impl<'a> Gate for Meeting<'a> {
-    /// Waits until two workers have claimed an interval.
+const NOTHING: Awaited = Awaited {
+    claims: 0,
+    mcus: 0,
+    asked: 0,
+};
+
+#[derive(Drop)]
+struct Held<'a> {
+    counts: &'a Counts,
+    awaited: Awaited,
+}
+
+impl<'a> Gate for Held<'a> {
     fn pass(&self, _number: u32) {
         self.counts.claims.fetch_add(1, Ordering::SeqCst);
-        self.counts.wait_for(&self.counts.claims, 2);
+        self.counts
+            .wait_for(&self.counts.claims, self.awaited.claims);
     }
 
-    fn made(&self, _piece: &Piece) {}
-}
-
-/// Holds each piece until the screen was told strips of so many MCUs, and was asked.
-#[derive(Drop)]
-struct HeldPieces<'a> {
-    counts: &'a Counts,
-    mcus: u32,
-}
-
-impl<'a> Gate for HeldPieces<'a> {
-    fn pass(&self, _number: u32) {}
-
     fn made(&self, _piece: &Piece) {
-        self.counts.wait_for(&self.counts.mcus, self.mcus);
-        self.counts.wait_for(&self.counts.asked, 1);
+        self.counts.wait_for(&self.counts.mcus, self.awaited.mcus);
+        self.counts.wait_for(&self.counts.asked, self.awaited.asked);
     }
 }
 
 /// How many intervals are blank behind a decoding that is watched.
-fn blank_behind<R: Threads + Wait + Clock + Sync + AllocGlobal, G: Gate + Sync>(
+fn blank_behind<R: Threads + Wait + Clock + Sync + AllocGlobal>(
     rt: &R,
     scan: &Arc<Scan>,
-    gate: &G,
+    gate: &Held<'_>,
     told: &mut Told<'_>,
 ) -> Result<u32, Fail> {
     let decoding = watch(rt, rt.alloc(), Arc::try_clone(scan)?, 2, gate, told)?;
     Ok(decoding.finish()?.blank())
 }
 
-/// Watches a file, and finds that the screen was told of each piece, and shows all; that it was asked so often at least.
-fn check_told<R: Threads + Wait + Clock + Sync + AllocGlobal + Abort, G: Gate + Sync>(
+/// Watches a file, and checks that the screen was told of each piece, and shows all; that it was asked at least twice.
+fn check_told<R: Threads + Wait + Clock + Sync + AllocGlobal + Abort>(
     rt: &R,
-    scan: &Arc<Scan>,
-    gate: &G,
-    told: &mut Told<'_>,
-    asked: u32,
+    words: &str,
+    is_lazy: bool,
+    awaited: Awaited,
 ) -> Result<(), Fail> {
-    assert!(rt; blank_behind(rt, scan, gate, told)? == 0);
-    assert!(rt; told.pieces == scan.intervals());
-    assert!(rt; shows_all(rt.alloc(), &told.view, scan)?);
-    assert!(rt; Counts::of(&told.counts.asked) >= asked);
-    assert!(rt; Counts::of(&told.counts.vain) == 0);
+    let scan = scan(rt.alloc(), words)?;
+    let counts = Counts::new();
+    let gate = Held {
+        counts: &counts,
+        awaited,
+    };
+    let mut told = Told::of(rt.alloc(), &scan, &counts, is_lazy)?;
+    assert!(rt; blank_behind(rt, &scan, &gate, &mut told)? == 0);
+    assert!(rt; told.pieces == scan.intervals() && told.view.has_seen(0));
+    assert!(rt; shows_all(rt.alloc(), &told.view, &scan)?);
+    let asked = Counts::of(&counts.asked);
+    assert!(rt; asked == 2 || asked > 2 && !is_lazy);
+    let is_held = awaited.mcus > 0;
+    assert!(rt; !is_held || Counts::of(&counts.mcus) == awaited.mcus && !told.is_late);
+    assert!(rt; Counts::of(&counts.vain) == 0);
     Ok(())
 }
 
 #[test]
 fn tells_of_each_piece_with_and_without_strips(rt: HostRuntime) -> Result<(), Fail> {
     for words in [TEN, MIXED, LONG, TWO_LONG] {
-        let scan = scan(rt.alloc(), words)?;
-        let counts = Counts::new();
-        let mut told = Told::of(rt.alloc(), &scan, &counts, false)?;
-        check_told(&rt, &scan, &OpenGate, &mut told, 2)?;
+        check_told(&rt, words, false, NOTHING)?;
     }
-    Ok(())
-}
-
-#[test]
-fn tells_of_all_strips_before_a_piece_that_is_held(rt: HostRuntime) -> Result<(), Fail> {
-    let scan = scan(rt.alloc(), LONG)?;
-    let counts = Counts::new();
-    let gate = HeldPieces {
-        counts: &counts,
-        mcus: 1056,
-    };
-    let mut told = Told::of(rt.alloc(), &scan, &counts, false)?;
-    check_told(&rt, &scan, &gate, &mut told, 2)?;
-    assert!(rt; Counts::of(&counts.mcus) == 1056 && !told.is_late);
-    Ok(())
-}
-
-#[test]
-fn looks_while_a_short_piece_is_held(rt: HostRuntime) -> Result<(), Fail> {
-    let scan = scan(rt.alloc(), TEN)?;
-    let counts = Counts::new();
-    let gate = HeldPieces {
-        counts: &counts,
-        mcus: 0,
-    };
-    let mut told = Told::of(rt.alloc(), &scan, &counts, false)?;
-    check_told(&rt, &scan, &gate, &mut told, 2)
-}
-
-#[test]
-fn tells_a_screen_that_is_done_at_once_of_all(rt: HostRuntime) -> Result<(), Fail> {
     for words in [TEN, LONG] {
-        let scan = scan(rt.alloc(), words)?;
-        let counts = Counts::new();
-        let mut told = Told::of(rt.alloc(), &scan, &counts, true)?;
-        check_told(&rt, &scan, &OpenGate, &mut told, 2)?;
-        assert!(rt; Counts::of(&counts.asked) == 2);
+        check_told(&rt, words, true, NOTHING)?;
     }
     Ok(())
 }
 
 #[test]
-fn two_workers_meet_while_it_looks(rt: HostRuntime) -> Result<(), Fail> {
-    let scan = scan(rt.alloc(), MIXED)?;
-    let counts = Counts::new();
-    let gate = Meeting { counts: &counts };
-    let mut told = Told::of(rt.alloc(), &scan, &counts, false)?;
-    check_told(&rt, &scan, &gate, &mut told, 2)
+fn tells_what_is_there_while_workers_are_held(rt: HostRuntime) -> Result<(), Fail> {
+    let strips = Awaited {
+        claims: 0,
+        mcus: 1056,
+        asked: 1,
+    };
+    check_told(&rt, LONG, false, strips)?;
+    let asked = Awaited { mcus: 0, ..strips };
+    check_told(&rt, TEN, false, asked)?;
+    let two_workers = Awaited {
+        claims: 2,
+        ..NOTHING
+    };
+    check_told(&rt, MIXED, false, two_workers)
 }

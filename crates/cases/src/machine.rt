@@ -95,11 +95,11 @@ fn copied(alloc: Global, bytes: &Bytes) -> Result<Vec<u8>, AllocError> {
 }
 
 impl Machine {
-    /// With these bytes on standard input, an empty folder, and no terminal.
-    pub(crate) fn new(alloc: Global, input: &[u8]) -> Result<Self, AllocError> {
+    /// With nothing on standard input, an empty folder, and no terminal.
+    pub(crate) fn new(alloc: Global) -> Result<Self, AllocError> {
         Ok(Machine {
             alloc,
-            input: shared(alloc, input)?,
+            input: shared(alloc, &[])?,
             output: shared(alloc, &[])?,
             files: Vec::new(alloc),
             has_input_terminal: false,
@@ -124,6 +124,13 @@ impl Machine {
             is_device,
         };
         self.files.push(named)?;
+        Ok(())
+    }
+
+    /// Gives standard input the content of a file.
+    pub(crate) fn read_from(&mut self, name: &str) -> Result<(), AllocError> {
+        let bytes = self.kept(name)?.ok_or(AllocError)?;
+        self.input = shared(self.alloc, bytes.as_slice())?;
         Ok(())
     }
 

@@ -1,0 +1,165 @@
+//! A gate is told each interval that is decoded, once, by one worker in their order, and of each piece that is made.
+
+use crate::decoding::outcome_of;
+use jr_crew::write_scan_by;
+use jr_paint::Tally;
+use jr_rows::write_scan;
+use jr_wall::{Gate, Piece, decode_all};
+use std::process::Abort;
+use std::sync::Wait;
+use std::sync::atomic::{AtomicU32, Ordering};
+use std::test::Fail;
+use std::thread::Threads;
+use test_files::files::{COLOURED, LONG, MIXED, TEN, file};
+use test_files::scans::scan;
+
+/// The calls of a gate.
+#[derive(Drop)]
+pub(crate) struct Calls {
+    passed: AtomicU32,
+    /// A bit for each of the first 32 intervals that have passed.
+    numbers: AtomicU32,
+    /// The number of intervals that passed out of their order.
+    unordered: AtomicU32,
+    /// The number of pieces, and of their MCUs.
+    pieces: AtomicU32,
+    mcus: AtomicU32,
+}
+
+impl Calls {
+    pub(crate) fn new() -> Calls {
+        Calls {
+            passed: AtomicU32::new(0),
+            numbers: AtomicU32::new(0),
+            unordered: AtomicU32::new(0),
+            pieces: AtomicU32::new(0),
+            mcus: AtomicU32::new(0),
+        }
+    }
+
+    /// Returns whether just the first intervals passed, once, and this number of pieces was made.
+    pub(crate) fn are_first(&self, number: u32, pieces: u32) -> bool {
+        let all = 1_u32.wrapping_shl(number).wrapping_sub(1);
+        self.passed.load(Ordering::SeqCst) == number
+            && self.numbers.load(Ordering::SeqCst) == all
+            && self.pieces.load(Ordering::SeqCst) == pieces
+    }
+
+    /// Returns whether the first intervals passed in their order, and no piece was made.
+    fn are_in_order(&self, number: u32) -> bool {
+        self.are_first(number, 0) && self.unordered.load(Ordering::SeqCst) == 0
+    }
+}
+
+impl Gate for Calls {
+    fn pass(&self, number: u32) {
+        if self.passed.fetch_add(1, Ordering::SeqCst) != number {
+            self.unordered.fetch_add(1, Ordering::SeqCst);
+        }
+        self.numbers
+            .fetch_or(1_u32.wrapping_shl(number), Ordering::SeqCst);
+    }
+
+    fn made(&self, piece: &Piece) {
+        self.pieces.fetch_add(1, Ordering::SeqCst);
+        self.mcus.fetch_add(piece.front(), Ordering::SeqCst);
+    }
+}
+
+/// Checks the calls of `write_scan` with one worker, and of `write_scan_by` with three.
+fn check_scan<R: Threads + Wait + Sync + AllocGlobal + Abort>(
+    rt: &R,
+    words: &str,
+    first: Option<u32>,
+    passed: u32,
+) -> Result<(), Fail> {
+    let scan = scan(rt.alloc(), words)?;
+    let (alone, several) = (Calls::new(), Calls::new());
+    let mut out = Tally::of(Vec::new(rt.alloc()));
+    assert!(rt; write_scan(rt.alloc(), &scan, first, &alone, &mut out).is_ok());
+    assert!(rt; alone.are_in_order(passed), "{words} by write_scan");
+    let mut out = Tally::of(Vec::new(rt.alloc()));
+    assert!(rt; write_scan_by(rt, rt.alloc(), &scan, 3, first, &several, &mut out).is_ok());
+    assert!(rt; several.are_first(passed, 0), "{words} by write_scan_by");
+    Ok(())
+}
+
+/// Returns the calls of `run`, with one worker or two.
+fn calls_of_run<R: Threads + Wait + Sync + AllocGlobal>(
+    rt: &R,
+    words: &str,
+    is_alone: bool,
+    first: Option<u32>,
+) -> Result<Calls, Fail> {
+    let calls = Calls::new();
+    let bytes = file(rt.alloc(), words)?;
+    let out = Vec::new(rt.alloc());
+    let workers = if is_alone { 1 } else { 2 };
+    let (outcome, _out) = outcome_of(rt, bytes.as_slice(), out, workers, first, &calls);
+    outcome.ok().ok_or("a run that failed")?;
+    Ok(calls)
+}
+
+/// Files, how many first intervals are decoded, and how many of them pass.
+const PASSING: [(&str, Option<u32>, u32); 11] = [
+    (TEN, None, 10),
+    (TEN, Some(0), 0),
+    (TEN, Some(1), 1),
+    (TEN, Some(4), 4),
+    (TEN, Some(4_294_967_295), 10),
+    (MIXED, None, 10),
+    (MIXED, Some(7), 7),
+    (COLOURED, None, 2),
+    (COLOURED, Some(1), 1),
+    ("G 63 E", None, 1),
+    ("G 63 E", Some(0), 0),
+];
+
+#[test]
+fn tells_a_gate_each_of_the_first_intervals_once(rt: HostRuntime) -> Result<(), Fail> {
+    for (words, first, passed) in &PASSING {
+        check_scan(&rt, words, *first, *passed)?;
+        let calls = calls_of_run(&rt, words, true, *first)?;
+        assert!(rt; calls.are_in_order(*passed), "{words} by run");
+    }
+    Ok(())
+}
+
+/// Pictures of 1024 MCUs, one below the other, each an interval; of one more; and of 129 rows of eight. Two workers decode the small
+/// one into pieces; a larger one they do not, however narrow it is and whatever its head claims.
+const PIECES: [(&str, u32, u32); 3] = [
+    ("S Q F:2000:0008 D A I C 63 E", 1024, 1024),
+    ("S Q F:2008:0008 D A I C 63 E", 1025, 0),
+    ("S Q F:0408:0040 D A I C 63 E", 1032, 0),
+];
+
+#[test]
+fn makes_pieces_of_small_pictures_alone(rt: HostRuntime) -> Result<(), Fail> {
+    for (words, passed, pieces) in &PIECES {
+        let calls = calls_of_run(&rt, words, false, None)?;
+        assert!(rt; calls.passed.load(Ordering::SeqCst) == *passed, "{words}");
+        assert!(rt; calls.pieces.load(Ordering::SeqCst) == *pieces, "{words}");
+    }
+    Ok(())
+}
+
+/// An interval that all workers share, strip by strip, passes once, and has one piece.
+#[test]
+fn tells_a_gate_a_long_interval_once(rt: HostRuntime) -> Result<(), Fail> {
+    for workers in [1, 2, 4] {
+        let calls = Calls::new();
+        let scan = scan(rt.alloc(), LONG)?;
+        let board = decode_all(&rt, rt.alloc(), scan, workers, None, &calls)?;
+        let counts = (board.sound(), calls.passed.load(Ordering::SeqCst));
+        assert!(rt; counts == (1, 1), "{workers} workers");
+        assert!(rt;
+            calls.pieces.load(Ordering::SeqCst) == 1,
+            "{workers} workers"
+        );
+        assert!(rt;
+            calls.mcus.load(Ordering::SeqCst) == 1056,
+            "{workers} workers"
+        );
+    }
+    Ok(())
+}
