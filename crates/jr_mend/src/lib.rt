@@ -4,6 +4,7 @@
 #![tactic(auto)]
 
 mod breaks;
+mod buffers;
 mod choice;
 mod file_copy;
 mod following;
@@ -20,6 +21,7 @@ mod soundness;
 mod splice;
 
 pub use breaks::Break;
+pub use buffers::DataBuffers;
 pub use choice::{Choice, MAX_COPIES, choose};
 pub use file_copy::FileCopy;
 pub use headers::under_header;
