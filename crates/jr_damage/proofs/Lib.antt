@@ -3,3 +3,5 @@ pub mod NextSegments
 mod Verdicts
 pub mod FoundBytes
 pub mod Doubts
+pub mod Examined
+pub mod EachFile

@@ -21,5 +21,5 @@ pub use doubtful::{DoubtfulMcu, first_doubtful};
 pub use laws::one_count;
 pub use lines::{Lines, McuRange, lines_of, mcus_of};
 pub use map::{DamagedInterval, damaged_interval};
-pub use segments::{CodedSpan, Segment, segment_at};
+pub use segments::{CodedSpan, Segment, segment_at, unstuff_at};
 pub use verdict::{Verdict, check_scan};

@@ -1,11 +1,12 @@
 //! The positions of the coded bytes of a scan's intervals in its file.
 
-ghost use Rattle.std.specs.Prelude.{◌≡◌, ◌<◌, ◌≤◌, ◌+◌, ◌⊎◌, ℕ, List, length, drop};
+ghost use Rattle.std.specs.Prelude.{◌≡◌, ◌<◌, ◌≤◌, ◌+◌, ◌-◌, ◌⊎◌, ℕ, List, length, drop, take};
+ghost use Rattle.std.specs.Vec.{vec_capacity};
 ghost use Rattle.jr_cut.specs.Cut.{IsStop};
 ghost use Rattle.jr_scan.specs.ScanValue.{ScanValue, intervals_of};
 ghost use Rattle.jr_damage.specs.Coded.{EndsAfter, GoesOnAfter, IsNextAt, IsSegmentOf, IsSpelledAt};
 
-use jr_cut::{Stop, fill_count, segment_length, stop_at};
+use jr_cut::{Stop, fill_count, segment_length, stop_at, unstuff_segment};
 
 /// The bytes of a file from one offset up to another: those that code an interval, with their stuffing and without the
 /// markers before and after them.
@@ -56,4 +57,16 @@ pub fn segment_at(file: &[u8], at: usize, k: u32, intervals: u32) -> Segment
         bytes: CodedSpan { start: at, end },
         next: next_at(file, end, k, intervals),
     }
+}
+
+/// Writes the data of the segment at `span` into the first bytes of `buffer`, whose capacity suffices, and returns their number.
+pub fn unstuff_at(file: &[u8], span: CodedSpan, buffer: &mut Vec<u8>) -> usize
+    requires spelled { (bytes : List ℕ) × IsSpelledAt file.now span bytes }
+    requires capacity { length file.now - span.start < vec_capacity buffer.old }
+    ensures data { (bytes : List ℕ) → IsSpelledAt file.now span bytes → take result buffer.new.items ≡ bytes }
+    ensures few { result ≤ length file.now }
+    ensures within { result ≤ length buffer.new.items }
+    ensures capacity { vec_capacity buffer.old ≤ vec_capacity buffer.new }
+{
+    unstuff_segment(&file[span.start..span.end], buffer)
 }

@@ -1,15 +1,20 @@
 -- The choice among some versions of an interval and one more.
-use Rattle.std.proofs.Common.{◌≡◌, ◌≢◌, ℕ, ◌+◌, ◌<◌, ◌≤◌, inl, inr, Bool, true, false, Option, Some, None, OnSome, IfSome, IfNone, List, [], ◌∷◌, ◌++◌, length, map, take, get_or, refl, sym, ap, subst, ◌∙◌, append_assoc, length-append, arith}
+use Rattle.std.proofs.Common.{◌≡◌, ◌≢◌, ℕ, ◌+◌, ◌<◌, ◌≤◌, inl, inr, Bool, true, false, Option, Some, None, OnSome, IfSome, IfNone, List, [], ◌∷◌, ◌++◌, length, map, take, slice_range, get_or, refl, sym, ap, subst, ◌∙◌, append_assoc, length-append, arith}
 use Rattle.std.proofs.lemmas.List.{get_or-take, length-map, length-take, length-take-le, map_more}
 use Rattle.std.proofs.Math.ListN.{get_or-map}
 use Rattle.std.proofs.Math.Seq.{get_or-append_seam, take-length}
 use Rattle.std.specs.List.{All, Contains}
 use Rattle.std.proofs.lemmas.List.Elements.{All-append, All-cons, All-contains, All-nil, All-push, All-weaker, Contains-append_left, Contains-append_right, Contains-push, Contains-push_cases}
+use Rattle.jr_cut.proofs.Spellings.{same_found}
+use Rattle.jr_cut.specs.Cut.{IsRaw}
+use Rattle.jr_damage.specs.Coded.{IsSegmentOf}
+use Rattle.jr_damage.specs.declared.segments.CodedSpan.{CodedSpan}
 use Rattle.jr_scan.specs.IntervalValue.{IntervalValue}
 use Rattle.jr_scan.specs.Mcus.{HasDecoding, HasNoDecoding, HasLongestFront}
 use Rattle.jr_mend.specs.declared.choice.Choice.{Choice}
 use Rattle.jr_mend.specs.Choice.{Differ, HasAtMost, HasFewer, IsBest, IsChoice, IsChoiceOf, Split, TellsDiffer}
 use Rattle.jr_mend.specs.Copies.{CopyValue, version_of, versions_of}
+use Rattle.jr_mend.proofs.ScanOfCopies.{same_interval}
 
 -- one version is its own choice
 abbrev pub one_split : (v : IntervalValue) → Split (v ∷ []) v 0
@@ -247,6 +252,24 @@ module _ (vs : List IntervalValue) (chosen next : IntervalValue) (b : Choice) (i
               differs = tells_more vs next b.differs is.differs (differ_before vs next none);
             };
           }
+
+  -- the chosen one once more
+  stays_itself_by : (front : Option ℕ) → b.front ≡ front → chosen ≡ next → IsChoice (vs ++ next ∷ []) b
+  stays_itself_by None sound same = stays_same sound (ap (λ (v : IntervalValue). v.bytes) same)
+  stays_itself_by (Some m) damaged same =
+      let none = All-contains HasNoDecoding vs chosen (all_damaged m damaged) (has_chosen vs chosen b.copy is.split) in
+      let has = (longest m damaged).1 in
+      stays_longest m damaged m (subst HasNoDecoding same none) (subst (λ (v : IntervalValue). HasLongestFront v m) same has) (omega arith)
+
+  pub stays_itself : chosen ≡ next → IsChoice (vs ++ next ∷ []) b
+  stays_itself same = stays_itself_by b.front refl same
+
+-- copies with one header and equal bytes have one version
+pub same_version : (one other : CopyValue) (i : ℕ) (its span : CodedSpan) → slice_range one.file its.start its.end ≡ slice_range other.file span.start span.end → one.scan.head ≡ other.scan.head
+    → IsSegmentOf one.file one.scan i its → IsSegmentOf other.file other.scan i span → version_of i one ≡ version_of i other
+same_version one other i its span raw head a b =
+    let is = subst (λ (l : List ℕ). IsRaw l (get_or one.scan.intervals i [])) raw a.spelled.raw in
+    same_interval one.scan other.scan i head (same_found (slice_range other.file span.start span.end) (get_or one.scan.intervals i []) (get_or other.scan.intervals i []) is b.spelled.raw)
 
 -- the choice among one
 pub one_choice : (v : IntervalValue) (front : Option ℕ) → IfNone front (HasDecoding v) → OnSome front (HasNoDecoding v) → IfSome front (λ m. HasLongestFront v m) → IsChoice (v ∷ []) (record { copy = 0; front = front; differs = false })

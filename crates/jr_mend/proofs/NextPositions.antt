@@ -1,45 +1,65 @@
--- Where intervals begin in copies, one copy after the other.
+-- The segments of an interval in copies, one copy after the other.
 use Rattle.std.proofs.Common.{◌≡◌, ◌≢◌, ℕ, ◌+◌, ◌<◌, ◌≤◌, List, [], ◌∷◌, ◌++◌, length, get_or, set, sym, ap, subst, ◌∙◌, inl, inr, get_or-set_other, get_or-set_same, arith}
 use Rattle.std.proofs.lemmas.Bool.{cases_lt}
 use Rattle.std.proofs.lemmas.List.{get_or_default}
 use Rattle.std.proofs.Math.ListN.{get_or-append}
 use Rattle.std.proofs.Math.Seq.{get_or-append_seam}
-use Rattle.jr_damage.specs.Coded.{IsNextAt}
+use Rattle.jr_damage.specs.Coded.{IsNextAt, IsSegmentOf}
+use Rattle.jr_damage.specs.declared.segments.Segment.{Segment}
 use Rattle.jr_scan.specs.ScanValue.{ScanValue}
-use Rattle.jr_mend.specs.Copies.{CopyValue}
+use Rattle.jr_mend.specs.Copies.{AreSegmentsOf, CopyValue, HasSpace}
 
 pub next_within : (file : List ℕ) (s : ScanValue) (i at : ℕ) → IsNextAt file s i at → at ≤ length file
 next_within file s i at (inl b) = b.within
 next_within file s i at (inr h) = omega (arith, h.last)
 
--- in copy k interval i is at this offset
-abbrev pub IsNextIn : List CopyValue → (i k at : ℕ) → Type 0
-IsNextIn copies i k at = (c : CopyValue) → IsNextAt (get_or copies k c).file (get_or copies k c).scan i at
+-- in copy k interval i is next after the segment, or the segment is that of interval i
+abbrev pub IsNextIn : List CopyValue → (i k : ℕ) → Segment → Type 0
+IsNextIn copies i k s = (c : CopyValue) → IsNextAt (get_or copies k c).file (get_or copies k c).scan i s.next
 
-next_in_copy : (copies : List CopyValue) (i k at : ℕ) (copy : CopyValue) → k < length copies → copy ≡ get_or copies k copy → IsNextAt copy.file copy.scan i at → IsNextIn copies i k at
-next_in_copy copies i k at copy lt is next = λ c. subst (λ (d : CopyValue). IsNextAt d.file d.scan i at) (is ∙ get_or_default copies k copy c lt) next
+abbrev pub IsSegmentIn : List CopyValue → (i k : ℕ) → Segment → Type 0
+IsSegmentIn copies i k s = (c : CopyValue) → IsSegmentOf (get_or copies k c).file (get_or copies k c).scan i s.bytes
 
-module _ (copies : List CopyValue) (positions : List ℕ) (i k next : ℕ) (copy : CopyValue) (lt : k < length copies) (is : copy ≡ get_or copies k copy) (there : IsNextAt copy.file copy.scan i next) where
-  -- a position is appended
-  pub one_pushed : length positions ≡ k → ((j : ℕ) (c : CopyValue) → j < k → IsNextAt (get_or copies j c).file (get_or copies j c).scan i (get_or positions j 0)) → (j : ℕ) → j < k + 1 → IsNextIn copies i j (get_or (positions ++ next ∷ []) j 0)
-  one_pushed long before j few = elim (cases_lt j k) [
-    | inl h ↦ subst (IsNextIn copies i j) (sym (get_or-append positions (next ∷ []) 0 j (omega (arith, h, long)))) (λ c. before j c h)
+module _ (copies : List CopyValue) (i k : ℕ) (s : Segment) (copy : CopyValue) (lt : k < length copies) (is : copy ≡ get_or copies k copy) where
+  pub next_in_copy : IsNextAt copy.file copy.scan i s.next → IsNextIn copies i k s
+  next_in_copy next = λ c. subst (λ (d : CopyValue). IsNextAt d.file d.scan i s.next) (is ∙ get_or_default copies k copy c lt) next
+
+  pub segment_in_copy : IsSegmentOf copy.file copy.scan i s.bytes → IsSegmentIn copies i k s
+  segment_in_copy segment = λ c. subst (λ (d : CopyValue). IsSegmentOf d.file d.scan i s.bytes) (is ∙ get_or_default copies k copy c lt) segment
+
+-- a copy's segment, and the space for its data
+abbrev pub no_segment : Segment
+no_segment = record { bytes = record { start = 0; end = 0 }; next = 0 }
+
+pub segment_of : (copies : List CopyValue) (segments : List Segment) (i k : ℕ) (copy : CopyValue) → AreSegmentsOf copies segments i → k < length copies → copy ≡ get_or copies k copy → IsSegmentOf copy.file copy.scan i (get_or segments k no_segment).bytes
+segment_of copies segments i k copy are lt is = subst (λ (d : CopyValue). IsSegmentOf d.file d.scan i (get_or segments k no_segment).bytes) (sym is) (are.each k copy no_segment lt)
+
+pub space_of : (copies : List CopyValue) (capacity k : ℕ) (copy : CopyValue) → HasSpace copies capacity → k < length copies → copy ≡ get_or copies k copy → length copy.file < capacity
+space_of copies capacity k copy space lt is = subst (λ (d : CopyValue). length d.file < capacity) (sym is) (space k copy lt)
+
+pub space_stays : (copies : List CopyValue) (old new : ℕ) → old ≤ new → HasSpace copies old → HasSpace copies new
+space_stays copies old new le space = λ k d lt. omega (arith, space k d lt, le)
+
+-- elements with a property by their number, of which one more has it
+module _ {X : Type 0} (Has : ℕ → X → Type 0) (xs : List X) (k : ℕ) (x : X) (has : Has k x) where
+  -- it is appended
+  pub one_pushed : length xs ≡ k → ((j : ℕ) (d : X) → j < k → Has j (get_or xs j d)) → (j : ℕ) (d : X) → j < k + 1 → Has j (get_or (xs ++ x ∷ []) j d)
+  one_pushed long before j d few = elim (cases_lt j k) [
+    | inl h ↦ subst (Has j) (sym (get_or-append xs (x ∷ []) d j (omega (arith, h, long)))) (before j d h)
     | inr h ↦
         let same : j ≡ k = omega (arith, h, few) in
-        let last : get_or (positions ++ next ∷ []) j 0 ≡ next = ap (λ (n : ℕ). get_or (positions ++ next ∷ []) n 0) (same ∙ sym long) ∙ get_or-append_seam positions next [] 0 in
-        subst (IsNextIn copies i j) (sym last) (subst (λ (n : ℕ). IsNextIn copies i n next) (sym same) (next_in_copy copies i k next copy lt is there))
+        let last : get_or (xs ++ x ∷ []) j d ≡ x = ap (λ (n : ℕ). get_or (xs ++ x ∷ []) n d) (same ∙ sym long) ∙ get_or-append_seam xs x [] d in
+        subst (Has j) (sym last) (subst (λ (n : ℕ). Has n x) (sym same) has)
   ]
 
-  -- one is replaced
-  pub one_set : length positions ≡ length copies → ((j : ℕ) (c : CopyValue) → j < k → IsNextAt (get_or copies j c).file (get_or copies j c).scan i (get_or positions j 0)) → (j : ℕ) → j < k + 1 → IsNextIn copies i j (get_or (set positions k next) j 0)
-  one_set long before j few = elim (cases_lt j k) [
+  -- it replaces one
+  pub one_set : k < length xs → ((j : ℕ) (d : X) → j < k → Has j (get_or xs j d)) → (j : ℕ) (d : X) → j < k + 1 → Has j (get_or (set xs k x) j d)
+  one_set within before j d few = elim (cases_lt j k) [
     | inl h ↦
         let ne : j ≢ k = λ e. omega (arith, e, h) in
-        let other : get_or (set positions k next) j 0 ≡ get_or positions j 0 = get_or-set_other positions k j next 0 ne in
-        subst (IsNextIn copies i j) (sym other) (λ c. before j c h)
+        subst (Has j) (sym (get_or-set_other xs k j x d ne)) (before j d h)
     | inr h ↦
         let same : j ≡ k = omega (arith, h, few) in
-        let within : k < length positions = omega (arith, lt, long) in
-        let last : get_or (set positions k next) k 0 ≡ next = get_or-set_same positions k next 0 within in
-        subst (λ (n : ℕ). IsNextIn copies i n (get_or (set positions k next) n 0)) (sym same) (subst (IsNextIn copies i k) (sym last) (next_in_copy copies i k next copy lt is there))
+        let last : get_or (set xs k x) j d ≡ x = ap (λ (n : ℕ). get_or (set xs k x) n d) same ∙ get_or-set_same xs k x d within in
+        subst (Has j) (sym last) (subst (λ (n : ℕ). Has n x) (sym same) has)
   ]

@@ -1,13 +1,16 @@
 //! Which of several copies an interval is taken from.
 
-ghost use Rattle.std.specs.Prelude.{◌≡◌, ◌↔◌, ◌<◌, ◌≤◌, List, [], ◌∷◌, ◌++◌, All, IsTrue, length};
+ghost use Rattle.std.specs.Prelude.{◌≡◌, ◌↔◌, ◌+◌, ◌<◌, ◌≤◌, ℕ, List, [], ◌∷◌, ◌++◌, All, IsTrue, length, take};
+ghost use Rattle.std.specs.Vec.{vec_capacity};
+ghost use Rattle.jr_damage.specs.Coded.{IsSegmentOf, IsSpelledAt};
 ghost use Rattle.jr_scan.specs.IntervalValue.{IntervalValue};
 ghost use Rattle.jr_scan.specs.ScanValue.{intervals_of};
 ghost use Rattle.jr_mend.specs.Choice.{IsChoice, IsChoiceOf};
-ghost use Rattle.jr_mend.specs.Copies.{versions_of};
+ghost use Rattle.jr_mend.specs.Copies.{AreSegmentsOf, HasSpace, version_of, versions_of};
 
+use crate::buffers::DataBuffers;
 use crate::file_copy::FileCopy;
-use jr_damage::damaged_front;
+use jr_damage::{CodedSpan, Segment, damaged_front};
 use jr_scan::IntervalRef;
 
 /// Maximum number of copies of a file.
@@ -65,22 +68,91 @@ fn with_version(
     }
 }
 
-/// Chooses among the copies of interval i.
-pub fn choose(copies: &[FileCopy], i: u32) -> Choice
+/// Returns the choice among one copy of interval i, in which its segment is at `span`.
+fn first_choice(copy: &FileCopy, span: CodedSpan, i: u32, buffer: &mut Vec<u8>) -> Choice
+    requires there { i < intervals_of copy.now.scan.head }
+    requires at { IsSegmentOf copy.now.file copy.now.scan i span }
+    requires capacity { length copy.now.file < vec_capacity buffer.old }
+    ensures choice { IsChoice (version_of i copy.now ∷ []) result }
+    ensures capacity { vec_capacity buffer.old ≤ vec_capacity buffer.new }
+{
+    let found = copy.unstuff(span, buffer);
+    Choice {
+        copy: 0,
+        front: damaged_front(copy.interval(&buffer[..found], i)),
+        differs: false,
+    }
+}
+
+/// Returns whether two copies have one header and equal bytes at these spans.
+fn has_same_bytes(one: &FileCopy, its: CodedSpan, other: &FileCopy, span: CodedSpan) -> bool
+    requires one { (bytes : List ℕ) × IsSpelledAt one.now.file its bytes }
+    requires other { (bytes : List ℕ) × IsSpelledAt other.now.file span bytes }
+    ensures { IsTrue result → (i : ℕ) → IsSegmentOf one.now.file one.now.scan i its → IsSegmentOf other.now.file other.now.scan i span → version_of i one.now ≡ version_of i other.now }
+{
+    let its_bytes = &one.file()[its.start..its.end];
+    has_same_data(its_bytes, &other.file()[span.start..span.end])
+        && one.head().is_same(other.head())
+}
+
+/// Returns the choice among the first copies of interval i and the copy of this number, by the choice among the first. If
+/// its bytes are those of the chosen one they are not decoded again.
+fn with_copy(
+    before: Choice,
+    copies: &[FileCopy],
+    segments: &[Segment],
+    number: u32,
+    i: u32,
+    buffers: &mut DataBuffers,
+) -> Choice
+    requires before { IsChoice (versions_of (take number copies.now) i) before }
+    requires number { number < length copies.now }
+    requires there { All (λ c. i < intervals_of c.scan.head) copies.now }
+    requires at { AreSegmentsOf copies.now segments.now i }
+    requires chosen { HasSpace copies.now (vec_capacity buffers.old.chosen) }
+    requires next { HasSpace copies.now (vec_capacity buffers.old.next) }
+    ensures choice { IsChoice (versions_of (take (number + 1) copies.now) i) result }
+    ensures chosen { vec_capacity buffers.old.chosen ≤ vec_capacity buffers.new.chosen }
+    ensures next { vec_capacity buffers.old.next ≤ vec_capacity buffers.new.next }
+{
+    let copy = before.copy as usize;
+    let last = number as usize;
+    let (chosen, next) = (&copies[copy], &copies[last]);
+    let (its, span) = (segments[copy].bytes, segments[last].bytes);
+    if has_same_bytes(chosen, its, next, span) {
+        return before;
+    }
+    let found = chosen.unstuff(its, &mut buffers.chosen);
+    let found_next = next.unstuff(span, &mut buffers.next);
+    with_version(
+        before,
+        chosen.interval(&buffers.chosen[..found], i),
+        number,
+        next.interval(&buffers.next[..found_next], i),
+    )
+}
+
+/// Chooses among the copies of interval i, whose segments these are.
+pub(crate) fn choose(
+    copies: &[FileCopy],
+    segments: &[Segment],
+    i: u32,
+    buffers: &mut DataBuffers,
+) -> Choice
     requires some { 0 < length copies.now }
     requires few { length copies.now ≤ MAX_COPIES }
     requires there { All (λ c. i < intervals_of c.scan.head) copies.now }
+    requires at { AreSegmentsOf copies.now segments.now i }
+    requires chosen { HasSpace copies.now (vec_capacity buffers.old.chosen) }
+    requires next { HasSpace copies.now (vec_capacity buffers.old.next) }
     ensures choice { IsChoice (versions_of copies.now i) result }
     ensures within { result.copy < length copies.now }
+    ensures chosen { HasSpace copies.now (vec_capacity buffers.new.chosen) }
+    ensures next { HasSpace copies.now (vec_capacity buffers.new.next) }
 {
-    let mut choice = Choice {
-        copy: 0,
-        front: damaged_front(copies[0].interval(i)),
-        differs: false,
-    };
+    let mut choice = first_choice(&copies[0], segments[0].bytes, i, &mut buffers.chosen);
     for number in 1..copies.len() {
-        let chosen = copies[choice.copy as usize].interval(i);
-        choice = with_version(choice, chosen, number as u32, copies[number].interval(i));
+        choice = with_copy(choice, copies, segments, number as u32, i, buffers);
     }
     choice
 }

@@ -3,6 +3,7 @@
 //! are out of step, or those of copies of a file, each from a copy in which it is sound.
 #![tactic(auto)]
 
+mod buffers;
 mod choice;
 mod file_copy;
 mod following;
@@ -18,7 +19,7 @@ mod resync;
 mod soundness;
 mod splice;
 
-pub use choice::{Choice, MAX_COPIES, choose};
+pub use choice::{Choice, MAX_COPIES};
 pub use file_copy::FileCopy;
 pub use headers::under_header;
 pub use in_step::is_in_step;

@@ -1,20 +1,22 @@
 //! A file whose intervals are taken from copies of it.
 
 ghost use Rattle.std.specs.Prelude.{◌≡◌, ◌<◌, ◌≤◌, ◌++◌, [], ℕ, List, All, IfErr, IfNone, IfOk, IfSome, length};
+ghost use Rattle.std.specs.Vec.{vec_capacity};
 ghost use Rattle.jr_base.specs.declared.limits.TheConstants.{MAX_FILE_BYTES};
-ghost use Rattle.jr_damage.specs.Coded.{IsNextAt};
+ghost use Rattle.jr_damage.specs.Coded.{IsSegmentOf};
 ghost use Rattle.jr_scan.specs.ScanValue.{intervals_of};
-ghost use Rattle.jr_mend.specs.Copies.{AreAlike, AreNextAt, HasOtherHead};
+ghost use Rattle.jr_mend.specs.Copies.{AreAlike, AreSegmentsOf, HasOtherHead, HasSpace};
 ghost use Rattle.jr_mend.specs.Mended.{AreWritten, HasChosen, IsErrorOf, IsMended, WritesBytesIn, WritesChosen};
 ghost use Rattle.jr_mend.specs.Splice.{joined_intervals};
 
+use crate::buffers::DataBuffers;
 use crate::choice::{Choice, MAX_COPIES, choose};
 use crate::file_copy::FileCopy;
 use crate::positions::{advance, starts_of};
 use crate::splice::{write_header, write_image_end, write_interval};
 use jr_base::Memory;
 use jr_base::limits::MAX_FILE_BYTES;
-use jr_damage::segment_at;
+use jr_damage::{CodedSpan, Segment};
 use std::alloc::Global;
 
 /// A mended file, and the choice for each of its intervals.
@@ -42,26 +44,21 @@ fn other_head(copies: &[FileCopy]) -> Option<u32>
     ensures alike { IfNone result (AreAlike copies.now) }
     ensures other { IfSome result (HasOtherHead copies.now) }
 {
-    let first = copies[0].scan();
+    let first = copies[0].head();
     for k in 0..copies.len() {
-        let scan = copies[k].scan();
-        if !scan.head().is_same(first.head()) {
+        if !copies[k].head().is_same(first) {
             return Some(k as u32);
         }
     }
     None
 }
 
-/// Appends the bytes of interval i in a copy, in which they are at `at`. On `Err`, part of them may be appended.
-fn write_from(bytes: &mut Vec<u8>, copy: &FileCopy, at: usize, i: u32) -> Result<(), Memory>
-    requires there { i < intervals_of copy.now.scan.head }
-    requires at { IsNextAt copy.now.file copy.now.scan i at }
+/// Appends the bytes of interval i in a copy, in which they are at `span`. On `Err`, part of them may be appended.
+fn write_from(bytes: &mut Vec<u8>, copy: &FileCopy, span: CodedSpan, i: u32) -> Result<(), Memory>
+    requires { IsSegmentOf copy.now.file copy.now.scan i span }
     ensures { IfOk result (λ _. WritesBytesIn copy.now i bytes.old.items bytes.new.items) }
 {
-    let count = copy.scan().intervals();
-    let file = copy.file();
-    let span = segment_at(file, at, i, count).bytes;
-    write_interval(bytes, i, &file[span.start..span.end])?;
+    write_interval(bytes, i, &copy.file()[span.start..span.end])?;
     Ok(())
 }
 
@@ -69,18 +66,23 @@ fn write_from(bytes: &mut Vec<u8>, copy: &FileCopy, at: usize, i: u32) -> Result
 fn write_chosen(
     bytes: &mut Vec<u8>,
     copies: &[FileCopy],
-    positions: &[usize],
+    segments: &[Segment],
     i: u32,
+    buffers: &mut DataBuffers,
 ) -> Result<Choice, Memory>
     requires some { 0 < length copies.now }
     requires few { length copies.now ≤ MAX_COPIES }
     requires there { All (λ c. i < intervals_of c.scan.head) copies.now }
-    requires at { AreNextAt copies.now positions.now i }
-    ensures { IfOk result (λ c. WritesChosen copies.now i c bytes.old.items bytes.new.items) }
+    requires at { AreSegmentsOf copies.now segments.now i }
+    requires chosen { HasSpace copies.now (vec_capacity buffers.old.chosen) }
+    requires next { HasSpace copies.now (vec_capacity buffers.old.next) }
+    ensures written { IfOk result (λ c. WritesChosen copies.now i c bytes.old.items bytes.new.items) }
+    ensures chosen { HasSpace copies.now (vec_capacity buffers.new.chosen) }
+    ensures next { HasSpace copies.now (vec_capacity buffers.new.next) }
 {
-    let choice = choose(copies, i);
+    let choice = choose(copies, segments, i, buffers);
     let number = choice.copy as usize;
-    write_from(bytes, &copies[number], positions[number], i)?;
+    write_from(bytes, &copies[number], segments[number].bytes, i)?;
     Ok(choice)
 }
 
@@ -97,18 +99,19 @@ fn write_all(
     requires there { All (λ c. count ≤ intervals_of c.scan.head) copies.now }
     ensures { IfOk result (λ choices. (front : List ℕ) → bytes.old.items ≡ front ++ joined_intervals [] → AreWritten copies.now choices.items count front bytes.new.items) }
 {
-    let mut positions = starts_of(alloc, copies)?;
+    let mut segments = starts_of(alloc, copies)?;
+    let mut buffers = DataBuffers::of(alloc, copies)?;
     let mut choices = Vec::new(alloc);
     for i in 0..count {
-        let choice = write_chosen(bytes, copies, positions.as_slice(), i)?;
+        advance(copies, segments.as_mut_slice(), i);
+        let choice = write_chosen(bytes, copies, segments.as_slice(), i, &mut buffers)?;
         choices.push(choice)?;
-        advance(copies, positions.as_mut_slice(), i);
     }
     Ok(choices)
 }
 
 /// Writes a file with the header of the first copy, in which each interval is the chosen version of it. It allocates the
-/// file, the choices, and a position for each copy; it reads each interval of each copy once.
+/// file, the choices, a position for each copy, and two buffers for the data of one interval.
 ///
 /// # Errors
 ///
@@ -125,9 +128,9 @@ pub fn mend(alloc: Global, copies: &[FileCopy]) -> Result<Mended, MendError>
         return Err(MendError::OtherHead(copy));
     }
     let first = &copies[0];
-    let scan = first.scan();
-    let count = scan.intervals();
-    let Ok(mut file) = write_header(alloc, scan.head(), first.file()) else {
+    let head = first.head();
+    let count = head.intervals();
+    let Ok(mut file) = write_header(alloc, head, first.file()) else {
         return Err(MendError::Memory);
     };
     let Ok(choices) = write_all(alloc, &mut file, copies, count) else {

@@ -1,52 +1,56 @@
-//! The start of an interval in each of several copies.
+//! The segments of an interval in each of several copies.
 
 ghost use Rattle.std.specs.Prelude.{◌≡◌, ◌+◌, ◌<◌, All, IfOk, length};
-ghost use Rattle.jr_damage.specs.Coded.{IsNextAt};
+ghost use Rattle.jr_damage.specs.Coded.{IsNextAt, IsSegmentOf};
 ghost use Rattle.jr_scan.specs.ScanValue.{intervals_of};
-ghost use Rattle.jr_mend.specs.Copies.{AreNextAt};
+ghost use Rattle.jr_mend.specs.Copies.{AreNextAt, AreSegmentsOf};
 
 use crate::file_copy::FileCopy;
 use jr_base::Memory;
-use jr_damage::segment_at;
+use jr_damage::{CodedSpan, Segment, segment_at};
 use std::alloc::Global;
 
-/// Returns the offset of the first byte after a copy's scan header.
-fn start_of(copy: &FileCopy) -> usize
-    ensures { IsNextAt copy.now.file copy.now.scan 0 result }
+/// Returns the segment before interval 0 of a copy: it has no bytes.
+fn start_of(copy: &FileCopy) -> Segment
+    ensures { IsNextAt copy.now.file copy.now.scan 0 result.next }
 {
-    let scan = copy.scan();
-    let _lawful = scan.head();
-    scan.head().scan_at() as usize
-}
-
-/// Returns the positions of interval 0.
-pub(crate) fn starts_of(alloc: Global, copies: &[FileCopy]) -> Result<Vec<usize>, Memory>
-    ensures { IfOk result (λ positions. AreNextAt copies.now positions.items 0) }
-{
-    let mut positions = Vec::new(alloc);
-    for k in 0..copies.len() {
-        positions.push(start_of(&copies[k]))?;
+    let at = copy.head().scan_at() as usize;
+    Segment {
+        bytes: CodedSpan { start: at, end: at },
+        next: at,
     }
-    Ok(positions)
 }
 
-/// Returns the position of the interval after interval i in a copy.
-fn next_in(copy: &FileCopy, at: usize, i: u32) -> usize
+/// Returns the segments before interval 0.
+pub(crate) fn starts_of(alloc: Global, copies: &[FileCopy]) -> Result<Vec<Segment>, Memory>
+    ensures { IfOk result (λ segments. AreNextAt copies.now segments.items 0) }
+{
+    let mut segments = Vec::new(alloc);
+    for k in 0..copies.len() {
+        segments.push(start_of(&copies[k]))?;
+    }
+    Ok(segments)
+}
+
+/// Returns the segment of interval i in a copy, which begins at `at`.
+fn segment_in(copy: &FileCopy, at: usize, i: u32) -> Segment
     requires there { i < intervals_of copy.now.scan.head }
     requires at { IsNextAt copy.now.file copy.now.scan i at }
-    ensures { IsNextAt copy.now.file copy.now.scan (i + 1) result }
+    ensures segment { IsSegmentOf copy.now.file copy.now.scan i result.bytes }
+    ensures next { IsNextAt copy.now.file copy.now.scan (i + 1) result.next }
 {
-    let count = copy.scan().intervals();
-    segment_at(copy.file(), at, i, count).next
+    let count = copy.head().intervals();
+    segment_at(copy.file(), at, i, count)
 }
 
-/// Moves the positions from interval i to the next one.
-pub(crate) fn advance(copies: &[FileCopy], positions: &mut [usize], i: u32)
+/// Moves from the segments before interval i to its segments.
+pub(crate) fn advance(copies: &[FileCopy], segments: &mut [Segment], i: u32)
     requires there { All (λ c. i < intervals_of c.scan.head) copies.now }
-    requires at { AreNextAt copies.now positions.old i }
-    ensures { AreNextAt copies.now positions.new (i + 1) }
+    requires at { AreNextAt copies.now segments.old i }
+    ensures segments { AreSegmentsOf copies.now segments.new i }
+    ensures next { AreNextAt copies.now segments.new (i + 1) }
 {
     for k in 0..copies.len() {
-        positions[k] = next_in(&copies[k], positions[k], i);
+        segments[k] = segment_in(&copies[k], segments[k].next, i);
     }
 }

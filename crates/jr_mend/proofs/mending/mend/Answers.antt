@@ -3,7 +3,7 @@ use Rattle.std.proofs.lemmas.List.{get_or_default}
 use Rattle.jr_base.specs.declared.limits.TheConstants.{MAX_FILE_BYTES}
 use Rattle.jr_head.specs.HeadValue.{HeadValue}
 use Rattle.jr_head.proofs.HeadStays.{scan_within}
-use Rattle.jr_scan.specs.ScanValue.{ScanValue, intervals_of}
+use Rattle.jr_scan.specs.ScanValue.{intervals_of}
 use Rattle.jr_mend.specs.Copies.{CopyValue}
 use Rattle.jr_mend.proofs.ScanOfCopies.{has_chosen, mended_whole}
 use Rattle.jr_mend.proofs.mending.mend.Goals as goal
@@ -11,10 +11,10 @@ use Rattle.jr_mend.proofs.mending.mend.Goals as goal
 pub returns-clause-mended : goal.returns-clause-mended
 returns-clause-mended c =
     let first = c.index-copies-0.result in
-    let h = c.head.result.now in
+    let h = c.head-head.result.now in
     let source = c.file.result.now in
-    let head : h ≡ first.scan.head = c.head.ensures.value ∙ ap (λ (s : ScanValue). s.head) c.scan-scan.ensures.value in
-    let count = c.intervals-count.ensures.count ∙ ap intervals_of (sym c.head.ensures.value) in
+    let head : h ≡ first.scan.head = c.head-head.ensures.value in
+    let count = c.intervals-count.ensures.value in
     let written = c.in-Ok-write_all.ensures (take h.scan_at source) c.in-Ok.ensures.joined_intervals in
     mended_whole c.args.copies.now c.in-Ok-write_all.choices.items c.intervals-count.result first h source c.write_all.new.bytes.items c.write_image_end.new.bytes.items
     c.index-copies-0.is head c.file.ensures count written (c.in-Ok-write_image_end.ensures.whole (take h.scan_at source))
@@ -22,29 +22,29 @@ returns-clause-mended c =
 pub returns-clause-scan : goal.returns-clause-scan
 returns-clause-scan c =
     let first = c.index-copies-0.result in
-    let h = c.head.result.now in
+    let h = c.head-head.result.now in
     let source = c.file.result.now in
     let file = c.write_image_end.new.bytes.items in
     let choices = c.in-Ok-write_all.choices.items in
-    let head : h ≡ first.scan.head = c.head.ensures.value ∙ ap (λ (s : ScanValue). s.head) c.scan-scan.ensures.value in
-    let count = c.intervals-count.ensures.count ∙ ap intervals_of (sym c.head.ensures.value) in
+    let head : h ≡ first.scan.head = c.head-head.ensures.value in
+    let count = c.intervals-count.ensures.value in
     let written = c.in-Ok-write_all.ensures (take h.scan_at source) c.in-Ok.ensures.joined_intervals in
     let m =
     mended_whole c.args.copies.now choices c.intervals-count.result first h source c.write_all.new.bytes.items file
     c.index-copies-0.is head c.file.ensures count written (c.in-Ok-write_image_end.ensures.whole (take h.scan_at source)) in
     let small : length file ≤ MAX_FILE_BYTES = omega (arith, c.if-len-gt-MAX_FILE_BYTES.false, c.len.ensures) in
     let some : 0 < intervals_of first.scan.head = omega (arith, c.intervals-count.ensures.some, count, ap intervals_of head) in
-    has_chosen c.args.copies.now choices file m c.requires.some c.in_default.ensures.alike c.scan-scan.ensures.is small some
+    has_chosen c.args.copies.now choices file m c.requires.some c.in_default.ensures.alike c.head-head.ensures.is small some
 
 pub returns-then-len-gt-MAX_FILE_BYTES-clause-error : goal.returns-then-len-gt-MAX_FILE_BYTES-clause-error
 returns-then-len-gt-MAX_FILE_BYTES-clause-error c =
     let first = c.index-copies-0.result in
-    let h = c.head.result.now in
+    let h = c.head-head.result.now in
     let source = c.file.result.now in
     let file = c.write_image_end.new.bytes.items in
     let choices = c.in-Ok-write_all.choices.items in
-    let head : h ≡ first.scan.head = c.head.ensures.value ∙ ap (λ (s : ScanValue). s.head) c.scan-scan.ensures.value in
-    let count = c.intervals-count.ensures.count ∙ ap intervals_of (sym c.head.ensures.value) in
+    let head : h ≡ first.scan.head = c.head-head.ensures.value in
+    let count = c.intervals-count.ensures.value in
     let written = c.in-Ok-write_all.ensures (take h.scan_at source) c.in-Ok.ensures.joined_intervals in
     let m =
     mended_whole c.args.copies.now choices c.intervals-count.result first h source c.write_all.new.bytes.items file
@@ -54,8 +54,8 @@ returns-then-len-gt-MAX_FILE_BYTES-clause-error c =
 pub write_header-requires : goal.write_header-requires
 write_header-requires c =
     let first = c.index-copies-0.result in
-    let head : c.head.result.now ≡ first.scan.head = c.head.ensures.value ∙ ap (λ (s : ScanValue). s.head) c.scan-scan.ensures.value in
-    omega (arith, scan_within first.file [] first.scan.head c.scan-scan.ensures.is.head, ap (λ (h : HeadValue). h.scan_at) head, ap length c.file.ensures)
+    let head : c.head-head.result.now ≡ first.scan.head = c.head-head.ensures.value in
+    omega (arith, scan_within first.file [] first.scan.head c.head-head.ensures.is.head, ap (λ (h : HeadValue). h.scan_at) head, ap length c.file.ensures)
 
 pub write_all-requires-clause-there : goal.write_all-requires-clause-there
 write_all-requires-clause-there c = λ k d lt.
@@ -63,4 +63,4 @@ write_all-requires-clause-there c = λ k d lt.
     let first = c.index-copies-0.result in
     let is : first ≡ get_or copies 0 d = c.index-copies-0.is ∙ get_or_default copies 0 first d c.requires.some in
     let same = c.in_default.ensures.alike k d lt ∙ sym (ap (λ (x : CopyValue). x.scan.head) is) in
-    omega (arith, c.intervals-count.ensures.count, ap (λ (s : ScanValue). intervals_of s.head) c.scan-scan.ensures.value, ap intervals_of same)
+    omega (arith, c.intervals-count.ensures.value, ap intervals_of c.head-head.ensures.value, ap intervals_of same)

@@ -1,7 +1,8 @@
 use Rattle.std.proofs.Common.{◌≡◌, List, ◌++◌, ℕ, ◌+◌, length, take, drop, sym, ap, subst, ◌∙◌, rules, arith}
 use Rattle.std.proofs.Math.Seq.{take-append_seam}
+use Rattle.jr_damage.specs.declared.segments.Segment.{Segment}
 use Rattle.jr_mend.specs.declared.choice.Choice.{Choice}
-use Rattle.jr_mend.specs.Copies.{AreNextAt}
+use Rattle.jr_mend.specs.Copies.{AreNextAt, AreSegmentsOf}
 use Rattle.jr_mend.specs.Mended.{AreWritten}
 use Rattle.jr_mend.proofs.ScanOfCopies.{none_written, written_more}
 use Rattle.jr_mend.proofs.mending.write_all.Goals as goal
@@ -10,33 +11,40 @@ pub loop-i-init : goal.loop-i-init
 loop-i-init c =
     let copies = c.args.copies.now in
     let bytes = c.args.bytes.now.items in
-    (c.in_ok-positions.ensures, λ front e. subst (λ (l : List Choice). AreWritten copies l 0 front bytes) (sym c.new-choices.ensures.items) (none_written copies front bytes e))
+    (c.in_ok-segments.ensures, λ front e. subst (λ (l : List Choice). AreWritten copies l 0 front bytes) (sym c.new-choices.ensures.items) (none_written copies front bytes e), c.in_ok-buffers.ensures.chosen, c.in_ok-buffers.ensures.next)
 
 pub loop-i-preserved : goal.loop-i-preserved
 loop-i-preserved c =
     let copies = c.args.copies.now in
     let i = c.loop-i.i in
-    let new = c.advance.new.positions in
-    let rest = drop (length new) c.loop-i.positions.items in
-    let long : c.loop-i.positions.len ≡ length new = search (rules, arith, c.advance.auto.positions) in
-    let kept : take c.loop-i.positions.len (new ++ rest) ≡ new = ap (λ (n : ℕ). take n (new ++ rest)) long ∙ take-append_seam new rest in (
-      subst (λ (l : List ℕ). AreNextAt copies l (i + 1)) (sym kept) c.advance.ensures,
-      λ front e.
+    let new = c.advance.new.segments in
+    let rest = drop (length new) c.loop-i.segments.items in
+    let long : c.loop-i.segments.len ≡ length new = search (rules, arith, c.advance.auto.segments) in
+    let kept : take c.loop-i.segments.len (new ++ rest) ≡ new = ap (λ (n : ℕ). take n (new ++ rest)) long ∙ take-append_seam new rest in (
+      subst (λ (l : List Segment). AreNextAt copies l (i + 1)) (sym kept) c.advance.ensures.next,
+      (λ front e.
           subst (λ (l : List Choice). AreWritten copies l (i + 1) front c.write_chosen.new.bytes.items) (sym c.in_ok-push.ensures.items)
-          (written_more copies c.loop-i.choices.items i front c.loop-i.bytes.items c.write_chosen.new.bytes.items c.in_ok-choice.choice (c.loop-i.invariant.1 front e) c.in_ok-choice.ensures),
+          (written_more copies c.loop-i.choices.items i front c.loop-i.bytes.items c.write_chosen.new.bytes.items c.in_ok-choice.choice (c.loop-i.invariant.1 front e) c.in_ok-choice.ensures.written)),
+      c.in_ok-choice.ensures.chosen,
+      c.in_ok-choice.ensures.next,
     )
 
 pub write_chosen-requires-clause-there : goal.write_chosen-requires-clause-there
 write_chosen-requires-clause-there c = λ k d lt. omega (arith, c.requires.there k d lt, c.loop-i-test.true)
 
 pub write_chosen-requires-clause-at : goal.write_chosen-requires-clause-at
-write_chosen-requires-clause-at c = subst (λ (l : List ℕ). AreNextAt c.args.copies.now l c.loop-i.i) (sym c.as_slice.ensures.value) c.loop-i.invariant.0
+write_chosen-requires-clause-at c =
+    let new = c.advance.new.segments in
+    let rest = drop (length new) c.loop-i.segments.items in
+    let long : c.loop-i.segments.len ≡ length new = search (rules, arith, c.advance.auto.segments) in
+    let kept : take c.loop-i.segments.len (new ++ rest) ≡ new = ap (λ (n : ℕ). take n (new ++ rest)) long ∙ take-append_seam new rest in
+    subst (λ (l : List Segment). AreSegmentsOf c.args.copies.now l c.loop-i.i) (sym (c.as_slice.ensures.value ∙ kept)) c.advance.ensures.segments
 
 pub advance-requires-clause-there : goal.advance-requires-clause-there
 advance-requires-clause-there c = λ k d lt. omega (arith, c.requires.there k d lt, c.loop-i-test.true)
 
 pub advance-requires-clause-at : goal.advance-requires-clause-at
-advance-requires-clause-at c = subst (λ (l : List ℕ). AreNextAt c.args.copies.now l c.loop-i.i) (sym c.as_mut_slice.ensures.value) c.loop-i.invariant.0
+advance-requires-clause-at c = subst (λ (l : List Segment). AreNextAt c.args.copies.now l c.loop-i.i) (sym c.as_mut_slice.ensures.value) c.loop-i.invariant.0
 
 pub returns : goal.returns
 returns c = λ front e.

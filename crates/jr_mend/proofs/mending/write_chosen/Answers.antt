@@ -1,25 +1,18 @@
-use Rattle.std.proofs.Common.{List, ℕ, ◌<◌, get_or, sym, subst, refl}
+use Rattle.std.proofs.Common.{List, ℕ, sym, subst, refl}
 use Rattle.jr_cut.specs.Cut.{IsRaw}
-use Rattle.jr_damage.specs.Coded.{IsNextAt}
 use Rattle.jr_scan.specs.IntervalValue.{IntervalValue}
-use Rattle.jr_scan.specs.ScanValue.{intervals_of}
 use Rattle.jr_mend.specs.Choice.{IsChoiceOf}
-use Rattle.jr_mend.specs.Copies.{CopyValue, version_of, versions_of}
+use Rattle.jr_mend.specs.Copies.{version_of, versions_of}
 use Rattle.jr_mend.proofs.Choices.{chosen_in}
+use Rattle.jr_mend.proofs.NextPositions.{segment_of}
 use Rattle.jr_mend.proofs.mending.write_chosen.Goals as goal
 
-pub write_from-requires-clause-there : goal.write_from-requires-clause-there
-write_from-requires-clause-there c =
-    subst (λ (d : CopyValue). c.args.i < intervals_of d.scan.head) (sym c.index-copies-number.is) (c.requires.there c.choose-choice.result.copy c.index-copies-number.result c.choose-choice.ensures.within)
+pub write_from-requires : goal.write_from-requires
+write_from-requires c =
+    segment_of c.args.copies.now c.args.segments.now c.args.i c.choose-choice.result.copy c.index-copies-number.result c.requires.at c.choose-choice.ensures.within c.index-copies-number.is
 
-pub write_from-requires-clause-at : goal.write_from-requires-clause-at
-write_from-requires-clause-at c =
-    let n = c.choose-choice.result.copy in
-    let at = c.requires.at.each n c.index-copies-number.result c.choose-choice.ensures.within in
-    subst (λ (d : CopyValue). IsNextAt d.file d.scan c.args.i (get_or c.args.positions.now n 0)) (sym c.index-copies-number.is) at
-
-pub returns : goal.returns
-returns c =
+pub returns-clause-written : goal.returns-clause-written
+returns-clause-written c =
     let copies = c.args.copies.now in
     let i = c.args.i in
     let copy = c.index-copies-number.result in

@@ -1,46 +1,53 @@
 use Rattle.std.proofs.Common.{ℕ, ◌+◌, ◌<◌, ◌≤◌, ◌≢◌, sym, subst, ◌∙◌, get_or, get_or-set_other, arith}
 use Rattle.std.proofs.lemmas.List.{length-set}
 use Rattle.jr_damage.specs.Coded.{IsNextAt}
+use Rattle.jr_damage.specs.declared.segments.Segment.{Segment}
 use Rattle.jr_scan.specs.ScanValue.{intervals_of}
 use Rattle.jr_mend.specs.Copies.{CopyValue}
-use Rattle.jr_mend.proofs.NextPositions.{one_set}
+use Rattle.jr_mend.proofs.NextPositions.{IsNextIn, IsSegmentIn, next_in_copy, no_segment, one_set, segment_in_copy}
 use Rattle.jr_mend.proofs.positions.advance.Goals as goal
 
 pub loop-k-init : goal.loop-k-init
-loop-k-init c = (c.requires.at.count, λ j d lt. absurd (omega (arith, lt)), λ j d le lt. c.requires.at.each j d lt)
+loop-k-init c = (c.requires.at.count, λ j s lt. absurd (omega (arith, lt)), λ j s le lt d. c.requires.at.each j d s lt)
 
-pub bounds-positions-k : goal.bounds-positions-k
-bounds-positions-k c = omega (arith, c.loop-k-test.true, c.loop-k.invariant.0)
+pub bounds-segments-k : goal.bounds-segments-k
+bounds-segments-k c = omega (arith, c.loop-k-test.true, c.loop-k.invariant.0)
 
-pub bounds-positions-k-in-loop-k : goal.bounds-positions-k-in-loop-k
-bounds-positions-k-in-loop-k c = omega (arith, c.loop-k-test.true, c.loop-k.invariant.0)
+pub bounds-segments-k-in-loop-k : goal.bounds-segments-k-in-loop-k
+bounds-segments-k-in-loop-k c = omega (arith, c.loop-k-test.true, c.loop-k.invariant.0)
 
-pub next_in-requires-clause-there : goal.next_in-requires-clause-there
-next_in-requires-clause-there c =
+pub segment_in-requires-clause-there : goal.segment_in-requires-clause-there
+segment_in-requires-clause-there c =
     subst (λ (d : CopyValue). c.args.i < intervals_of d.scan.head) (sym c.index-copies-k.is) (c.requires.there c.loop-k.k c.index-copies-k.result c.loop-k-test.true)
 
-pub next_in-requires-clause-at : goal.next_in-requires-clause-at
-next_in-requires-clause-at c =
+pub segment_in-requires-clause-at : goal.segment_in-requires-clause-at
+segment_in-requires-clause-at c =
     let k = c.loop-k.k in
     let here : k ≤ k = omega arith in
-    subst (λ (d : CopyValue). IsNextAt d.file d.scan c.args.i (get_or c.loop-k.positions k 0)) (sym c.index-copies-k.is) (c.loop-k.invariant.2 k c.index-copies-k.result here c.loop-k-test.true)
+    subst (λ (d : CopyValue). IsNextAt d.file d.scan c.args.i (get_or c.loop-k.segments k no_segment).next) (sym c.index-copies-k.is) (c.loop-k.invariant.2 k no_segment here c.loop-k-test.true c.index-copies-k.result)
 
 pub loop-k-preserved : goal.loop-k-preserved
 loop-k-preserved c =
     let copies = c.args.copies.now in
-    let positions = c.loop-k.positions in
+    let segments = c.loop-k.segments in
     let k = c.loop-k.k in
-    let next = c.next_in.result in
+    let next = c.segment_in.result in
     let i = c.args.i in
     let copy = c.index-copies-k.result in
-    let before = c.loop-k.invariant in (
-      length-set positions k next ∙ before.0,
-      (λ j d few. one_set copies positions (i + 1) k next copy c.loop-k-test.true c.index-copies-k.is c.next_in.ensures before.0 before.1 j few d),
-      (λ j d le lt.
+    let lt = c.loop-k-test.true in
+    let is = c.index-copies-k.is in
+    let before = c.loop-k.invariant in
+    let has : IsSegmentIn copies i k next × IsNextIn copies (i + 1) k next = (segment_in_copy copies i k next copy lt is c.segment_in.ensures.segment, next_in_copy copies (i + 1) k next copy lt is c.segment_in.ensures.next) in (
+      length-set segments k next ∙ before.0,
+      one_set (λ (j : ℕ) (s : Segment). IsSegmentIn copies i j s × IsNextIn copies (i + 1) j s) segments k next has (omega (arith, lt, before.0)) before.1,
+      (λ j s le there.
           let ne : j ≢ k = λ e. omega (arith, e, le) in
           let later : k ≤ j = omega (arith, le) in
-          subst (λ (at : ℕ). IsNextAt (get_or copies j d).file (get_or copies j d).scan i at) (sym (get_or-set_other positions k j next 0 ne)) (before.2 j d later lt)),
+          subst (λ (t : Segment). IsNextIn copies i j t) (sym (get_or-set_other segments k j next s ne)) (before.2 j s later there)),
     )
 
-pub returns : goal.returns
-returns c = record { count = c.loop-k.invariant.0; each = λ k d lt. c.loop-k.invariant.1 k d (omega (arith, lt, c.loop-k-test.false)) }
+pub returns-clause-segments : goal.returns-clause-segments
+returns-clause-segments c = record { count = c.loop-k.invariant.0; each = λ k d s lt. (c.loop-k.invariant.1 k s (omega (arith, lt, c.loop-k-test.false))).0 d }
+
+pub returns-clause-next : goal.returns-clause-next
+returns-clause-next c = record { count = c.loop-k.invariant.0; each = λ k d s lt. (c.loop-k.invariant.1 k s (omega (arith, lt, c.loop-k-test.false))).1 d }

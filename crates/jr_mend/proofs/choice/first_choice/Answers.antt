@@ -1,0 +1,14 @@
+use Rattle.std.proofs.Common.{◌∷◌, [], ℕ, List, take, false, ap, subst, ◌∙◌}
+use Rattle.jr_scan.specs.IntervalValue.{IntervalValue}
+use Rattle.jr_mend.specs.Choice.{IsChoice}
+use Rattle.jr_mend.proofs.Choices.{one_choice}
+use Rattle.jr_mend.proofs.choice.first_choice.Goals as goal
+
+pub interval-requires-clause-bytes : goal.interval-requires-clause-bytes
+interval-requires-clause-bytes c = ap (λ (l : List ℕ). take c.unstuff-found.result l) c.deref.ensures.value ∙ c.unstuff-found.ensures.data c.args.i c.requires.at
+
+pub returns-clause-choice : goal.returns-clause-choice
+returns-clause-choice c =
+    let told = c.damaged_front.ensures in
+    let one = one_choice c.interval.result c.damaged_front.result told.sound told.damaged told.front in
+    subst (λ (v : IntervalValue). IsChoice (v ∷ []) (record { copy = 0; front = c.damaged_front.result; differs = false })) c.interval.ensures one
