@@ -2,7 +2,7 @@
 
 use crate::memory::NONE;
 use jri_memory::status::{BUFFER_TOO_SMALL, NO_LAYOUT, OK, SOUND};
-use jri_memory::{decode_canvas, lay_out};
+use jri_memory::{CanvasShape, decode_canvas, lay_out};
 use std::test::Fail;
 use test_files::files::file;
 
@@ -103,12 +103,16 @@ fn decodes_onto_a_canvas(rt: HostRuntime) -> Result<(), Fail> {
     let mut canvas = [BEFORE; 520];
     let mut marks = [BEFORE; 3];
     let mut report = NONE;
+    let shape = CanvasShape {
+        stride: 65,
+        layout: 4,
+    };
     let answer = decode_canvas(
         rt.alloc(),
         bytes.as_slice(),
+        0,
         &mut canvas,
-        65,
-        4,
+        shape,
         &mut marks,
         &mut report,
     );

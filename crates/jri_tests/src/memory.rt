@@ -111,7 +111,7 @@ fn is_picture(answer: u32) -> bool {
 /// Returns the answer and the report of a file.
 fn told(alloc: Global, bytes: &[u8], pixels: &mut [u8], marks: &mut [u8]) -> (u32, DecodeReport) {
     let mut report = UNWRITTEN;
-    let answer = decode_file(alloc, bytes, pixels, marks, &mut report);
+    let answer = decode_file(alloc, bytes, 0, pixels, marks, &mut report);
     (answer, report)
 }
 
@@ -153,7 +153,7 @@ fn checked_with_room(
     let bytes = file(alloc, words)?;
     let mut marks = vec![in alloc; BEFORE; marks]?;
     let mut report = UNWRITTEN;
-    let answer = check_marks(alloc, &bytes, &mut marks, &mut report);
+    let answer = check_marks(alloc, &bytes, 0, &mut marks, &mut report);
     Ok((answer, report, is_picture(answer) || is_untouched(&marks)))
 }
 
@@ -175,7 +175,7 @@ fn told_of_lines(
 ) -> Result<(u32, DecodeReport, bool), Fail> {
     let mut pixels = vec![in alloc; BEFORE; room]?;
     let mut report = UNWRITTEN;
-    let answer = decode_lines(alloc, bytes, first, count, &mut pixels, &mut report);
+    let answer = decode_lines(alloc, bytes, 0, first, count, &mut pixels, &mut report);
     if !is_picture(answer) {
         return Ok((answer, report, is_untouched(&pixels)));
     }

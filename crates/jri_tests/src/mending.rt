@@ -1,7 +1,10 @@
 //! Files in memory, resynchronised and mended into buffers of some sizes.
 
 use jri_memory::status::{BUFFER_TOO_SMALL, DAMAGED, NO_COPIES, OK, OTHER_HEADER, REFUSED, SOUND};
-use jri_memory::{Break, ChoiceEntry, MendReport, ResyncReport, mend_files, resynchronise_file};
+use jri_memory::{
+    Break, ChoiceEntry, DecodeReport, MendReport, ResyncReport, check_marks, decode_file,
+    mend_files, resynchronise_file,
+};
 use std::test::Fail;
 use test_files::files::{TEN, file, front};
 
@@ -113,6 +116,32 @@ fn resynchronises(rt: HostRuntime) -> Result<(), Fail> {
     assert!(rt; answer == OK && report == whole);
     assert!(rt; front(&out, 175) == in_step.as_slice() && out[175] == BYTE);
     assert!(rt; has_break(breaks[0], 150, 0xD2, 1, 1) && has_break(breaks[1], 7, 7, 7, 7));
+    Ok(())
+}
+
+#[test]
+fn decodes_resynchronised(rt: HostRuntime) -> Result<(), Fail> {
+    let lost = file(rt.alloc(), LOST)?;
+    let mut pixels = [BYTE; 640];
+    let mut marks = [BYTE; 10];
+    let mut checked = [BYTE; 10];
+    let mut report = DecodeReport::empty();
+    let answer = decode_file(
+        rt.alloc(),
+        lost.as_slice(),
+        1,
+        &mut pixels,
+        &mut marks,
+        &mut report,
+    );
+    assert!(rt; answer == DAMAGED && report.sound == 9 && report.damaged == 1 && report.ended == 1);
+    assert!(rt; marks == [1, 1, 2, 1, 1, 1, 1, 1, 1, 1]);
+    for k in 0..pixels.len() {
+        let expected = if k % 80 / 8 == 2 { 128 } else { 136 };
+        assert!(rt; pixels[k] == expected, "byte {k}");
+    }
+    let answer = check_marks(rt.alloc(), lost.as_slice(), 1, &mut checked, &mut report);
+    assert!(rt; answer == DAMAGED && report.damaged == 1 && checked == marks);
     Ok(())
 }
 
