@@ -31,7 +31,7 @@ extern "C" {
 #define JRI_RELEASE "0.1.0"
 
 /* The number of this interface; jri_version() returns that of the library. */
-#define JRI_VERSION 6
+#define JRI_VERSION 7
 
 /* The status of a call. */
 enum {
@@ -44,13 +44,24 @@ enum {
     JRI_NO_LINES = 5,         /* the image has no such lines or rows, or none were asked for */
     JRI_NO_LAYOUT = 6,        /* there is no such layout, or a line is longer than the stride */
     JRI_NEED_MORE = 7,        /* the bytes so far end before the header does */
-    JRI_TOO_LONG = 8,         /* the file that would be written is longer than a file may be: 1,073,741,824 bytes */
+    JRI_TOO_LONG = 8,         /* the file written anew would be longer than a file may be: 1,073,741,824 bytes */
     JRI_NO_COPIES = 9,        /* there are no copies, more than 64, or their sizes exceed their bytes */
     JRI_OTHER_HEADER = 10     /* a copy has another header than the first */
 };
 
 /* Whether the bytes are all of the file, or more may follow. */
 enum { JRI_COMPLETE = 0, JRI_PARTIAL = 1 };
+
+/*
+ * Whether a call reads a file as it is, or resynchronised, as jri_resynchronise writes it.
+ *
+ * Proved: with JRI_RESYNC image, marks and report are those of the resynchronised file, which has the file's header.
+ * JRI_TOO_LONG is returned only with JRI_RESYNC, and only if that file would be too long. Any number but 0 counts as
+ * JRI_RESYNC. Tested: the report's end is JRI_END_OF_IMAGE.
+ *
+ * With JRI_RESYNC a call also allocates the resynchronised file, unless the file's markers are in step.
+ */
+enum { JRI_AS_IS = 0, JRI_RESYNC = 1 };
 
 /* The meaning of the components. */
 enum { JRI_GREY = 0, JRI_RGB = 1, JRI_YCBCR = 2 };
@@ -85,7 +96,7 @@ struct jri_header {
 /*
  * The report of a decoding or a check. Proved: without an image everything but the refusal's two numbers is 0; with
  * one these two are 0, and so are the fields that the end of the scan does not use. With JRI_BUFFER_TOO_SMALL,
- * JRI_NO_LINES and JRI_NO_LAYOUT everything is 0.
+ * JRI_NO_LINES, JRI_NO_LAYOUT and JRI_TOO_LONG everything is 0.
  */
 struct jri_report {
     uint32_t intervals; /* number of restart intervals */
@@ -205,7 +216,8 @@ uint32_t jri_version(void);
 uint32_t jri_read_header(const uint8_t *file, size_t file_length, uint32_t more, struct jri_header *header);
 
 /*
- * Decodes a file. Allocates for the scan and for one row of MCUs (8, 16, 24 or 32 lines), and nothing for the image.
+ * Decodes a file, with JRI_RESYNC as jri_resynchronise writes it. Allocates for the scan and for one row of MCUs (8,
+ * 16, 24 or 32 lines), and nothing for the image.
  *
  * Proved: with JRI_SOUND and JRI_DAMAGED the first bytes of `pixels` are the lines of the image from the top, each
  * pixel one byte of grey or one each of red, green and blue; those of `marks` are the marks of its intervals unless
@@ -213,11 +225,12 @@ uint32_t jri_read_header(const uint8_t *file, size_t file_length, uint32_t more,
  * decodable prefix of whole MCUs, then mid-grey: 128 in all components. JRI_BUFFER_TOO_SMALL is returned only if the
  * pixels are smaller than jri_read_header says, or marks that were asked for are.
  */
-uint32_t jri_decode(const uint8_t *file, size_t file_length, uint8_t *pixels, size_t pixels_size, uint8_t *marks,
-                    size_t marks_size, struct jri_report *report);
+uint32_t jri_decode(const uint8_t *file, size_t file_length, uint32_t resync, uint8_t *pixels, size_t pixels_size,
+                    uint8_t *marks, size_t marks_size, struct jri_report *report);
 
 /*
- * Decodes `count` lines of the image starting at line `first`, from 0 at the top. Allocates as much as jri_decode.
+ * Decodes `count` lines of the image starting at line `first`, from 0 at the top; with JRI_RESYNC that of the file as
+ * jri_resynchronise writes it. Allocates as much as jri_decode.
  *
  * Proved: with JRI_SOUND and JRI_DAMAGED the first bytes of `pixels` are these lines as jri_decode returns them;
  * bytes after them are unchanged. The report's sound and damaged count the intervals that end in these lines' rows of
@@ -228,12 +241,12 @@ uint32_t jri_decode(const uint8_t *file, size_t file_length, uint8_t *pixels, si
  * Each call reads the file anew, and the interval before the lines from its start: without restart markers that is
  * everything before the lines. jri_decode_rows continues from a position instead.
  */
-uint32_t jri_decode_lines(const uint8_t *file, size_t file_length, uint32_t first, uint32_t count, uint8_t *pixels,
-                          size_t pixels_size, struct jri_report *report);
+uint32_t jri_decode_lines(const uint8_t *file, size_t file_length, uint32_t resync, uint32_t first, uint32_t count,
+                          uint8_t *pixels, size_t pixels_size, struct jri_report *report);
 
 /*
- * Checks a file: reads each restart interval as jri_decode does, and makes no image. Allocates for the scan alone,
- * and takes a third to a half of the time.
+ * Checks a file, with JRI_RESYNC as jri_resynchronise writes it: reads each restart interval as jri_decode does, and
+ * makes no image. Allocates for the scan alone, and takes a third to a half of the time.
  *
  * Proved: with JRI_SOUND and JRI_DAMAGED the first bytes of `marks` are the marks of its intervals unless marks_size
  * is 0: JRI_MARK_SOUND if the interval has a decoding, otherwise JRI_MARK_DAMAGED; bytes after them are unchanged;
@@ -242,7 +255,7 @@ uint32_t jri_decode_lines(const uint8_t *file, size_t file_length, uint32_t firs
  *
  * Tested: status, marks and report are those of jri_decode.
  */
-uint32_t jri_check(const uint8_t *file, size_t file_length, uint8_t *marks, size_t marks_size,
+uint32_t jri_check(const uint8_t *file, size_t file_length, uint32_t resync, uint8_t *marks, size_t marks_size,
                    struct jri_report *report);
 
 /*
@@ -327,16 +340,18 @@ enum {
 };
 
 /*
- * Decodes a file onto a canvas: line k begins at canvas + k * stride, in a layout. Allocates for the scan, one row of
- * MCUs and its lines, and nothing for the image. The canvas must reach to the end of the last line, no further.
+ * Decodes a file onto a canvas: line k begins at canvas + k * stride, in a layout. With JRI_RESYNC it decodes the file
+ * as jri_resynchronise writes it. Allocates for the scan, one row of MCUs and its lines, and nothing for the image. The
+ * canvas must reach to the end of the last line, no further.
  *
  * Proved: with JRI_SOUND and JRI_DAMAGED the lines of the image are on the canvas in this layout, every other byte of
  * the canvas is unchanged, and `marks` and `report` are those of jri_decode. JRI_BUFFER_TOO_SMALL is returned only if
  * a line does not fit on the canvas or marks that were asked for are too small; JRI_NO_LAYOUT only if there is no such
  * layout or a line is longer than the stride; then both buffers are unchanged.
  */
-uint32_t jri_decode_canvas(const uint8_t *file, size_t file_length, uint8_t *canvas, size_t canvas_size, size_t stride,
-                           uint32_t layout, uint8_t *marks, size_t marks_size, struct jri_report *report);
+uint32_t jri_decode_canvas(const uint8_t *file, size_t file_length, uint32_t resync, uint8_t *canvas,
+                           size_t canvas_size, size_t stride, uint32_t layout, uint8_t *marks, size_t marks_size,
+                           struct jri_report *report);
 
 /*
  * Lays out lines that another call returned: consecutive lines of `width` pixels of one or three components, onto a
@@ -351,10 +366,10 @@ uint32_t jri_lay_out(const uint8_t *lines, size_t lines_length, uint32_t width, 
                      size_t canvas_size, size_t stride, uint32_t layout);
 
 /*
- * Writes a damaged file with its restart markers in step into the first bytes of `out`. Every other call then decodes or
- * checks that file: an interval that is lost has no bytes, and those after it are where they belong. The markers that
- * were out of step are listed, as many as `breaks` has entries: `breaks_count`. Allocates the file that it writes and a
- * list of the breaks.
+ * Writes a damaged file with its restart markers in step into the first bytes of `out`. Every other call then reads
+ * that file: an interval that is lost has no bytes, and those after it are where they belong. The markers that were out
+ * of step are listed, as many as `breaks` has entries: `breaks_count`. Allocates the file that it writes and a list of
+ * the breaks. For the image alone pass JRI_RESYNC to jri_decode.
  *
  * The bytes of a scan fall into intervals by the numbers of its restart markers, which count modulo 8. A marker is at
  * most one interval further ahead than the bytes before it hold on average; if its number allows none, it is passed

@@ -34,7 +34,7 @@ static void time_both(const struct file *f, unsigned threads, uint32_t rows, int
         struct jri_report report;
         double from = milliseconds();
         if (run % 2 == 0)
-            jri_decode(f->data, f->length, f->pixels, f->header.pixels, NULL, 0, &report);
+            jri_decode(f->data, f->length, JRI_AS_IS, f->pixels, f->header.pixels, NULL, 0, &report);
         else
             decode_by_threads(f->data, f->length, &f->header, f->pixels, threads, rows);
         double taken = milliseconds() - from;

@@ -49,6 +49,7 @@ def test_the_other_intervals_are_in_their_place(photo):
         found, wanted = picture.pixels[y : y + 16, x : x + 16], expected[y : y + 16, x : x + 16]
         assert (found == 128).all() if mcu // 8 == 5 else numpy.array_equal(found, wanted)
     assert numpy.array_equal(jri.decode(lost, resync=True), picture.pixels)
+    assert numpy.array_equal(jri.decode(lost, layout="rgb", resync=True), picture.pixels)
     assert jri.check(lost, resync=True).report == picture.report and picture.report.damaged == 1
     assert jri.check(lost).report.damaged > 1
 

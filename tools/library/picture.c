@@ -40,7 +40,7 @@ static int decode(const uint8_t *file, size_t length) {
         return refused(header.refusal, header.detail);
     uint8_t *pixels = status == JRI_OK ? malloc(header.pixels) : NULL;
     if (pixels)
-        status = jri_decode(file, length, pixels, header.pixels, NULL, 0, &report);
+        status = jri_decode(file, length, JRI_AS_IS, pixels, header.pixels, NULL, 0, &report);
     if (!pixels || status == JRI_NO_MEMORY) {
         fprintf(stderr, "out of memory\n");
         free(pixels);

@@ -4,8 +4,8 @@
  *     trials FILE ..
  *
  * Of each file, which jri accepts, it sees that buffers with more room are left as they are behind the picture, that ones with
- * too little are not touched, that each request for memory may be refused, that the file may be resynchronised, and mended from
- * itself and a copy without a scan, that lines decoded alone are those of the picture, and so are rows from places, of a file that
+ * too little are not touched, that each request for memory may be refused, that the file may be resynchronised, has the same
+ * image by JRI_RESYNC, and may be mended from itself and a copy without a scan, that lines decoded alone are those of the picture, and so are rows from places, of a file that
  * is there or arrives, that any place may be given, and that many threads may decode at once; and
  * that pointers may be null where nothing is behind them. It ends with 1 where something else is seen, and says what.
  */
@@ -38,11 +38,12 @@ void *__wrap_malloc(size_t size) { return requests++ == refused ? NULL : __real_
 
 void *__wrap_realloc(void *block, size_t size) { return requests++ == refused ? NULL : __real_realloc(block, size); }
 
-/* A file, and what a decoding of it gives. */
+/* A file, whether it is resynchronised, and what a decoding of it gives. */
 struct trial {
     const char *name;
     uint8_t *file;
     size_t length;
+    uint32_t resync;
     struct jri_header header;
     struct jri_report report;
     uint32_t status;
@@ -88,7 +89,7 @@ static long decode(const struct trial *t, size_t pixels_size, size_t marks_size,
     size_t size = t->header.pixels, count = marks_size ? t->header.intervals : 0;
     requests = 0;
     refused = k;
-    uint32_t status = jri_decode(t->file, t->length, pixels, pixels_size, marks, marks_size, &report);
+    uint32_t status = jri_decode(t->file, t->length, t->resync, pixels, pixels_size, marks, marks_size, &report);
     long made = requests;
     refused = -1;
     if (status == t->status && otherwise != JRI_BUFFER_TOO_SMALL) {
@@ -142,7 +143,7 @@ static long decode_lines(const struct trial *t, uint32_t first, uint32_t count, 
     uint8_t *pixels = buffer(size + MORE);
     requests = 0;
     refused = k;
-    uint32_t status = jri_decode_lines(t->file, t->length, first, count, pixels, size + MORE, report);
+    uint32_t status = jri_decode_lines(t->file, t->length, t->resync, first, count, pixels, size + MORE, report);
     long made = requests;
     refused = -1;
     if (status == JRI_NO_MEMORY && made > k && k >= 0) {
@@ -172,7 +173,7 @@ static void decode_by(const struct trial *t, uint32_t step) {
 static void no_lines(const struct trial *t, uint32_t first, uint32_t count) {
     uint8_t *pixels = buffer(t->header.pixels);
     struct jri_report report;
-    see(jri_decode_lines(t->file, t->length, first, count, pixels, t->header.pixels, &report) == JRI_NO_LINES, t, "no such lines");
+    see(jri_decode_lines(t->file, t->length, t->resync, first, count, pixels, t->header.pixels, &report) == JRI_NO_LINES, t, "no such lines");
     see(is_filled(pixels, t->header.pixels), t, "no such lines, a buffer touched");
     release(pixels, t->header.pixels);
 }
@@ -191,7 +192,7 @@ static void try_lines(const struct trial *t) {
     no_lines(t, height - 1, 2);
     no_lines(t, UINT32_MAX, UINT32_MAX);
     uint8_t *pixels = buffer(line_of(t) - 1);
-    see(jri_decode_lines(t->file, t->length, 0, 1, pixels, line_of(t) - 1, &report) == JRI_BUFFER_TOO_SMALL, t, "a byte of a line too few");
+    see(jri_decode_lines(t->file, t->length, t->resync, 0, 1, pixels, line_of(t) - 1, &report) == JRI_BUFFER_TOO_SMALL, t, "a byte of a line too few");
     see(is_filled(pixels, line_of(t) - 1), t, "a byte of a line too few, a buffer touched");
     release(pixels, line_of(t) - 1);
 }
@@ -203,7 +204,7 @@ static long check(const struct trial *t, size_t room, uint32_t otherwise, long k
     size_t count = room ? t->header.intervals : 0;
     requests = 0;
     refused = k;
-    uint32_t status = jri_check(t->file, t->length, marks, room, &report);
+    uint32_t status = jri_check(t->file, t->length, t->resync, marks, room, &report);
     long made = requests;
     refused = -1;
     if (status == t->status && otherwise != JRI_BUFFER_TOO_SMALL) {
@@ -445,7 +446,7 @@ static long resynchronise(const struct trial *t, size_t size, size_t count, long
         see(is_filled(bytes + found * sizeof *breaks, listed - found * sizeof *breaks), t, "behind the breaks");
         for (size_t i = 0; i < found; i++)
             see(breaks[i].at < t->length && breaks[i].due < 8 && (!i || breaks[i - 1].at < breaks[i].at), t, "a break");
-        see(jri_check(out, report->size, NULL, 0, &decoded) <= JRI_DAMAGED && decoded.ended == JRI_END_OF_IMAGE, t, "a resynchronised file");
+        see(jri_check(out, report->size, JRI_AS_IS, NULL, 0, &decoded) <= JRI_DAMAGED && decoded.ended == JRI_END_OF_IMAGE, t, "a resynchronised file");
         see(whole.breaks || decoded.damaged <= t->report.damaged, t, "a file in step");
     } else {
         see(status == (size < whole.size ? JRI_BUFFER_TOO_SMALL : JRI_NO_MEMORY) || (status == JRI_NO_MEMORY && made > k), t, "a status of resynchronising");
@@ -498,7 +499,7 @@ static long mend(const struct trial *t, const struct copies *it, size_t size, si
         see(is_filled(bytes + found * sizeof *choices, listed - found * sizeof *choices), t, "behind the choices");
         for (size_t i = 0; i < found; i++)
             see(choices[i].mark == t->marks[i] && !choices[i].differs && (choices[i].mark != JRI_MARK_SOUND || !choices[i].copy), t, "a choice");
-        see(jri_check(out, report->size, marks, t->header.intervals, &decoded) == t->status, t, "a mended file");
+        see(jri_check(out, report->size, JRI_AS_IS, marks, t->header.intervals, &decoded) == t->status, t, "a mended file");
         see(!memcmp(marks, t->marks, t->header.intervals) && decoded.damaged == report->damaged, t, "a mended file's marks");
         release(marks, t->header.intervals);
     } else {
@@ -581,11 +582,11 @@ static void try_canvas(const struct trial *t) {
         size_t room = (t->header.height - 1) * stride + size;
         uint8_t *canvas = buffer(room), *other = buffer(room);
         struct jri_report report;
-        see(jri_decode_canvas(t->file, t->length, canvas, room - 1, stride, layout, NULL, 0, &report) == JRI_BUFFER_TOO_SMALL &&
+        see(jri_decode_canvas(t->file, t->length, t->resync, canvas, room - 1, stride, layout, NULL, 0, &report) == JRI_BUFFER_TOO_SMALL &&
             is_filled(canvas, room), t, "a canvas without room");
-        see(jri_decode_canvas(t->file, t->length, canvas, room, size - 1, layout, NULL, 0, &report) == JRI_NO_LAYOUT &&
+        see(jri_decode_canvas(t->file, t->length, t->resync, canvas, room, size - 1, layout, NULL, 0, &report) == JRI_NO_LAYOUT &&
             is_filled(canvas, room), t, "a stride that is too short");
-        see(jri_decode_canvas(t->file, t->length, canvas, room, stride, layout, NULL, 0, &report) == t->status &&
+        see(jri_decode_canvas(t->file, t->length, t->resync, canvas, room, stride, layout, NULL, 0, &report) == t->status &&
             !memcmp(&report, &t->report, sizeof report) && has_picture(t, canvas, stride, size, layout), t, "a canvas");
         see(jri_lay_out(t->pixels, t->header.pixels, t->header.width, t->header.components, other, room - 1, stride, layout) ==
             JRI_BUFFER_TOO_SMALL && is_filled(other, room), t, "no room for lines");
@@ -595,7 +596,39 @@ static void try_canvas(const struct trial *t) {
         release(other, room);
     }
     struct jri_report report;
-    see(jri_decode_canvas(t->file, t->length, NULL, 0, 300000, 5, NULL, 0, &report) == JRI_NO_LAYOUT, t, "no layout");
+    see(jri_decode_canvas(t->file, t->length, t->resync, NULL, 0, 300000, 5, NULL, 0, &report) == JRI_NO_LAYOUT, t, "no layout");
+}
+
+/* Tries the calls that decode or check a whole file. */
+static void try_image(const struct trial *t) {
+    size_t size = t->header.pixels, count = t->header.intervals;
+    decode(t, size + MORE, count + MORE, t->status, -1, "more room");
+    decode(t, size, 0, t->status, -1, "no marks asked for");
+    decode(t, size - 1, count, JRI_BUFFER_TOO_SMALL, -1, "a pixel's byte too few");
+    if (count > 1)
+        decode(t, size, count - 1, JRI_BUFFER_TOO_SMALL, -1, "a mark too few");
+    refuse(t);
+    try_lines(t);
+    try_check(t);
+    try_canvas(t);
+}
+
+/* Tries these calls with JRI_RESYNC: they return what they return for the file that jri_resynchronise writes. */
+static void try_resynced(const struct trial *t) {
+    struct trial it = *t;
+    struct jri_resynced report;
+    size_t size = t->length + 2 * (size_t)t->header.intervals;
+    uint8_t *out = buffer(size);
+    see(jri_resynchronise(t->file, t->length, out, size, NULL, 0, &report) == JRI_OK, t, "a resynchronised file");
+    it.resync = JRI_RESYNC;
+    it.pixels = buffer(t->header.pixels);
+    it.marks = buffer(t->header.intervals);
+    it.status = jri_decode(out, report.size, JRI_AS_IS, it.pixels, t->header.pixels, it.marks, t->header.intervals, &it.report);
+    see(it.status <= JRI_DAMAGED && it.report.ended == JRI_END_OF_IMAGE, t, "the image of a resynchronised file");
+    try_image(&it);
+    release(out, size);
+    release(it.pixels, t->header.pixels);
+    release(it.marks, t->header.intervals);
 }
 
 static void try_null(void) {
@@ -605,9 +638,9 @@ static void try_null(void) {
     see(jri_version() == JRI_VERSION, &none, "the version");
     see(jri_read_header(NULL, 0, JRI_COMPLETE, &none.header) == JRI_REFUSED && none.header.refusal == 1, &none, "a header");
     see(jri_read_header(NULL, 0, JRI_PARTIAL, &none.header) == JRI_NEED_MORE && !none.header.refusal, &none, "a header of nothing yet");
-    see(jri_decode(NULL, 0, NULL, 0, NULL, 0, &none.report) == JRI_REFUSED && none.report.refusal == 1, &none, "a decoding");
-    see(jri_decode_lines(NULL, 0, 0, 1, NULL, 0, &none.report) == JRI_REFUSED && none.report.refusal == 1, &none, "lines");
-    see(jri_check(NULL, 0, NULL, 0, &none.report) == JRI_REFUSED && none.report.refusal == 1, &none, "a check");
+    see(jri_decode(NULL, 0, JRI_AS_IS, NULL, 0, NULL, 0, &none.report) == JRI_REFUSED && none.report.refusal == 1, &none, "a decoding");
+    see(jri_decode_lines(NULL, 0, JRI_AS_IS, 0, 1, NULL, 0, &none.report) == JRI_REFUSED && none.report.refusal == 1, &none, "lines");
+    see(jri_check(NULL, 0, JRI_AS_IS, NULL, 0, &none.report) == JRI_REFUSED && none.report.refusal == 1, &none, "a check");
     struct jri_position place = {0};
     struct jri_rows rows;
     see(jri_decode_rows(NULL, 0, JRI_COMPLETE, &place, 1, NULL, 0, &rows) == JRI_REFUSED && rows.refusal == 1, &none, "rows");
@@ -653,24 +686,17 @@ static void try_file(const char *name) {
     size_t size = t.header.pixels, count = t.header.intervals;
     t.pixels = buffer(size);
     t.marks = buffer(count);
-    t.status = jri_decode(t.file, t.length, t.pixels, size, t.marks, count, &t.report);
+    t.status = jri_decode(t.file, t.length, JRI_AS_IS, t.pixels, size, t.marks, count, &t.report);
     see(t.status == JRI_SOUND || t.status == JRI_DAMAGED, &t, "is not decoded");
-    see(jri_decode(t.file, t.length, NULL, 0, NULL, 0, &t.report) == JRI_BUFFER_TOO_SMALL, &t, "no room at all");
-    jri_decode(t.file, t.length, t.pixels, size, t.marks, count, &t.report);
-    decode(&t, size + MORE, count + MORE, t.status, -1, "more room");
-    decode(&t, size, 0, t.status, -1, "no marks asked for");
-    decode(&t, size - 1, count, JRI_BUFFER_TOO_SMALL, -1, "a pixel's byte too few");
-    if (count > 1)
-        decode(&t, size, count - 1, JRI_BUFFER_TOO_SMALL, -1, "a mark too few");
-    refuse(&t);
+    see(jri_decode(t.file, t.length, JRI_AS_IS, NULL, 0, NULL, 0, &t.report) == JRI_BUFFER_TOO_SMALL, &t, "no room at all");
+    jri_decode(t.file, t.length, JRI_AS_IS, t.pixels, size, t.marks, count, &t.report);
+    try_image(&t);
     try_header(&t);
-    try_lines(&t);
-    try_check(&t);
     try_damages(&t);
     try_resynchronise(&t);
+    try_resynced(&t);
     try_mend(&t);
     try_rows(&t);
-    try_canvas(&t);
     work_at_once(&t);
     release(t.file, t.length);
     release(t.pixels, size);

@@ -100,7 +100,14 @@ fn check_decoding(case: &Case<'_>, marks: &[u8], out: &mut Differences) {
     let mut pixels = out.bytes(case.alloc, BEFORE, case.samples().len());
     let mut found = out.bytes(case.alloc, BEFORE, marks.len());
     let mut report = DecodeReport::empty();
-    let answer = decode_file(case.alloc, case.bytes, &mut pixels, &mut found, &mut report);
+    let answer = decode_file(
+        case.alloc,
+        case.bytes,
+        0,
+        &mut pixels,
+        &mut found,
+        &mut report,
+    );
     compare_bytes(out, case.at("decode, marks"), marks, found.as_slice());
     compare_call(case, "decode", pixels.as_slice(), &report, answer, out);
 }
@@ -109,7 +116,7 @@ fn check_decoding(case: &Case<'_>, marks: &[u8], out: &mut Differences) {
 fn check_marks_of(case: &Case<'_>, marks: &[u8], out: &mut Differences) {
     let mut found = out.bytes(case.alloc, BEFORE, marks.len());
     let mut report = DecodeReport::empty();
-    let answer = check_marks(case.alloc, case.bytes, &mut found, &mut report);
+    let answer = check_marks(case.alloc, case.bytes, 0, &mut found, &mut report);
     compare_bytes(out, case.at("marks"), marks, found.as_slice());
     compare_call(case, "check of marks", case.samples(), &report, answer, out);
 }
@@ -120,7 +127,7 @@ fn check_small_buffer(case: &Case<'_>, out: &mut Differences) {
     let mut pixels = out.bytes(case.alloc, BEFORE, size);
     let wanted = out.bytes(case.alloc, BEFORE, size);
     let mut report = DecodeReport::empty();
-    let answer = decode_file(case.alloc, case.bytes, &mut pixels, &mut [], &mut report);
+    let answer = decode_file(case.alloc, case.bytes, 0, &mut pixels, &mut [], &mut report);
     compare_bytes(
         out,
         case.at("bytes kept"),

@@ -5,7 +5,9 @@ use crate::case::Case;
 use crate::differences::{Differences, compare_bytes, compare_texts};
 use crate::failure::Failure;
 use crate::texts::{map_of, put_damaged_lines};
-use jri_memory::{Damage, DamageReport, DecodeReport, decode_canvas, decode_lines, list_damages};
+use jri_memory::{
+    CanvasShape, Damage, DamageReport, DecodeReport, decode_canvas, decode_lines, list_damages,
+};
 use std::alloc::AllocError;
 
 /// The number of lines that are decoded at once.
@@ -33,7 +35,7 @@ fn check_lines_at(case: &Case<'_>, first: u32, out: &mut Differences) {
     let mut pixels = out.bytes(case.alloc, 7, size);
     let mut report = DecodeReport::empty();
     let (alloc, bytes) = (case.alloc, case.bytes);
-    let _answer = decode_lines(alloc, bytes, first, count, &mut pixels, &mut report);
+    let _answer = decode_lines(alloc, bytes, 0, first, count, &mut pixels, &mut report);
     let wanted = lines_at(case.samples(), line, first, count);
     compare_bytes(out, case.at("some lines"), wanted, pixels.as_slice());
 }
@@ -52,7 +54,7 @@ fn check_all_lines(case: &Case<'_>, out: &mut Differences) {
     let (alloc, bytes, height) = (case.alloc, case.bytes, case.header.height);
     let mut pixels = out.bytes(alloc, 7, case.samples().len());
     let mut report = DecodeReport::empty();
-    let answer = decode_lines(alloc, bytes, 0, height, &mut pixels, &mut report);
+    let answer = decode_lines(alloc, bytes, 0, 0, height, &mut pixels, &mut report);
     compare_call(case, "all lines", pixels.as_slice(), &report, answer, out);
 }
 
@@ -70,7 +72,8 @@ fn check_canvas(case: &Case<'_>, out: &mut Differences) {
     let stride = line.saturating_add(SPARE);
     let mut canvas = out.bytes(alloc, 7, stride.saturating_mul(case.header.height as usize));
     let mut report = DecodeReport::empty();
-    let answer = decode_canvas(alloc, bytes, &mut canvas, stride, 0, &mut [], &mut report);
+    let shape = CanvasShape { stride, layout: 0 };
+    let answer = decode_canvas(alloc, bytes, 0, &mut canvas, shape, &mut [], &mut report);
     let mut found = Vec::new(alloc);
     out.note(put_without_spare(&mut found, canvas.as_slice(), line));
     compare_call(case, "canvas", found.as_slice(), &report, answer, out);

@@ -10,25 +10,25 @@ ghost use Rattle.jri_memory.specs.Canvases.{DecodesCanvas, LacksCanvas, LacksLay
 ghost use Rattle.jri_memory.specs.Damages.{ListsDamages, TellsNoDamage};
 ghost use Rattle.jri_memory.specs.Checks.{ChecksFile, LacksMarkRoom};
 ghost use Rattle.jri_memory.specs.Mends.{HasOtherHeader, IsTooLongMend, LackCopies, LacksMendRoom, MendsFiles, TellsCopyFault, TellsNoMend, files_of};
-ghost use Rattle.jri_memory.specs.Resyncs.{IsTooLongFile, LacksResyncRoom, ResyncsFile, TellsNoResync};
+ghost use Rattle.jri_memory.specs.Resyncs.{IsTooLongFile, IsTooLongRead, LacksResyncRoom, OfRead, ResyncsFile, TellsNoResync};
 ghost use Rattle.jri_memory.specs.Calls.{DecodesFile, DecodesLines, TellsFault, IsHeaderOf, IsNumberOfSome, LacksLines, LacksRoom, LacksRoomForLines, TellsNoHeader, TellsNoPicture, TellsNoRefusal};
 ghost use Rattle.jri_memory.specs.Rows.{GivesRows, LacksRoomForRow, LacksRows, SkipsRows, TellsPartialFault, TellsNoRows, TellsNothing, are_all};
 
 use jri_memory::{
-    Break, ChoiceEntry, Damage, DamageReport, DecodeReport, Header, MendReport, ResyncReport,
-    RowPlace, RowsReport, build_text, check_marks, decode_canvas, decode_file, decode_file_rows,
-    decode_lines, end_text, lay_out, list_damages, mend_files, read_header, refusal_text,
-    resynchronise_file, skip_file_rows,
+    Break, CanvasShape, ChoiceEntry, Damage, DamageReport, DecodeReport, Header, MendReport,
+    ResyncReport, RowPlace, RowsReport, build_text, check_marks, decode_canvas, decode_file,
+    decode_file_rows, decode_lines, end_text, lay_out, list_damages, mend_files, read_header,
+    refusal_text, resynchronise_file, skip_file_rows,
 };
 use std::alloc::Global;
 
 /// The number of these calls: it is changed where one of them is.
-const VERSION: u32 = 6;
+const VERSION: u32 = 7;
 
 /// The number of these calls.
 #[unsafe(no_mangle)]
 pub extern "C" fn jri_version() -> u32
-    ensures { result ≡ 6 }
+    ensures { result ≡ 7 }
 {
     VERSION
 }
@@ -52,47 +52,52 @@ pub extern "C" fn jri_read_header(alloc: Global, file: &[u8], more: u32, header:
     read_header(alloc, file, more, header)
 }
 
-/// Decodes a file into the start of `pixels`, and its marks into that of `marks` unless that is empty. Returns 0, or 3
-/// if an interval is damaged. With 1 if allocation fails, 2 if the file is refused, and 4 if a buffer is too small,
-/// both are unchanged.
+/// Decodes a file, resynchronised unless `resync` is 0, into the start of `pixels`, and its marks into that of `marks`
+/// unless that is empty. Returns 0, or 3 if an interval is damaged. With 1 if allocation fails, 2 if the file is refused,
+/// 4 if a buffer is too small, and 8 if the resynchronised file would be too long, both are unchanged.
 #[unsafe(no_mangle)]
 pub extern "C" fn jri_decode(
     alloc: Global,
     file: &[u8],
+    resync: u32,
     pixels: &mut [u8],
     marks: &mut [u8],
     report: &mut DecodeReport,
 ) -> u32
-    ensures sound { result ≡ 0 → DecodesFile file.now pixels.old pixels.new marks.old marks.new report.new }
-    ensures damaged { result ≡ 3 → DecodesFile file.now pixels.old pixels.new marks.old marks.new report.new }
+    ensures sound { result ≡ 0 → OfRead file.now resync (λ read. DecodesFile read pixels.old pixels.new marks.old marks.new report.new) }
+    ensures damaged { result ≡ 3 → OfRead file.now resync (λ read. DecodesFile read pixels.old pixels.new marks.old marks.new report.new) }
     ensures undamaged { result ≡ 0 → report.new.damaged ≡ 0 }
     ensures some_damaged { result ≡ 3 → 0 < report.new.damaged }
     ensures refused { result ≡ 2 → TellsFault file.now report.new.refusal report.new.detail }
     ensures memory { result ≡ 1 → report.new.refusal ≡ 19 }
     ensures room { result ≡ 4 → LacksRoom file.now (length pixels.old) (length marks.old) }
     ensures room_alone { result ≡ 4 → TellsNoRefusal report.new }
+    ensures long { result ≡ 8 → IsTooLongRead file.now resync }
+    ensures long_alone { result ≡ 8 → TellsNoRefusal report.new }
     ensures no_picture { result ≢ 0 → result ≢ 3 → TellsNoPicture report.new }
     ensures pixels { result ≢ 0 → result ≢ 3 → pixels.new ≡ pixels.old }
     ensures marks { result ≢ 0 → result ≢ 3 → marks.new ≡ marks.old }
-    ensures few { result ≤ 4 }
+    ensures few { result ≢ 8 → result ≤ 4 }
 {
-    decode_file(alloc, file, pixels, marks, report)
+    decode_file(alloc, file, resync, pixels, marks, report)
 }
 
-/// Decodes `count` lines of a file's image starting at line `first` into the start of `pixels`. Returns 0, or 3 if an
-/// interval is damaged that ends in the rows of MCUs of these lines. With 1 if allocation fails, 2 if the file is
-/// refused, 4 if the buffer is too small, and 5 if the image has no such lines, it is unchanged.
+/// Decodes `count` lines of the image of a file, resynchronised unless `resync` is 0, starting at line `first` into the
+/// start of `pixels`. Returns 0, or 3 if an interval is damaged that ends in the rows of MCUs of these lines. With 1 if
+/// allocation fails, 2 if the file is refused, 4 if the buffer is too small, 5 if the image has no such lines, and 8 if
+/// the resynchronised file would be too long, it is unchanged.
 #[unsafe(no_mangle)]
 pub extern "C" fn jri_decode_lines(
     alloc: Global,
     file: &[u8],
+    resync: u32,
     first: u32,
     count: u32,
     pixels: &mut [u8],
     report: &mut DecodeReport,
 ) -> u32
-    ensures sound { result ≡ 0 → DecodesLines file.now first count pixels.old pixels.new report.new }
-    ensures damaged { result ≡ 3 → DecodesLines file.now first count pixels.old pixels.new report.new }
+    ensures sound { result ≡ 0 → OfRead file.now resync (λ read. DecodesLines read first count pixels.old pixels.new report.new) }
+    ensures damaged { result ≡ 3 → OfRead file.now resync (λ read. DecodesLines read first count pixels.old pixels.new report.new) }
     ensures undamaged { result ≡ 0 → report.new.damaged ≡ 0 }
     ensures some_damaged { result ≡ 3 → 0 < report.new.damaged }
     ensures refused { result ≡ 2 → TellsFault file.now report.new.refusal report.new.detail }
@@ -101,11 +106,13 @@ pub extern "C" fn jri_decode_lines(
     ensures room_alone { result ≡ 4 → TellsNoRefusal report.new }
     ensures lines { result ≡ 5 → LacksLines file.now first count }
     ensures lines_alone { result ≡ 5 → TellsNoRefusal report.new }
+    ensures long { result ≡ 8 → IsTooLongRead file.now resync }
+    ensures long_alone { result ≡ 8 → TellsNoRefusal report.new }
     ensures no_picture { result ≢ 0 → result ≢ 3 → TellsNoPicture report.new }
     ensures pixels { result ≢ 0 → result ≢ 3 → pixels.new ≡ pixels.old }
-    ensures few { result ≤ 5 }
+    ensures few { result ≢ 8 → result ≤ 5 }
 {
-    decode_lines(alloc, file, first, count, pixels, report)
+    decode_lines(alloc, file, resync, first, count, pixels, report)
 }
 
 /// Writes the text of a refusal by its numbers into `text`, as much as fits, with no 0 after it, and returns its length
@@ -121,29 +128,33 @@ pub extern "C" fn jri_refusal_text(number: u32, detail: u64, text: &mut [u8]) ->
     refusal_text(number, detail, text) as u64
 }
 
-/// Checks a file: reads each restart interval as a decoder does, makes no image, and stores the marks at the start of
-/// `marks` unless that is empty. Returns 0, or 3 if an interval is damaged. With 1 if allocation fails, 2 if the file
-/// is refused, and 4 if `marks` is too small, it is unchanged.
+/// Checks a file, resynchronised unless `resync` is 0: reads each restart interval as a decoder does, makes no image, and
+/// stores the marks at the start of `marks` unless that is empty. Returns 0, or 3 if an interval is damaged. With 1 if
+/// allocation fails, 2 if the file is refused, 4 if `marks` is too small, and 8 if the resynchronised file would be too
+/// long, it is unchanged.
 #[unsafe(no_mangle)]
 pub extern "C" fn jri_check(
     alloc: Global,
     file: &[u8],
+    resync: u32,
     marks: &mut [u8],
     report: &mut DecodeReport,
 ) -> u32
-    ensures sound { result ≡ 0 → ChecksFile file.now marks.old marks.new report.new }
-    ensures damaged { result ≡ 3 → ChecksFile file.now marks.old marks.new report.new }
+    ensures sound { result ≡ 0 → OfRead file.now resync (λ read. ChecksFile read marks.old marks.new report.new) }
+    ensures damaged { result ≡ 3 → OfRead file.now resync (λ read. ChecksFile read marks.old marks.new report.new) }
     ensures undamaged { result ≡ 0 → report.new.damaged ≡ 0 }
     ensures some_damaged { result ≡ 3 → 0 < report.new.damaged }
     ensures refused { result ≡ 2 → TellsFault file.now report.new.refusal report.new.detail }
     ensures memory { result ≡ 1 → report.new.refusal ≡ 19 }
     ensures room { result ≡ 4 → LacksMarkRoom file.now (length marks.old) }
     ensures room_alone { result ≡ 4 → TellsNoRefusal report.new }
+    ensures long { result ≡ 8 → IsTooLongRead file.now resync }
+    ensures long_alone { result ≡ 8 → TellsNoRefusal report.new }
     ensures unchecked { result ≢ 0 → result ≢ 3 → TellsNoPicture report.new }
     ensures marks { result ≢ 0 → result ≢ 3 → marks.new ≡ marks.old }
-    ensures few { result ≤ 4 }
+    ensures few { result ≢ 8 → result ≤ 4 }
 {
-    check_marks(alloc, file, marks, report)
+    check_marks(alloc, file, resync, marks, report)
 }
 
 /// Decodes the next rows of MCUs of a file's image starting at a position, at most the given number, into the start of
@@ -255,22 +266,23 @@ pub extern "C" fn jri_build_text(text: &mut [u8]) -> u64
     build_text(text) as u64
 }
 
-/// Decodes a file onto a canvas, line k starting at byte `k * stride`, in the layout of this number, and its marks into
-/// the start of `marks` unless that is empty. Returns 0, or 3 if an interval is damaged. With 1 if allocation fails, 2
-/// if the file is refused, 4 if a buffer is too small, and 6 if there is no such layout or a line is longer than the
-/// stride, both are unchanged.
+/// Decodes a file, resynchronised unless `resync` is 0, onto a canvas, line k starting at byte `k * stride`, in the layout
+/// of this number, and its marks into the start of `marks` unless that is empty. Returns 0, or 3 if an interval is
+/// damaged. With 1 if allocation fails, 2 if the file is refused, 4 if a buffer is too small, 6 if there is no such layout
+/// or a line is longer than the stride, and 8 if the resynchronised file would be too long, both are unchanged.
 #[unsafe(no_mangle)]
 pub extern "C" fn jri_decode_canvas(
     alloc: Global,
     file: &[u8],
+    resync: u32,
     canvas: &mut [u8],
     stride: usize,
     layout: u32,
     marks: &mut [u8],
     report: &mut DecodeReport,
 ) -> u32
-    ensures sound { result ≡ 0 → DecodesCanvas file.now stride layout canvas.old canvas.new marks.old marks.new report.new }
-    ensures damaged { result ≡ 3 → DecodesCanvas file.now stride layout canvas.old canvas.new marks.old marks.new report.new }
+    ensures sound { result ≡ 0 → OfRead file.now resync (λ read. DecodesCanvas read stride layout canvas.old canvas.new marks.old marks.new report.new) }
+    ensures damaged { result ≡ 3 → OfRead file.now resync (λ read. DecodesCanvas read stride layout canvas.old canvas.new marks.old marks.new report.new) }
     ensures undamaged { result ≡ 0 → report.new.damaged ≡ 0 }
     ensures some_damaged { result ≡ 3 → 0 < report.new.damaged }
     ensures refused { result ≡ 2 → TellsFault file.now report.new.refusal report.new.detail }
@@ -279,13 +291,16 @@ pub extern "C" fn jri_decode_canvas(
     ensures room_alone { result ≡ 4 → TellsNoRefusal report.new }
     ensures layout { result ≡ 6 → LacksLayoutOf file.now stride layout }
     ensures layout_alone { result ≡ 6 → TellsNoRefusal report.new }
+    ensures long { result ≡ 8 → IsTooLongRead file.now resync }
+    ensures long_alone { result ≡ 8 → TellsNoRefusal report.new }
     ensures no_picture { result ≢ 0 → result ≢ 3 → TellsNoPicture report.new }
     ensures canvas { result ≢ 0 → result ≢ 3 → canvas.new ≡ canvas.old }
     ensures marks { result ≢ 0 → result ≢ 3 → marks.new ≡ marks.old }
-    ensures few { result ≤ 6 }
+    ensures few { result ≢ 8 → result ≤ 6 }
     ensures no_lines { result ≢ 5 }
 {
-    decode_canvas(alloc, file, canvas, stride, layout, marks, report)
+    let shape = CanvasShape { stride, layout };
+    decode_canvas(alloc, file, resync, canvas, shape, marks, report)
 }
 
 /// Lays out consecutive lines, line k starting at byte `k * stride` of the canvas. Returns 0. With 4 if the canvas is

@@ -4,3 +4,4 @@ pub mod Headers
 pub mod Listing
 pub mod Marks
 pub mod Mending
+pub mod ReadAs

@@ -13,7 +13,7 @@ use Rattle.jr_cut.specs.declared.scan_end.ScanEnd.{ScanEnd}
 use Rattle.jr_cut.specs.declared.scan_end.ScanEnd.TheVariants.{EndOfImage, OtherMarker, OutOfStep, ExtraRestart, EndOfFile}
 use Rattle.jr_picture.specs.declared.mark.Mark.{Mark}
 use Rattle.jr_picture.specs.Headline.{AreCounts}
-use Rattle.jri_file.specs.Files.{IsPictureOf, IsScanOfFile}
+use Rattle.jri_file.specs.Files.{IsPictureOf}
 use Rattle.jr_rows.specs.MarkBytes.{mark_byte}
 use Rattle.jr_rows.specs.SomeLines.{EndInLines}
 use Rattle.jri_memory.specs.declared.decode.DecodeError.{DecodeError}
@@ -130,9 +130,9 @@ pub record DecodesFile (file old_pixels pixels old_marks marks : List ℕ) (r : 
 
 -- the pixels of the file's image do not fit, or its marks, which were asked for, do not
 pub record LacksRoom (file : List ℕ) (pixels marks : ℕ) : Type 0 where
-  pub scan : ScanValue
-  pub is : IsScanOfFile file scan
-  pub less : (pixels < picture_size scan.head) ⊎ ((0 < marks) × (marks < length scan.intervals))
+  pub head : HeadValue
+  pub is : HeadOf file head
+  pub less : (pixels < picture_size head) ⊎ ((0 < marks) × (marks < intervals_of head))
 
 -- the picture of this head has `count` lines from this one on, and that is some
 pub record HasTheseLines (h : HeadValue) (first count : ℕ) : Type 0 where

@@ -8,8 +8,8 @@ use Rattle.jr_picture.specs.declared.counts.Counts.{Counts}
 use Rattle.jr_picture.specs.declared.mark.Mark.{Mark}
 use Rattle.jr_picture.specs.Headline.{AreCounts, ShowsFirst}
 use Rattle.jr_rows.specs.MarkBytes.{mark_byte}
-use Rattle.jr_scan.specs.ScanValue.{ScanValue}
-use Rattle.jri_file.specs.Files.{IsPictureOf, IsScanOfFile}
+use Rattle.jr_scan.specs.ScanValue.{ScanValue, intervals_of}
+use Rattle.jri_file.specs.Files.{IsPictureOf}
 use Rattle.jri_canvas.specs.Layouts.{HavePlaces, StandOn, laid_line, laid_line_size, layout_number, line_in, plain_line_size, sample_count}
 use Rattle.jri_canvas.specs.declared.lines.CanvasLines.{CanvasLines}
 use Rattle.jri_memory.specs.Calls.{TellsReport, over}
@@ -87,9 +87,9 @@ pub record DecodesCanvas (file : List ℕ) (stride layout : ℕ) (old new old_ma
 
 -- the lines of the file's image do not fit on the canvas, or its marks, which were asked for, do not
 pub record LacksCanvas (file : List ℕ) (stride layout room marks : ℕ) : Type 0 where
-  pub scan : ScanValue
-  pub is : IsScanOfFile file scan
-  pub less : LacksPlaces scan.head.width (components_of scan.head) stride layout scan.head.height room ⊎ ((0 < marks) × (marks < length scan.intervals))
+  pub head : HeadValue
+  pub is : HeadOf file head
+  pub less : LacksPlaces head.width (components_of head) stride layout head.height room ⊎ ((0 < marks) × (marks < intervals_of head))
 
 -- the lines of the file's picture have no such layout at that stride
 pub record LacksLayoutOf (file : List ℕ) (stride layout : ℕ) : Type 0 where

@@ -1,8 +1,10 @@
 -- The result of the call that checks a file in memory: the marks of its intervals, and no image.
 use Rattle.std.specs.Prelude.{◌≡◌, ℕ, ◌+◌, ◌<◌, List, length, map, count_by, slice_index}
+use Rattle.jr_head.specs.HeadValue.{HeadValue}
+use Rattle.jr_head.specs.Heads.{HeadOf}
 use Rattle.jr_scan.specs.IntervalValue.{IntervalValue}
 use Rattle.jr_scan.specs.Mcus.{HasDecoding, HasNoDecoding}
-use Rattle.jr_scan.specs.ScanValue.{ScanValue, interval_of}
+use Rattle.jr_scan.specs.ScanValue.{ScanValue, interval_of, intervals_of}
 use Rattle.jr_picture.specs.declared.mark.Mark.{Mark}
 use Rattle.jr_picture.specs.declared.mark.Mark.TheVariants.{Blank, Sound, Damaged}
 use Rattle.jr_picture.specs.Headline.{mark_in, is_sound, is_damaged}
@@ -42,7 +44,7 @@ pub record ChecksFile (file old_marks marks : List ℕ) (r : DecodeReport) : Typ
 
 -- the marks of the file's intervals were asked for and do not fit
 pub record LacksMarkRoom (file : List ℕ) (marks : ℕ) : Type 0 where
-  pub scan : ScanValue
-  pub is : IsScanOfFile file scan
+  pub head : HeadValue
+  pub is : HeadOf file head
   pub asked : 0 < marks
-  pub less : marks < length scan.intervals
+  pub less : marks < intervals_of head

@@ -1,11 +1,12 @@
--- The result of the call that resynchronises a file in memory.
-use Rattle.std.specs.Prelude.{◌≡◌, ◌≢◌, ℕ, ◌<◌, List, length}
+-- The bytes that a call reads of a file, and the result of the call that resynchronises one.
+use Rattle.std.specs.Prelude.{◌≡◌, ◌≢◌, ℕ, zero, suc, ◌<◌, List, length}
+use Rattle.jr_cut.specs.declared.scan_end.ScanEnd.{ScanEnd}
 use Rattle.jr_head.specs.HeadValue.{HeadValue}
 use Rattle.jr_head.specs.Heads.{HeadOf, RefusalOf}
 use Rattle.jr_segments.specs.declared.refusal.Refusal.TheVariants.{Memory}
 use Rattle.jr_cut.specs.declared.breaks.Break.{Break}
 use Rattle.jr_mend.specs.declared.resync.Resynced.{Resynced}
-use Rattle.jr_mend.specs.Reading.{IsResynced, IsTooLong}
+use Rattle.jr_mend.specs.Reading.{Becomes, IsResynced, IsTooLong}
 use Rattle.jri_memory.specs.Calls.{IsScanEnd, over}
 use Rattle.jri_memory.specs.Filling.{listed_over}
 use Rattle.jri_memory.specs.declared.resync.ResyncError.{ResyncError}
@@ -23,6 +24,31 @@ pub record IsTooLongFile (file : List ℕ) : Type 0 where
   pub head : HeadValue
   pub is : HeadOf file head
   pub long : IsTooLong file head
+
+-- the file has a header, and becomes this one once its restart markers are in step
+pub record BecomesFile (file new : List ℕ) : Type 0 where
+  pub head : HeadValue
+  pub breaks : List Break
+  pub ended : ScanEnd
+  pub is : HeadOf file head
+  pub becomes : Becomes file head new breaks ended
+
+-- the bytes that a call reads, by the number that a caller passes: with 0 those of the file, otherwise those of the
+-- resynchronised file
+abbrev pub IsReadAs : List ℕ → ℕ → List ℕ → Type 0
+IsReadAs file zero read = read ≡ file
+IsReadAs file (suc n) read = BecomesFile file read
+
+-- this holds for the bytes that are read
+pub record OfRead (file : List ℕ) (resync : ℕ) (holds : List ℕ → Type 0) : Type 0 where
+  pub read : List ℕ
+  pub is : IsReadAs file resync read
+  pub here : holds read
+
+-- the bytes to be read are those of a resynchronised file that would be longer than a file may be
+abbrev pub IsTooLongRead : List ℕ → ℕ → Type 0
+IsTooLongRead file zero = ⊥
+IsTooLongRead file (suc n) = IsTooLongFile file
 
 -- why a file is not resynchronised; if allocation fails nothing is said of the file
 abbrev pub IsResyncError : List ℕ → ResyncError → Type 0

@@ -6,7 +6,7 @@ ghost use Rattle.jri_memory.specs.Calls.{IsRefusal, TellsNoPicture, TellsNoRefus
 
 use crate::decode::DecodeError;
 use crate::report::DecodeReport;
-use crate::status::{BUFFER_TOO_SMALL, DAMAGED, NO_MEMORY, REFUSED, SOUND};
+use crate::status::{BUFFER_TOO_SMALL, DAMAGED, NO_MEMORY, REFUSED, SOUND, TOO_LONG};
 use jr_head::Refusal;
 
 /// Returns the status of a refusal.
@@ -39,11 +39,13 @@ pub(crate) fn tell(decoded: DecodeReport, report: &mut DecodeReport) -> u32
 pub(crate) fn tell_why(undecoded: DecodeError, report: &mut DecodeReport) -> u32
     ensures undone { result ≢ 0 }
     ensures undamaged { result ≢ 3 }
-    ensures few { result ≤ 4 }
+    ensures few { result ≢ 8 → result ≤ 4 }
     ensures refused { result ≡ 2 → IsRefusal undecoded report.new }
     ensures memory { result ≡ 1 → report.new.refusal ≡ 19 }
     ensures room { result ≡ 4 → undecoded ≡ DecodeError.NoRoom }
     ensures room_alone { result ≡ 4 → TellsNoRefusal report.new }
+    ensures long { result ≡ 8 → undecoded ≡ DecodeError.TooLong }
+    ensures long_alone { result ≡ 8 → TellsNoRefusal report.new }
     ensures no_picture { TellsNoPicture report.new }
 {
     match undecoded {
@@ -54,6 +56,10 @@ pub(crate) fn tell_why(undecoded: DecodeError, report: &mut DecodeReport) -> u32
         DecodeError::NoRoom => {
             *report = DecodeReport::empty();
             BUFFER_TOO_SMALL
+        }
+        DecodeError::TooLong => {
+            *report = DecodeReport::empty();
+            TOO_LONG
         }
     }
 }

@@ -5,6 +5,7 @@ ghost use Rattle.jr_arrival.specs.Arrival.{CanBecome};
 ghost use Rattle.jr_arrival.specs.Settled.{WantsMore};
 ghost use Rattle.jri_memory.specs.Checks.{ChecksFile, LacksMarkRoom};
 ghost use Rattle.jri_memory.specs.Calls.{DecodesFile, DecodesLines, TellsFault, IsHeaderOf, LacksLines, LacksRoom, LacksRoomForLines, TellsNoHeader, TellsNoPicture, TellsNoRefusal};
+ghost use Rattle.jri_memory.specs.Resyncs.{IsTooLongRead, OfRead};
 ghost use Rattle.jri_memory.specs.Rows.{are_all};
 
 use crate::answers::{status_of, tell, tell_why};
@@ -53,48 +54,53 @@ pub fn read_header(alloc: Global, file: &[u8], more: u32, header: &mut Header) -
     }
 }
 
-/// Decodes a file into the start of `pixels`, and its marks into that of `marks` unless that is empty. Returns 0, or 3
-/// if an interval is damaged. With 1 if allocation fails, 2 if the file is refused, and 4 if a buffer is too small,
-/// both are unchanged.
+/// Decodes a file, resynchronised unless `resync` is 0, into the start of `pixels`, and its marks into that of `marks`
+/// unless that is empty. Returns 0, or 3 if an interval is damaged. With 1 if allocation fails, 2 if the file is refused,
+/// 4 if a buffer is too small, and 8 if the resynchronised file would be too long, both are unchanged.
 pub fn decode_file(
     alloc: Global,
     file: &[u8],
+    resync: u32,
     pixels: &mut [u8],
     marks: &mut [u8],
     report: &mut DecodeReport,
 ) -> u32
-    ensures sound { result ≡ 0 → DecodesFile file.now pixels.old pixels.new marks.old marks.new report.new }
-    ensures damaged { result ≡ 3 → DecodesFile file.now pixels.old pixels.new marks.old marks.new report.new }
+    ensures sound { result ≡ 0 → OfRead file.now resync (λ read. DecodesFile read pixels.old pixels.new marks.old marks.new report.new) }
+    ensures damaged { result ≡ 3 → OfRead file.now resync (λ read. DecodesFile read pixels.old pixels.new marks.old marks.new report.new) }
     ensures undamaged { result ≡ 0 → report.new.damaged ≡ 0 }
     ensures some_damaged { result ≡ 3 → 0 < report.new.damaged }
     ensures refused { result ≡ 2 → TellsFault file.now report.new.refusal report.new.detail }
     ensures memory { result ≡ 1 → report.new.refusal ≡ 19 }
     ensures room { result ≡ 4 → LacksRoom file.now (length pixels.old) (length marks.old) }
     ensures room_alone { result ≡ 4 → TellsNoRefusal report.new }
+    ensures long { result ≡ 8 → IsTooLongRead file.now resync }
+    ensures long_alone { result ≡ 8 → TellsNoRefusal report.new }
     ensures no_picture { result ≢ 0 → result ≢ 3 → TellsNoPicture report.new }
     ensures pixels { result ≢ 0 → result ≢ 3 → pixels.new ≡ pixels.old }
     ensures marks { result ≢ 0 → result ≢ 3 → marks.new ≡ marks.old }
-    ensures few { result ≤ 4 }
+    ensures few { result ≢ 8 → result ≤ 4 }
 {
-    match decode(alloc, file, pixels, marks) {
+    match decode(alloc, file, resync, pixels, marks) {
         Ok(decoded) => tell(decoded, report),
         Err(undecoded) => tell_why(undecoded, report),
     }
 }
 
-/// Decodes `count` lines of a file's image starting at line `first` into the start of `pixels`. Returns 0, or 3 if an
-/// interval is damaged that ends in the rows of MCUs of these lines. With 1 if allocation fails, 2 if the file is
-/// refused, 4 if the buffer is too small, and 5 if the image has no such lines, it is unchanged.
+/// Decodes `count` lines of the image of a file, resynchronised unless `resync` is 0, starting at line `first` into the
+/// start of `pixels`. Returns 0, or 3 if an interval is damaged that ends in the rows of MCUs of these lines. With 1 if
+/// allocation fails, 2 if the file is refused, 4 if the buffer is too small, 5 if the image has no such lines, and 8 if
+/// the resynchronised file would be too long, it is unchanged.
 pub fn decode_lines(
     alloc: Global,
     file: &[u8],
+    resync: u32,
     first: u32,
     count: u32,
     pixels: &mut [u8],
     report: &mut DecodeReport,
 ) -> u32
-    ensures sound { result ≡ 0 → DecodesLines file.now first count pixels.old pixels.new report.new }
-    ensures damaged { result ≡ 3 → DecodesLines file.now first count pixels.old pixels.new report.new }
+    ensures sound { result ≡ 0 → OfRead file.now resync (λ read. DecodesLines read first count pixels.old pixels.new report.new) }
+    ensures damaged { result ≡ 3 → OfRead file.now resync (λ read. DecodesLines read first count pixels.old pixels.new report.new) }
     ensures undamaged { result ≡ 0 → report.new.damaged ≡ 0 }
     ensures some_damaged { result ≡ 3 → 0 < report.new.damaged }
     ensures refused { result ≡ 2 → TellsFault file.now report.new.refusal report.new.detail }
@@ -103,11 +109,13 @@ pub fn decode_lines(
     ensures room_alone { result ≡ 4 → TellsNoRefusal report.new }
     ensures lines { result ≡ 5 → LacksLines file.now first count }
     ensures lines_alone { result ≡ 5 → TellsNoRefusal report.new }
+    ensures long { result ≡ 8 → IsTooLongRead file.now resync }
+    ensures long_alone { result ≡ 8 → TellsNoRefusal report.new }
     ensures no_picture { result ≢ 0 → result ≢ 3 → TellsNoPicture report.new }
     ensures pixels { result ≢ 0 → result ≢ 3 → pixels.new ≡ pixels.old }
-    ensures few { result ≤ 5 }
+    ensures few { result ≢ 8 → result ≤ 5 }
 {
-    match decode_some(alloc, file, first, count, pixels) {
+    match decode_some(alloc, file, resync, first, count, pixels) {
         Ok(Some(decoded)) => tell(decoded, report),
         Ok(None) => {
             *report = DecodeReport::empty();
@@ -117,23 +125,32 @@ pub fn decode_lines(
     }
 }
 
-/// Checks a file: reads each restart interval as a decoder does, makes no image, and stores the marks at the start of
-/// `marks` unless that is empty. Returns 0, or 3 if an interval is damaged. With 1 if allocation fails, 2 if the file
-/// is refused, and 4 if `marks` is too small, it is unchanged.
-pub fn check_marks(alloc: Global, file: &[u8], marks: &mut [u8], report: &mut DecodeReport) -> u32
-    ensures sound { result ≡ 0 → ChecksFile file.now marks.old marks.new report.new }
-    ensures damaged { result ≡ 3 → ChecksFile file.now marks.old marks.new report.new }
+/// Checks a file, resynchronised unless `resync` is 0: reads each restart interval as a decoder does, makes no image, and
+/// stores the marks at the start of `marks` unless that is empty. Returns 0, or 3 if an interval is damaged. With 1 if
+/// allocation fails, 2 if the file is refused, 4 if `marks` is too small, and 8 if the resynchronised file would be too
+/// long, it is unchanged.
+pub fn check_marks(
+    alloc: Global,
+    file: &[u8],
+    resync: u32,
+    marks: &mut [u8],
+    report: &mut DecodeReport,
+) -> u32
+    ensures sound { result ≡ 0 → OfRead file.now resync (λ read. ChecksFile read marks.old marks.new report.new) }
+    ensures damaged { result ≡ 3 → OfRead file.now resync (λ read. ChecksFile read marks.old marks.new report.new) }
     ensures undamaged { result ≡ 0 → report.new.damaged ≡ 0 }
     ensures some_damaged { result ≡ 3 → 0 < report.new.damaged }
     ensures refused { result ≡ 2 → TellsFault file.now report.new.refusal report.new.detail }
     ensures memory { result ≡ 1 → report.new.refusal ≡ 19 }
     ensures room { result ≡ 4 → LacksMarkRoom file.now (length marks.old) }
     ensures room_alone { result ≡ 4 → TellsNoRefusal report.new }
+    ensures long { result ≡ 8 → IsTooLongRead file.now resync }
+    ensures long_alone { result ≡ 8 → TellsNoRefusal report.new }
     ensures unchecked { result ≢ 0 → result ≢ 3 → TellsNoPicture report.new }
     ensures marks { result ≢ 0 → result ≢ 3 → marks.new ≡ marks.old }
-    ensures few { result ≤ 4 }
+    ensures few { result ≢ 8 → result ≤ 4 }
 {
-    match check(alloc, file, marks) {
+    match check(alloc, file, resync, marks) {
         Ok(checked) => tell(checked, report),
         Err(unchecked) => tell_why(unchecked, report),
     }

@@ -13,8 +13,10 @@ ghost use Rattle.jr_rows.specs.MarkBytes.{HasMarkRoom, PutsBetween};
 ghost use Rattle.jr_rows.specs.Rows.{CountsRows, HasFirst, HasSampleRoom, first_line, line_count};
 ghost use Rattle.jri_canvas.specs.Layouts.{HavePlaces, StandOn, laid_line, laid_line_size, plain_line_size, sample_count};
 ghost use Rattle.jri_memory.specs.Canvases.{DecodesCanvas, LacksCanvas, LacksLayoutOf, LaysScan};
+ghost use Rattle.jri_memory.specs.Resyncs.{IsTooLongRead, OfRead};
 
 use crate::decode::DecodeError;
+use crate::file_scan::scan_of;
 use crate::laying::form_of;
 use crate::report::DecodeReport;
 use crate::room::{asked_for, lacks_room};
@@ -26,8 +28,16 @@ use jr_rows::{
 };
 use jr_scan::Scan;
 use jri_canvas::{CanvasLines, Pixels, have_places, lay_lines};
-use jri_file::scan_of_file;
 use std::alloc::Global;
+
+/// How lines lie on a canvas.
+#[derive(Clone, Copy)]
+pub struct CanvasShape {
+    /// The distance between the starts of two lines in bytes.
+    pub stride: usize,
+    /// The number of the layout.
+    pub layout: u32,
+}
 
 /// Paints `count` lines starting at line y of the row of MCUs that is decoded into `lines`, and lays them out.
 fn lay_some(
@@ -157,31 +167,30 @@ fn pixels_in(head: &Head) -> Pixels
     }
 }
 
-/// Decodes a file onto a canvas, and stores its marks at the start of `marks` unless that is empty. `None` if there is
-/// no such layout, or a line is longer than the stride; then, and on `Err`, nothing is written.
+/// Decodes a file, resynchronised unless `resync` is 0, onto a canvas, and stores its marks at the start of `marks`
+/// unless that is empty. `None` if there is no such layout, or a line is longer than the stride; then, and on `Err`,
+/// nothing is written.
 pub(crate) fn decode_on(
     alloc: Global,
     file: &[u8],
-    stride: usize,
-    layout: u32,
+    resync: u32,
+    shape: CanvasShape,
     canvas: &mut [u8],
     marks: &mut [u8],
 ) -> Result<Option<DecodeReport>, DecodeError>
-    ensures decoded { IfOk result (λ o. IfSome o (λ r. DecodesCanvas file.now stride layout canvas.old canvas.new marks.old marks.new r)) }
+    ensures decoded { IfOk result (λ o. IfSome o (λ r. OfRead file.now resync (λ read. DecodesCanvas read shape.stride shape.layout canvas.old canvas.new marks.old marks.new r))) }
     ensures none { result ≡ Ok None → canvas.new ≡ canvas.old }
     ensures no_marks { result ≡ Ok None → marks.new ≡ marks.old }
     ensures refused { IfErr result (λ e. (f : Refusal) → e ≡ DecodeError.Refused f → f ≢ refusal.Memory → RefusalOf file.now f) }
-    ensures layout { result ≡ Ok None → LacksLayoutOf file.now stride layout }
-    ensures room { result ≡ Err DecodeError.NoRoom → LacksCanvas file.now stride layout (length canvas.old) (length marks.old) }
+    ensures layout { result ≡ Ok None → LacksLayoutOf file.now shape.stride shape.layout }
+    ensures room { result ≡ Err DecodeError.NoRoom → LacksCanvas file.now shape.stride shape.layout (length canvas.old) (length marks.old) }
+    ensures long { result ≡ Err DecodeError.TooLong → IsTooLongRead file.now resync }
     ensures canvas { IfErr result (λ _. canvas.new ≡ canvas.old) }
     ensures marks { IfErr result (λ _. marks.new ≡ marks.old) }
 {
-    let scan = match scan_of_file(alloc, file) {
-        Ok(scan) => scan,
-        Err(refusal) => return Err(DecodeError::Refused(refusal)),
-    };
+    let scan = scan_of(alloc, file, resync)?;
     let head = scan.head();
-    let Some(form) = form_of(head.width(), pixels_in(head), stride, layout) else {
+    let Some(form) = form_of(head.width(), pixels_in(head), shape.stride, shape.layout) else {
         return Ok(None);
     };
     let count = scan.intervals();

@@ -8,8 +8,10 @@ ghost use Rattle.jr_picture.specs.declared.mark.Mark.TheVariants.{Sound, Damaged
 ghost use Rattle.jr_scan.specs.ScanValue.{interval_of};
 ghost use Rattle.jr_rows.specs.MarkBytes.{HasMarkRoom};
 ghost use Rattle.jri_memory.specs.Checks.{ArePut, ChecksFile, IsMarkOf, LacksMarkRoom};
+ghost use Rattle.jri_memory.specs.Resyncs.{IsTooLongRead, OfRead};
 
 use crate::decode::DecodeError;
+use crate::file_scan::scan_of;
 use crate::report::DecodeReport;
 use crate::room::{asked_for, lacks_room};
 use jr_damage::damaged_front;
@@ -17,7 +19,6 @@ use jr_head::Refusal;
 use jr_picture::Counts;
 use jr_rows::{Marked, put_mark};
 use jr_scan::Scan;
-use jri_file::scan_of_file;
 use std::alloc::Global;
 
 /// Returns whether interval i has a decoding.
@@ -60,21 +61,21 @@ fn mark_intervals(scan: &Scan, marks: &mut [u8]) -> Marked
     marked
 }
 
-/// Checks a file, and stores its marks at the start of `marks` unless that is empty. On `Err` nothing is written.
+/// Checks a file, resynchronised unless `resync` is 0, and stores its marks at the start of `marks` unless that is empty.
+/// On `Err` nothing is written.
 pub(crate) fn check(
     alloc: Global,
     file: &[u8],
+    resync: u32,
     marks: &mut [u8],
 ) -> Result<DecodeReport, DecodeError>
-    ensures checked { IfOk result (λ r. ChecksFile file.now marks.old marks.new r) }
+    ensures checked { IfOk result (λ r. OfRead file.now resync (λ read. ChecksFile read marks.old marks.new r)) }
     ensures refused { IfErr result (λ e. (f : Refusal) → e ≡ DecodeError.Refused f → f ≢ refusal.Memory → RefusalOf file.now f) }
     ensures room { result ≡ Err DecodeError.NoRoom → LacksMarkRoom file.now (length marks.old) }
+    ensures long { result ≡ Err DecodeError.TooLong → IsTooLongRead file.now resync }
     ensures marks { IfErr result (λ _. marks.new ≡ marks.old) }
 {
-    let scan = match scan_of_file(alloc, file) {
-        Ok(scan) => scan,
-        Err(refusal) => return Err(DecodeError::Refused(refusal)),
-    };
+    let scan = scan_of(alloc, file, resync)?;
     let count = scan.intervals();
     if lacks_room(marks, count) {
         return Err(DecodeError::NoRoom);

@@ -11,6 +11,7 @@ mod check;
 mod damages;
 mod decode;
 mod file_head;
+mod file_scan;
 mod filling;
 mod header;
 mod laying;
@@ -28,6 +29,7 @@ mod text;
 
 pub use answers::status_of;
 pub use calls::{check_marks, decode_file, decode_lines, read_header};
+pub use canvas::CanvasShape;
 pub use canvas_calls::decode_canvas;
 pub use damages::{Damage, DamageReport, list_damages};
 pub use header::Header;

@@ -36,7 +36,21 @@ from typing import (
 
 import numpy
 
-from ._library import BUFFER_TOO_SMALL, CALLS, COMPLETE, DAMAGED, LAYOUTS, NO_LINES, NO_MEMORY, OK, REFUSED, SOUND, TOO_LONG
+from ._library import (
+    AS_IS,
+    BUFFER_TOO_SMALL,
+    CALLS,
+    COMPLETE,
+    DAMAGED,
+    LAYOUTS,
+    NO_LINES,
+    NO_MEMORY,
+    OK,
+    REFUSED,
+    RESYNC,
+    SOUND,
+    TOO_LONG,
+)
 from ._loaded import ffi, library, refusal_text
 
 if TYPE_CHECKING:
@@ -329,13 +343,13 @@ def _canvas(pixels: Pixels) -> Tuple[Any, int, int]:
     return ffi.cast("uint8_t *", pixels.ctypes.data), (pixels.shape[0] - 1) * stride + line, stride
 
 
-def _decode(file: _File, pixels: Pixels, marks: Pixels, layout: Optional[Layout], told: Any) -> int:
-    """Decodes a file into an array that has its shape."""
-    data, size = file.data, len(file.data)
+def _decode(file: _File, resync: bool, pixels: Pixels, marks: Pixels, layout: Optional[Layout], told: Any) -> int:
+    """Decodes a file, resynchronised if that is asked for, into an array that has its shape."""
+    read = file.data, len(file.data), RESYNC if resync else AS_IS
     if layout is None:
-        return int(library.jri_decode(data, size, _buffer(pixels), pixels.nbytes, _buffer(marks), marks.nbytes, told))
+        return int(library.jri_decode(*read, _buffer(pixels), pixels.nbytes, _buffer(marks), marks.nbytes, told))
     number = LAYOUTS[layout][0]
-    return int(library.jri_decode_canvas(data, size, *_canvas(pixels), number, _buffer(marks), marks.nbytes, told))
+    return int(library.jri_decode_canvas(*read, *_canvas(pixels), number, _buffer(marks), marks.nbytes, told))
 
 
 def measure(source: Source) -> Measure:
@@ -361,14 +375,12 @@ def read(
     A source that can be written is copied first. A read-only one must not change during the call.
     """
     file = _file(source, out)
-    if resync:
-        file = _in_step(file)
     head = _measured(file)
     _within(head, max_pixels, file.name)
     pixels = _new(_shape(head, layout), file) if out is None else _accept(out, head, layout)
     marks = numpy.zeros(head.intervals, numpy.uint8)
     told = ffi.new("struct jri_report *")
-    status = _decode(file, pixels, marks, layout, told)
+    status = _decode(file, resync, pixels, marks, layout, told)
     if status not in (SOUND, DAMAGED):
         _raise(status, told.refusal, told.detail, file.name)
     return Picture(pixels, marks, _reported(told))
@@ -398,22 +410,16 @@ def check(source: Source, *, resync: bool = False) -> Health:
 
     With `resync` the file is resynchronised first, as by `jri.resync`.
     """
-    file = _file(source)
-    if resync:
-        try:
-            file = _in_step(file)
-        except RefusedError as error:
-            return Health("refused", None, error.number, error.detail)
-    return _check(file)
+    return _check(_file(source), resync)
 
 
-def _check(file: _File) -> Health:
+def _check(file: _File, resync: bool = False) -> Health:
     told = ffi.new("struct jri_report *")
-    status = library.jri_check(file.data, len(file.data), ffi.NULL, 0, told)
+    status = library.jri_check(file.data, len(file.data), RESYNC if resync else AS_IS, ffi.NULL, 0, told)
     if status == NO_MEMORY:
         raise MemoryError("out of memory")
-    if status == REFUSED:
-        return Health("refused", None, told.refusal, told.detail)
+    if status in (REFUSED, TOO_LONG):
+        return Health("refused", None, told.refusal or _TOO_LONG, told.detail)
     return Health("damaged" if status == DAMAGED else "sound", _reported(told), None, None)
 
 
@@ -450,5 +456,5 @@ def check_many(
 
 
 # These use what is defined above.
-from .mending import Break, Mended, Resynced, _in_step, mend, resync  # noqa: E402
+from .mending import Break, Mended, Resynced, mend, resync  # noqa: E402
 from .places import Damage, Index, Stream, damages, index, lines, load_index  # noqa: E402

@@ -1,10 +1,10 @@
-"""The structs, calls and numbers of jri.h, version 6."""
+"""The structs, calls and numbers of jri.h, version 7."""
 
 from __future__ import annotations
 
 from typing import Any
 
-CALLS = 6
+CALLS = 7
 
 SOUND, NO_MEMORY, REFUSED, DAMAGED, BUFFER_TOO_SMALL, NO_LINES, NO_LAYOUT, NEED_MORE, TOO_LONG, NO_COPIES, OTHER_HEADER = range(11)
 
@@ -12,6 +12,8 @@ SOUND, NO_MEMORY, REFUSED, DAMAGED, BUFFER_TOO_SMALL, NO_LINES, NO_LAYOUT, NEED_
 OK = SOUND
 
 COMPLETE, PARTIAL = range(2)
+
+AS_IS, RESYNC = range(2)
 
 #: The layouts of a canvas, and the size of a pixel in bytes in each.
 LAYOUTS = {"rgb": (1, 3), "bgr": (2, 3), "rgbx": (3, 4), "bgrx": (4, 4)}
@@ -33,13 +35,14 @@ def declare(builder: Any) -> None:
         struct jri_mended { uint32_t intervals, damaged, copy, refusal; uint64_t size, detail; };
         uint32_t jri_version(void);
         uint32_t jri_read_header(const uint8_t *, size_t, uint32_t, struct jri_header *);
-        uint32_t jri_decode(const uint8_t *, size_t, uint8_t *, size_t, uint8_t *, size_t, struct jri_report *);
-        uint32_t jri_decode_lines(const uint8_t *, size_t, uint32_t, uint32_t, uint8_t *, size_t, struct jri_report *);
-        uint32_t jri_check(const uint8_t *, size_t, uint8_t *, size_t, struct jri_report *);
+        uint32_t jri_decode(const uint8_t *, size_t, uint32_t, uint8_t *, size_t, uint8_t *, size_t, struct jri_report *);
+        uint32_t jri_decode_lines(const uint8_t *, size_t, uint32_t, uint32_t, uint32_t, uint8_t *, size_t, struct jri_report *);
+        uint32_t jri_check(const uint8_t *, size_t, uint32_t, uint8_t *, size_t, struct jri_report *);
         uint32_t jri_decode_rows(const uint8_t *, size_t, uint32_t, struct jri_position *, uint32_t, uint8_t *, size_t,
                                  struct jri_rows *);
         uint32_t jri_skip_rows(const uint8_t *, size_t, uint32_t, struct jri_position *, uint32_t, struct jri_rows *);
-        uint32_t jri_decode_canvas(const uint8_t *, size_t, uint8_t *, size_t, size_t, uint32_t, uint8_t *, size_t, struct jri_report *);
+        uint32_t jri_decode_canvas(const uint8_t *, size_t, uint32_t, uint8_t *, size_t, size_t, uint32_t, uint8_t *, size_t,
+                                   struct jri_report *);
         uint32_t jri_list_damage(const uint8_t *, size_t, uint32_t, uint64_t, struct jri_damage *, size_t, struct jri_damage_list *);
         uint32_t jri_resynchronise(const uint8_t *, size_t, uint8_t *, size_t, struct jri_break *, size_t, struct jri_resynced *);
         uint32_t jri_mend(const uint8_t *, size_t, const size_t *, size_t, uint8_t *, size_t, struct jri_choice *, size_t,

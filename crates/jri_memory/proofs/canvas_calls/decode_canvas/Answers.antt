@@ -6,3 +6,6 @@ returns-in-Ok-Some-clause-no_picture c unsound undamaged = absurd (undamaged (c.
 
 pub returns-in-Err-clause-room : goal.returns-in-Err-clause-room
 returns-in-Err-clause-room c e = c.in-Err.ensures.room (search (rules, c.tell_why.ensures.room e))
+
+pub returns-in-Err-clause-long : goal.returns-in-Err-clause-long
+returns-in-Err-clause-long c e = c.in-Err.ensures.long (search (rules, c.tell_why.ensures.long e))

@@ -1,7 +1,5 @@
-use Rattle.std.proofs.Common.{◌≡◌, ◌∙◌, ◌<◌, ◌++◌, ap, length, sym, take, drop, rules, arith}
-use Rattle.std.specs.Arc.{arc_value}
+use Rattle.std.proofs.Common.{◌≡◌, ◌∙◌, ◌<◌, ◌++◌, length, sym, take, drop, rules, arith}
 use Rattle.jr_paint.specs.Text.{lines_of}
-use Rattle.jr_scan.specs.ScanValue.{ScanValue}
 use Rattle.jr_rows.specs.Whole.{PaintsWhole}
 use Rattle.jri_memory.specs.Calls.{over}
 use Rattle.jri_memory.proofs.Filled.{asked_few, asked_long, asked_room, filled, picture_shown, unwritten}
@@ -9,32 +7,38 @@ use Rattle.jri_memory.proofs.decode.decode.Goals as goal
 
 pub returns-clause-decoded : goal.returns-clause-decoded
 returns-clause-decoded c =
-    let scan = arc_value c.in-Ok.scan in
+    let scan = c.in_ok-scan.scan in
+    let read = c.in_ok-scan.ensures.scan in
     let count = c.intervals-count.result in
     let asked = c.asked_for-asked.result in
     let pixels = c.paint_scan.new.pixels in
     let marks = c.paint_scan.new.marks in
-    let counts = c.in-Ok-paint_scan.counts in
-    let painted : PaintsWhole scan pixels (take asked c.args.marks.now) marks counts = search (rules, c.in-Ok-paint_scan.ensures.painted) in
+    let counts = c.in-Ok.counts in
+    let painted : PaintsWhole scan pixels (take asked c.args.marks.now) marks counts = search (rules, c.in-Ok.ensures.painted) in
     let long : length pixels ≡ c.bytes_of_picture-size.result = search (rules, arith, c.paint_scan.auto.pixels) in
     let lines : pixels ++ drop c.bytes_of_picture-size.result c.args.pixels.now ≡ over (lines_of scan.head painted.f scan.head.height) c.args.pixels.now = filled _ _ _ _ painted.lines long in
+    let room : length (take asked c.args.marks.now) ≡ asked = asked_long c.args.marks.now count asked c.asked_for-asked.ensures.all c.asked_for-asked.ensures.none (c.lacks_room.ensures.room c.if-lacks_room.false) in
     let of = c.of.ensures in
     record {
-      scan = scan;
-      each = painted.marks;
-      f = painted.f;
-      is = picture_shown c.args.file.now scan painted.marks painted.f c.in-Ok.ensures.scan painted.shows;
-      painted = search (rules, lines);
-      marked = λ there.
-          let all : asked ≡ count = c.asked_for-asked.ensures.all there in
-          let some : 0 < length (take asked c.args.marks.now) = search (rules, arith, all) in
-          let placed : length marks ≡ asked = search (rules, arith, all, c.paint_scan.auto.marks) in
-          filled _ _ _ _ (painted.put some) placed;
-      reported = record {
-        intervals = search rules;
-        counts = record { sound = of.sound ∙ painted.counted.sound; damaged = of.damaged ∙ painted.counted.damaged; blank = search (rules, arith, painted.counted.blank) };
-        ended = search rules;
-        no_fault = of.no_fault;
+      read = read.read;
+      is = read.is;
+      here = record {
+        scan = scan;
+        each = painted.marks;
+        f = painted.f;
+        is = picture_shown read.read scan painted.marks painted.f read.here painted.shows;
+        painted = search (rules, lines);
+        marked = λ there.
+            let all : asked ≡ count = c.asked_for-asked.ensures.all there in
+            let some : 0 < length (take asked c.args.marks.now) = omega (arith, room, all, c.intervals-count.ensures.some) in
+            let placed : length marks ≡ asked = search (rules, arith, room, c.paint_scan.auto.marks) in
+            filled _ _ _ _ (painted.put some) placed;
+        reported = record {
+          intervals = search rules;
+          counts = record { sound = of.sound ∙ painted.counted.sound; damaged = of.damaged ∙ painted.counted.damaged; blank = search (rules, arith, painted.counted.blank) };
+          ended = search rules;
+          no_fault = of.no_fault;
+        };
       };
     }
 
@@ -46,8 +50,7 @@ slice_bounds-paint_scan-end-4 c = sym (asked_long c.args.marks.now c.intervals-c
 
 pub paint_scan-requires-clause-places : goal.paint_scan-requires-clause-places
 paint_scan-requires-clause-places c there =
-    let is = c.intervals-count.ensures.value ∙ ap (λ (s : ScanValue). length s.intervals) (c.deref-2.ensures ∙ sym c.deref-3.ensures) in
-    asked_room c.args.marks.now c.intervals-count.result c.asked_for-asked.result c.asked_for-asked.ensures.all c.asked_for-asked.ensures.none (c.lacks_room.ensures.room c.if-lacks_room.false) _ is there
+    asked_room c.args.marks.now c.intervals-count.result c.asked_for-asked.result c.asked_for-asked.ensures.all c.asked_for-asked.ensures.none (c.lacks_room.ensures.room c.if-lacks_room.false) _ c.intervals-count.ensures.value there
 
 pub returns-in_default-clause-pixels : goal.returns-in_default-clause-pixels
 returns-in_default-clause-pixels c =
