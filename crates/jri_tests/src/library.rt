@@ -1,10 +1,10 @@
 //! Calls of the library that the program `cases` does not make: a file with its markers in step, a file from copies, lines on a
 //! canvas, and the build's name.
 
-use jri_memory::status::{OK, SOUND};
+use jri_memory::status::{DAMAGED, OK, SOUND};
 use jri_memory::{
-    Break, ChoiceEntry, MendReport, ResyncReport, build_text, lay_out, mend_files,
-    resynchronise_file,
+    Break, ChoiceEntry, DecodeReport, MendReport, ResyncReport, build_text, check_marks,
+    decode_file, lay_out, mend_files, resynchronise_file,
 };
 use std::test::Fail;
 use test_files::files::{TEN, file, front};
@@ -62,6 +62,25 @@ fn resynchronises(rt: HostRuntime) -> Result<(), Fail> {
         breaks[0].skipped,
     );
     assert!(rt; found == (150, 0xD2, 1, 1));
+    Ok(())
+}
+
+#[test]
+fn decodes_resynchronised(rt: HostRuntime) -> Result<(), Fail> {
+    let lost = file(rt.alloc(), LOST)?;
+    let mut pixels = [BYTE; 640];
+    let mut marks = [BYTE; 10];
+    let mut checked = [BYTE; 10];
+    let mut report = DecodeReport::empty();
+    let answer = decode_file(rt.alloc(), &lost, 1, &mut pixels, &mut marks, &mut report);
+    assert!(rt; answer == DAMAGED && report.sound == 9 && report.damaged == 1 && report.ended == 1);
+    assert!(rt; marks == [1, 1, 2, 1, 1, 1, 1, 1, 1, 1]);
+    for k in 0..pixels.len() {
+        let expected = if k % 80 / 8 == 2 { 128 } else { 136 };
+        assert!(rt; pixels[k] == expected, "byte {k}");
+    }
+    let answer = check_marks(rt.alloc(), &lost, 1, &mut checked, &mut report);
+    assert!(rt; answer == DAMAGED && report.damaged == 1 && checked == marks);
     Ok(())
 }
 
