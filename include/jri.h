@@ -390,7 +390,8 @@ uint32_t jri_resynchronise(const uint8_t *file, size_t file_length, uint8_t *out
  * Mends a file from copies of it that are damaged in different places, at most 64, which lie one after another in
  * `files` with the given sizes. Each restart interval is taken from the first copy in which it is sound, otherwise from
  * the first of those in which most MCUs can be decoded. The choices are listed, as many as `choices` has entries:
- * `choices_count`. Allocates the scans of all copies, the file that it writes and the choices.
+ * `choices_count`. Allocates the headers of all copies, the file that it writes, the choices, and two buffers as long as
+ * the longest copy, of which it touches as much as its longest interval has.
  *
  * Proved: with JRI_SOUND and JRI_DAMAGED the first report->size bytes of `out` are the header of the first copy and
  * these intervals, and bytes after them are unchanged; the first entries of `choices` are the choices in order, and

@@ -14,8 +14,8 @@ pub record CopyValue : Type 0 where
   pub scan : ScanValue
 
 -- the scan of a file with this header: each has one, and no other
-abbrev pub scan_of_copy : List ℕ → HeadValue → ScanValue
-scan_of_copy file h = scan_of_segments h (cutting_of file h).datas (cutting_of file h).end
+abbrev pub copy_scan : List ℕ → HeadValue → ScanValue
+copy_scan file h = scan_of_segments h (cutting_of file h).datas (cutting_of file h).end
 
 abbrev pub version_of : ℕ → CopyValue → IntervalValue
 version_of i c = interval_of c.scan i

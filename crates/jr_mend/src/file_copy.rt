@@ -20,14 +20,14 @@ pub struct FileCopy<'a> {
 }
 
 impl<'a> Model for FileCopy<'a> {
-    ghost use Rattle.jr_mend.specs.Copies.{CopyValue, scan_of_copy};
+    ghost use Rattle.jr_mend.specs.Copies.{CopyValue, copy_scan};
     ghost use Rattle.jr_damage.specs.Verdicts.{IsFileScan};
 
     ghost Value = { CopyValue };
 
-    ghost view = { λ c. record { file = c.file.now; scan = scan_of_copy c.file.now c.head } };
+    ghost view = { λ c. record { file = c.file.now; scan = copy_scan c.file.now c.head } };
 
-    ghost invariant = { λ c. IsFileScan c.file.now (scan_of_copy c.file.now c.head) };
+    ghost invariant = { λ c. IsFileScan c.file.now (copy_scan c.file.now c.head) };
 }
 
 impl<'a> FileCopy<'a> {

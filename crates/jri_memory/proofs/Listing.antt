@@ -5,8 +5,7 @@ use Rattle.std.proofs.lemmas.Bool.{cases_lt}
 use Rattle.std.proofs.lemmas.List.{drop-drop, get_or_past, get_or-set_same, get_or-set_other}
 use Rattle.std.proofs.lemmas.List.Elements.{All-drop}
 use Rattle.jr_scan.specs.Mcus.{HasDecoding, HasNoDecoding}
-use Rattle.jr_scan.specs.IntervalValue.{IntervalValue}
-use Rattle.jr_scan.specs.ScanValue.{ScanValue, interval_of, intervals_of, mcus_in, scan_of_segments}
+use Rattle.jr_scan.specs.ScanValue.{ScanValue, interval_of, intervals_of, scan_of_segments}
 use Rattle.jr_damage.specs.declared.map.DamagedInterval.{DamagedInterval}
 use Rattle.jr_damage.specs.declared.segments.CodedSpan.{CodedSpan}
 use Rattle.jr_cut.proofs.EachCut.{each_scan_has_a_cut}
@@ -93,15 +92,6 @@ pub drop_on : (old now new : List Damage) (a b : ℕ) → a ≤ b → drop a now
 drop_on old now new a b le before same =
     let e : a + (b - a) ≡ b = omega (arith, le) in
     same ∙ ap (λ (n : ℕ). drop n now) (sym e) ∙ sym (drop-drop (b - a) a now) ∙ ap (drop (b - a)) before ∙ drop-drop (b - a) a old ∙ ap (λ (n : ℕ). drop n old) e
-
--- ---- the interval that is examined
-
-abbrev interval_with : (i mcus : ℕ) → List ℕ → HeadValue → IntervalValue
-interval_with i mcus bytes h = record { number = i; mcus = mcus; bytes = bytes; head = h }
-
-pub examined : (s : ScanValue) (h : HeadValue) (i mcus : ℕ) (bytes : List ℕ) → s.head ≡ h → mcus ≡ mcus_in h i → get_or s.intervals i [] ≡ bytes → interval_with i mcus bytes h ≡ interval_of s i
-examined s h i mcus bytes head count same =
-    ap (λ (m : ℕ). interval_with i m bytes h) count ∙ ap (λ (x : HeadValue). interval_with i (mcus_in x i) bytes x) (sym head) ∙ ap (λ (b : List ℕ). interval_with i (mcus_in s.head i) b s.head) (sym same)
 
 -- ---- positions
 

@@ -15,8 +15,8 @@ ghost use Rattle.jr_segments.specs.Refusal.{number_of};
 
 use crate::status::{DAMAGED, SOUND};
 use crate::{detail, status_of};
-use jr_cut::{offset_in, unstuff_segment};
-use jr_damage::{CodedSpan, DamagedInterval, damaged_interval, segment_at};
+use jr_cut::offset_in;
+use jr_damage::{CodedSpan, DamagedInterval, damaged_interval, segment_at, unstuff_at};
 use jr_head::{Head, Refusal, read_head};
 use jr_scan::IntervalRef;
 use std::alloc::Global;
@@ -119,7 +119,7 @@ fn examine(
     ensures damaged { (s : ScanValue) → s.head ≡ head.now → IsSegmentOf file.now s i span → IfSome result (λ d. IsDamageOf (interval_of s i) span d) }
     ensures capacity { vec_capacity buffer.old ≤ vec_capacity buffer.new }
 {
-    let found = unstuff_segment(&file[span.start..span.end], buffer);
+    let found = unstuff_at(file, span, buffer);
     let interval = IntervalRef::of(head, &buffer[..found], i, head.mcus_in(i));
     damaged_interval(interval, span)
 }

@@ -89,8 +89,8 @@ fn mend_all(alloc: Global, copies: &[FileCopy]) -> Result<Mended, MendFailure>
     ensures few { IfOk result (λ m. length m.choices.items < 2 ^ 32) }
     ensures failure { IfErr result (λ e. (sizes bytes : List ℕ) → AreCopiesOf (files_of sizes bytes) copies.now → IsMendFailure sizes bytes e) }
 {
-    // By its contract a scan has so few intervals that their number fits.
-    let _count = copies[0].scan().intervals();
+    // By its contract a header has so few intervals that their number fits.
+    let _count = copies[0].head().intervals();
     match mend(alloc, copies) {
         Ok(mended) => Ok(mended),
         Err(MendError::Memory) => Err(MendFailure::Memory),

@@ -1,4 +1,4 @@
-use Rattle.std.proofs.Common.{ℕ, ◌+◌, ◌<◌, ◌≤◌, ◌≢◌, sym, subst, ◌∙◌, get_or, get_or-set_other, arith}
+use Rattle.std.proofs.Common.{ℕ, ◌+◌, ◌<◌, ◌≤◌, ◌≢◌, sym, subst, ◌∙◌, get_or, get_or-set_other, rules, arith}
 use Rattle.std.proofs.lemmas.List.{length-set}
 use Rattle.jr_damage.specs.Coded.{IsNextAt}
 use Rattle.jr_damage.specs.declared.segments.Segment.{Segment}
@@ -24,7 +24,8 @@ pub segment_in-requires-clause-at : goal.segment_in-requires-clause-at
 segment_in-requires-clause-at c =
     let k = c.loop-k.k in
     let here : k ≤ k = omega arith in
-    subst (λ (d : CopyValue). IsNextAt d.file d.scan c.args.i (get_or c.loop-k.segments k no_segment).next) (sym c.index-copies-k.is) (c.loop-k.invariant.2 k no_segment here c.loop-k-test.true c.index-copies-k.result)
+    let next = subst (λ (d : CopyValue). IsNextAt d.file d.scan c.args.i (get_or c.loop-k.segments k no_segment).next) (sym c.index-copies-k.is) (c.loop-k.invariant.2 k no_segment here c.loop-k-test.true c.index-copies-k.result) in
+    search (rules, next)
 
 pub loop-k-preserved : goal.loop-k-preserved
 loop-k-preserved c =

@@ -1,31 +1,27 @@
-use Rattle.std.proofs.Common.{rules, [], get_or, take, slice_range, subst}
+use Rattle.std.proofs.Common.{◌≡◌, ◌∙◌, List, ℕ, [], get_or, take, sym, ap, subst}
 use Rattle.std.specs.Prelude.{IfSome, IfNone}
-use Rattle.jr_cut.specs.Cut.{IsRaw}
-use Rattle.jr_cut.proofs.Spellings.{same_found}
+use Rattle.jr_damage.proofs.Examined.{examined}
 use Rattle.jr_scan.specs.IntervalValue.{IntervalValue}
 use Rattle.jr_scan.specs.Mcus.{HasDecoding}
 use Rattle.jr_damage.specs.Map.{IsDamageOf}
-use Rattle.jri_memory.proofs.Listing.{examined}
 use Rattle.jri_memory.proofs.damages.examine.Goals as goal
 
 pub returns-clause-sound : goal.returns-clause-sound
 returns-clause-sound c s e segment =
-    let n = c.unstuff_segment-found.result in
-    let raw = slice_range c.args.file.now c.args.span.start c.args.span.end in
+    let n = c.unstuff_at-found.result in
     let bytes = take n c.deref.result.now in
-    let is_raw : IsRaw raw bytes = search (rules, c.unstuff_segment-found.ensures.data, c.deref.ensures.value) in
-    let same = same_found raw (get_or s.intervals c.args.i []) bytes segment.spelled.raw is_raw in
+    let data' = get_or s.intervals c.args.i [] in
+    let same : data' ≡ bytes = sym (c.unstuff_at-found.ensures.data data' segment.spelled) ∙ ap (λ (l : List ℕ). take n l) (sym c.deref.ensures.value) in
     let is = examined s c.args.head.now c.args.i c.mcus_in.result bytes e c.mcus_in.ensures.value same in
     let told = subst (λ v. IfNone c.damaged_interval.result (HasDecoding v)) c.of-interval.ensures c.damaged_interval.ensures.sound in
     subst (λ (v : IntervalValue). IfNone c.damaged_interval.result (HasDecoding v)) is told
 
 pub returns-clause-damaged : goal.returns-clause-damaged
 returns-clause-damaged c s e segment =
-    let n = c.unstuff_segment-found.result in
-    let raw = slice_range c.args.file.now c.args.span.start c.args.span.end in
+    let n = c.unstuff_at-found.result in
     let bytes = take n c.deref.result.now in
-    let is_raw : IsRaw raw bytes = search (rules, c.unstuff_segment-found.ensures.data, c.deref.ensures.value) in
-    let same = same_found raw (get_or s.intervals c.args.i []) bytes segment.spelled.raw is_raw in
+    let data' = get_or s.intervals c.args.i [] in
+    let same : data' ≡ bytes = sym (c.unstuff_at-found.ensures.data data' segment.spelled) ∙ ap (λ (l : List ℕ). take n l) (sym c.deref.ensures.value) in
     let is = examined s c.args.head.now c.args.i c.mcus_in.result bytes e c.mcus_in.ensures.value same in
     let told = subst (λ v. IfSome c.damaged_interval.result (λ d. IsDamageOf v c.args.span d)) c.of-interval.ensures c.damaged_interval.ensures.damaged in
     subst (λ (v : IntervalValue). IfSome c.damaged_interval.result (λ d. IsDamageOf v c.args.span d)) is told
