@@ -19,7 +19,7 @@ fn own_scan(alloc: Global, head: Head, file: &[u8]) -> Result<Scan, DecodeError>
     ensures scan { IfOk result (λ scan. IsScanOfFile file.now scan) }
     ensures memory { IfErr result (λ e. e ≡ DecodeError.Refused refusal.Memory) }
 {
-    head.be_lawful();
+    head.assert_invariant();
     match Scan::cut(alloc, head, file) {
         Ok(scan) => Ok(scan),
         Err(_) => Err(DecodeError::Refused(Refusal::Memory)),
@@ -34,7 +34,7 @@ fn resynced_scan(alloc: Global, head: Head, file: &[u8]) -> Result<Scan, DecodeE
     ensures refused { IfErr result (λ e. e ≢ DecodeError.TooLong → e ≡ DecodeError.Refused refusal.Memory) }
     ensures long { result ≡ Err DecodeError.TooLong → IsTooLongFile file.now }
 {
-    head.be_lawful();
+    head.assert_invariant();
     let read = match resynchronised(alloc, &head, file) {
         Ok(resynced) => resynced.file,
         Err(ResyncFault::Memory) => return Err(DecodeError::Refused(Refusal::Memory)),
