@@ -90,7 +90,8 @@ pub fn end_text(report: &DecodeReport, text: &mut [u8]) -> usize
     ensures most { result ≤ 96 }
     ensures kept { drop result text.new ≡ drop result text.old }
 {
-    let (found, due, at) = (report.found as u8, report.due as u8, report.at);
+    let (found, due) = ((report.found % 256) as u8, (report.due % 256) as u8);
+    let at = report.at;
     let ended = match report.ended {
         1 => ScanEnd::EndOfImage,
         2 => ScanEnd::OtherMarker(found, at),
