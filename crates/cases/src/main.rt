@@ -108,12 +108,25 @@ impl Rows {
     }
 }
 
-/// Checks the tables that the arguments name, and returns whether there are rows and every row holds.
-fn check<W: Write>(rt: &HostRuntime, out: &mut W) -> IoResult<bool> {
-    let mut rows = Rows { all: 0, wrong: 0 };
+/// Returns the tables that the arguments name.
+fn tables_of(rt: &HostRuntime) -> IoResult<Vec<String>> {
+    let mut tables = Vec::new(rt.alloc());
     for name in env::args(rt)?.skip(1) {
-        let table = fs::read_to_string(rt, name.as_str())?;
-        rows.check_table(rt, rt.alloc(), table.as_str(), out)?;
+        tables.push(fs::read_to_string(rt, name.as_str())?)?;
+    }
+    Ok(tables)
+}
+
+/// Checks tables, and returns whether they have rows and every row holds.
+fn check<R: Threads + Wait + Sync, W: Write>(
+    rt: &R,
+    alloc: Global,
+    tables: &[String],
+    out: &mut W,
+) -> IoResult<bool> {
+    let mut rows = Rows { all: 0, wrong: 0 };
+    for table in tables {
+        rows.check_table(rt, alloc, table.as_str(), out)?;
     }
     if rows.all == 0 {
         writeln!(out, "the tables have no rows")?;
@@ -124,7 +137,11 @@ fn check<W: Write>(rt: &HostRuntime, out: &mut W) -> IoResult<bool> {
 }
 
 fn main(rt: HostRuntime) -> ExitCode {
-    match check(&rt, &mut rt.stdout()) {
+    let checked = match tables_of(&rt) {
+        Ok(tables) => check(&rt, rt.alloc(), &tables, &mut rt.stdout()),
+        Err(error) => Err(error),
+    };
+    match checked {
         Ok(true) => ExitCode::SUCCESS,
         Ok(false) => ExitCode::FAILURE,
         Err(error) => {
