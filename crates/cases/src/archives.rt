@@ -166,12 +166,12 @@ fn limit_of(settings: &str) -> Result<(usize, ErrorKind), Failure> {
 }
 
 /// Makes the run of a row with these arguments before its own, and compares what comes of it.
-fn compare_run<R: Threads + Wait + Sync>(
+fn compare_run<'a, R: Threads + Wait + Sync>(
     rt: &R,
     alloc: Global,
     table: &str,
-    line: &str,
-    before: &str,
+    line: &'a str,
+    before: &'a str,
     out: &mut Differences,
 ) -> Result<(), Failure> {
     let name = field(line, 0);
