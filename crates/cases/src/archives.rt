@@ -165,6 +165,38 @@ fn limit_of(settings: &str) -> Result<(usize, ErrorKind), Failure> {
     Ok((digits.parse::<usize>()?, refusal))
 }
 
+/// Runs the program over the files of a table, and returns its exit status. What it writes goes to `written` and `told`, the
+/// former as far as there is space.
+fn run_on<'a, R: Threads + Wait + Sync>(
+    rt: &'a R,
+    alloc: Global,
+    table: &str,
+    words: Vec<Vec<u8>>,
+    (room, refusal): (usize, ErrorKind),
+    written: &'a Mutex<Vec<u8>>,
+    told: &'a Mutex<Vec<u8>>,
+) -> u8 {
+    let out = Stream {
+        rt,
+        bytes: written,
+        room,
+        refusal,
+    };
+    let errors = Stream {
+        rt,
+        bytes: told,
+        room: usize::MAX,
+        refusal,
+    };
+    let streams = Streams {
+        out,
+        errors,
+        progress: None,
+    };
+    let (folder, lists) = (Shelf { table }, Shelf { table });
+    program(rt, alloc, folder, &lists, Ok(words), streams).status()
+}
+
 /// Makes the run of a row with these arguments before its own, and compares what comes of it.
 fn compare_run<'a, R: Threads + Wait + Sync>(
     rt: &R,
@@ -176,34 +208,12 @@ fn compare_run<'a, R: Threads + Wait + Sync>(
 ) -> Result<(), Failure> {
     let name = field(line, 0);
     let words = words_of(alloc, before, name)?;
-    let (room, refusal) = limit_of(field(line, 1))?;
+    let limit = limit_of(field(line, 1))?;
     let (written, told) = (Mutex::new(Vec::new(alloc)), Mutex::new(Vec::new(alloc)));
-    let streams = Streams {
-        out: Stream {
-            rt,
-            bytes: &written,
-            room,
-            refusal,
-        },
-        errors: Stream {
-            rt,
-            bytes: &told,
-            room: usize::MAX,
-            refusal,
-        },
-        progress: None,
-    };
-    let ended = program(
-        rt,
-        alloc,
-        Shelf { table },
-        &Shelf { table },
-        Ok(words),
-        streams,
-    );
+    let status = run_on(rt, alloc, table, words, limit, &written, &told);
     let subject = Subject { name, path: before };
     let wanted = u64::from(field(line, 3).parse::<u8>()?);
-    compare_numbers(out, subject, wanted, u64::from(ended.status()));
+    compare_numbers(out, subject, wanted, u64::from(status));
     let (written, told) = (written.into_inner(), told.into_inner());
     compare_field(alloc, subject, field(line, 2), written.as_slice(), out)?;
     compare_field(alloc, subject, field(line, 4), told.as_slice(), out)
