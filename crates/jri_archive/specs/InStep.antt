@@ -1,11 +1,11 @@
 -- Which bytes of a file are checked.
-use Rattle.std.specs.Prelude.{◌≡◌, ◌⊎◌, ℕ, Bool, true, false, List}
+use Rattle.std.specs.Prelude.{◌≡◌, ◌⊎◌, ℕ, Bool, true, false, List, []}
 use Rattle.jr_segments.specs.declared.refusal.Refusal.{Refusal}
 use Rattle.jr_cut.specs.declared.scan_end.ScanEnd.{ScanEnd}
 use Rattle.jr_head.specs.HeadValue.{HeadValue}
 use Rattle.jr_head.specs.Heads.{HeadOf, RefusalOf}
 use Rattle.jr_cut.specs.declared.breaks.Break.{Break}
-use Rattle.jr_mend.specs.Reading.{Becomes, IsTooLong}
+use Rattle.jr_mend.specs.Reading.{Becomes, IsFileInStep, IsTooLong}
 use Rattle.jri_archive.specs.declared.reading.ReadError.{ReadError}
 use Rattle.jri_archive.specs.declared.reading.ReadError.TheVariants.{Memory, TooLong}
 
@@ -16,6 +16,14 @@ pub record IsPutInStep (file bytes : List ℕ) (breaks : List Break) : Type 0 wh
   pub is_head : HeadOf file head
   pub is : Becomes file head bytes breaks ended
 
+-- a file whose restart markers are in step is checked as it is
+pub record IsKept (file bytes : List ℕ) (breaks : List Break) : Type 0 where
+  pub head : HeadValue
+  pub is_head : HeadOf file head
+  pub in_step : IsFileInStep file head
+  pub same : bytes ≡ file
+  pub none : breaks ≡ []
+
 -- a refused file is checked as it is
 pub record IsLeft (file bytes : List ℕ) : Type 0 where
   pub refusal : Refusal
@@ -24,7 +32,7 @@ pub record IsLeft (file bytes : List ℕ) : Type 0 where
 
 -- the bytes of a file that are checked with `--resync`
 abbrev pub IsInStepOf : (file bytes : List ℕ) → List Break → Type 0
-IsInStepOf file bytes breaks = IsPutInStep file bytes breaks ⊎ IsLeft file bytes
+IsInStepOf file bytes breaks = IsPutInStep file bytes breaks ⊎ (IsKept file bytes breaks ⊎ IsLeft file bytes)
 
 -- the file that it would become is too long
 pub record IsTooLongInStep (file : List ℕ) : Type 0 where

@@ -3,12 +3,12 @@
 ghost use Rattle.std.specs.Prelude.{◌≡◌, ◌≢◌, IfErr, IfOk};
 ghost use Rattle.jr_segments.specs.declared.refusal.Refusal.TheVariants as refusals;
 ghost use Rattle.jr_head.specs.Heads.{HeadOf};
-ghost use Rattle.jri_archive.specs.InStep.{IsInStepError, IsInStepOf, IsPutInStep};
+ghost use Rattle.jri_archive.specs.InStep.{IsInStepError, IsInStepOf};
 
 use crate::reading::{Entry, FileBytes, Folder, ReadError};
 use crate::state_record::Stamp;
 use jr_head::{Head, Refusal, read_head};
-use jr_mend::{ResyncFault, resynchronised};
+use jr_mend::{ResyncFault, is_in_step, resynchronised};
 use std::alloc::Global;
 
 /// A directory whose files are resynchronised before they are checked, if that is asked for.
@@ -18,13 +18,16 @@ pub struct InStepFolder<F> {
     pub is_resync: bool,
 }
 
-/// Returns a file that has this header with its restart markers in step.
-fn put_in_step(alloc: Global, head: &Head, file: &[u8]) -> Result<FileBytes, ReadError>
-    requires { HeadOf file.now head.now }
-    ensures bytes { IfOk result (λ r. IsPutInStep file.now r.bytes.items r.breaks.items) }
-    ensures error { IfErr result (IsInStepError file.now) }
+/// Returns a file that has this header with its restart markers in step. A file that has them so is returned unchanged.
+fn put_in_step(alloc: Global, head: &Head, file: Vec<u8>) -> Result<FileBytes, ReadError>
+    requires { HeadOf file.items head.now }
+    ensures bytes { IfOk result (λ r. IsInStepOf file.items r.bytes.items r.breaks.items) }
+    ensures error { IfErr result (IsInStepError file.items) }
 {
-    match resynchronised(alloc, head, file) {
+    if is_in_step(head, &file) {
+        return Ok(FileBytes::unchanged(alloc, file));
+    }
+    match resynchronised(alloc, head, &file) {
         Ok(resynced) => Ok(FileBytes {
             bytes: resynced.file,
             breaks: resynced.breaks,
@@ -41,10 +44,7 @@ fn left(alloc: Global, refusal: Refusal, file: Vec<u8>) -> Result<FileBytes, Rea
 {
     match refusal {
         Refusal::Memory => Err(ReadError::Memory),
-        _ => Ok(FileBytes {
-            bytes: file,
-            breaks: Vec::new(alloc),
-        }),
+        _ => Ok(FileBytes::unchanged(alloc, file)),
     }
 }
 
@@ -54,7 +54,7 @@ fn in_step(alloc: Global, file: Vec<u8>) -> Result<FileBytes, ReadError>
     ensures error { IfErr result (IsInStepError file.items) }
 {
     match read_head(alloc, &file) {
-        Ok(head) => put_in_step(alloc, &head, &file),
+        Ok(head) => put_in_step(alloc, &head, file),
         Err(refusal) => left(alloc, refusal, file),
     }
 }
@@ -83,10 +83,7 @@ impl<F: Folder> Folder for InStepFolder<F> {
         if self.is_resync {
             return in_step(alloc, bytes);
         }
-        Ok(FileBytes {
-            bytes,
-            breaks: Vec::new(alloc),
-        })
+        Ok(FileBytes::unchanged(alloc, bytes))
     }
 
     fn stamp(&self, name: &str) -> Option<Stamp> {

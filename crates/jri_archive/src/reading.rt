@@ -1,6 +1,6 @@
 //! The sources of files' bytes, and the reasons why they fail.
 
-ghost use Rattle.std.specs.Prelude.{ℕ, List, IfOk, IfErr, IfSome};
+ghost use Rattle.std.specs.Prelude.{◌≡◌, ℕ, List, [], IfOk, IfErr, IfSome};
 
 use crate::state_record::Stamp;
 use jr_mend::Break;
@@ -71,6 +71,19 @@ pub struct FileBytes {
     pub breaks: Vec<Break>,
 }
 
+impl FileBytes {
+    /// Returns bytes that are checked as they were read.
+    pub(crate) fn unchanged(alloc: Global, bytes: Vec<u8>) -> FileBytes
+        ensures bytes { result.bytes.items ≡ bytes.items }
+        ensures breaks { result.breaks.items ≡ [] }
+    {
+        FileBytes {
+            bytes,
+            breaks: Vec::new(alloc),
+        }
+    }
+}
+
 /// The source of files.
 pub trait Folder {
     ghost use Rattle.jri_archive.specs.declared.reading.ReadError.{ReadError};
@@ -96,10 +109,7 @@ pub trait Folder {
         ensures error { IfErr result (fails self.now name.now) }
     {
         match self.read(alloc, name) {
-            Ok(bytes) => Ok(FileBytes {
-                bytes,
-                breaks: Vec::new(alloc),
-            }),
+            Ok(bytes) => Ok(FileBytes::unchanged(alloc, bytes)),
             Err(error) => Err(error),
         }
     }
