@@ -4,7 +4,8 @@ ghost use Rattle.std.specs.Prelude.{◌≡◌, ◌<◌, ◌≤◌, Some, IfOk, I
 ghost use Rattle.jr_base.specs.Tally.{has_failed};
 ghost use Rattle.jr_base.specs.declared.limits.TheConstants.{MAX_WORKERS};
 ghost use Rattle.jr_picture.specs.Headline.{least};
-ghost use Rattle.jr_rows.specs.Stream.{WritesPicture, BeginsPicture, IsSentBy};
+ghost use Rattle.jr_picture.specs.Writing.{WritesPicture, BeginsPicture};
+ghost use Rattle.jr_rows.specs.Stream.{IsSentBy};
 
 use crate::baton::Baton;
 use crate::crew::Crew;
@@ -15,10 +16,8 @@ use crate::row_queue::RowQueue;
 use crate::scan_of::ScanOf;
 use crate::sending::{Helping, Sending};
 use jr_base::{Memory, Tally, WriteFault};
-use jr_picture::{Counts, Gate};
-use jr_rows::{
-    FirstIntervals, Marked, PictureError, counts_of, intervals_of_row, shape_of, write_scan,
-};
+use jr_picture::{Counts, Gate, PictureError};
+use jr_rows::{FirstIntervals, Marked, counts_of, intervals_of_row, shape_of, write_scan};
 use jr_scan::Scan;
 use jr_work::tuning::{
     MAX_COUNTED, MIN_MCUS_OF_BUFFER, MIN_READERS, MIN_READS, READS_OF_ROW_WORKER,

@@ -9,7 +9,8 @@ use Rattle.jr_piece.specs.Outcome.{HasOutcome}
 use Rattle.jr_picture.specs.declared.counts.Counts.{Counts}
 use Rattle.jr_picture.specs.Boards.{marks_of}
 use Rattle.jr_picture.specs.Samples.{samples_of}
-use Rattle.jr_rows.specs.Stream.{WritesPicture, BeginsPicture, SendsPicture, HasCounts}
+use Rattle.jr_picture.specs.Writing.{WritesPicture, BeginsPicture}
+use Rattle.jr_rows.specs.Stream.{SendsPicture, HasCounts}
 use Rattle.jr_rows.proofs.FirstBoards.{first_board, shows_first}
 use Rattle.jr_rows.proofs.PictureRows.{from_ok}
 

@@ -16,21 +16,6 @@ use Rattle.jr_rows.specs.FirstIntervalsValue.{FirstIntervalsValue}
 use Rattle.jr_rows.specs.Rows.{HasFirst, CountsRows}
 use Rattle.jr_rows.specs.declared.marked.Marked.{Marked}
 
--- the text of a picture of the scan was written, of which the first n intervals are marked; these are the marks' counts
-pub record WritesPicture {T : Type 0} (known : T → Option (List ℕ)) (old new : Tally T) (scan : ScanValue) (n : ℕ) (counts : Counts) : Type 0 where
-  pub marks : List Mark
-  pub f : ℕ → ℕ → ℕ → ℕ
-  pub shows : ShowsFirst scan n marks f
-  pub text : Writes known old new (text_of scan.head f)
-  pub counted : AreCounts marks counts.sound counts.damaged counts.blank
-
--- a beginning of it was
-pub record BeginsPicture {T : Type 0} (known : T → Option (List ℕ)) (old new : Tally T) (scan : ScanValue) (n : ℕ) : Type 0 where
-  pub marks : List Mark
-  pub f : ℕ → ℕ → ℕ → ℕ
-  pub shows : ShowsFirst scan n marks f
-  pub front : WritesBeginning known old new (text_of scan.head f)
-
 -- of every board of the scan with the first n intervals marked the picture is written, or a beginning of it, and then the writer has failed
 abbrev pub SendsPicture : {T U E : Type 0} → (T → Option (List ℕ)) → Tally T → Tally T → Result U E → ScanValue → ℕ → Type 0
 SendsPicture known old new result scan n = (b : BoardValue) → HasFirst scan n b → IsSent known old new result (text_of scan.head (samples_of b))

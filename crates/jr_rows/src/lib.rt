@@ -39,4 +39,4 @@ pub use shape::{
     Shape, bytes_of_row, bytes_to, coded_of_row, intervals_of_row, lines_of, room_for, shape_of,
 };
 pub use whole::paint_scan;
-pub use writing::{PictureError, counts_of, write_rows, write_scan};
+pub use writing::{counts_of, write_rows, write_scan};

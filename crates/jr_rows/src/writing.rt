@@ -8,7 +8,8 @@ ghost use Rattle.jr_paint.specs.declared.header.TheConstants.{HEADER_ROOM};
 ghost use Rattle.jr_scan.specs.ScanValue.{intervals_of};
 ghost use Rattle.jr_picture.specs.Headline.{least};
 ghost use Rattle.jr_rows.specs.Rows.{CountsRows};
-ghost use Rattle.jr_rows.specs.Stream.{WritesPicture, BeginsPicture, SendsPicture, HasCounts};
+ghost use Rattle.jr_picture.specs.Writing.{WritesPicture, BeginsPicture};
+ghost use Rattle.jr_rows.specs.Stream.{SendsPicture, HasCounts};
 
 use crate::alone::Alone;
 use crate::painter::RowPainter;
@@ -16,19 +17,10 @@ use crate::{FirstIntervals, Marked, SampleRow, lines_of, room_for, shape_of};
 use jr_base::{Tally, WriteFault, write_all};
 use jr_head::Head;
 use jr_paint::{make_room, put_header};
-use jr_picture::{Counts, Gate};
+use jr_picture::{Counts, Gate, PictureError};
 use jr_scan::Scan;
 use std::alloc::Global;
 use std::io::Write;
-
-/// The reason why an image is not written whole.
-#[derive(Clone, Copy, PartialEq, Eq)]
-pub enum PictureError {
-    /// Allocation failed; nothing is written.
-    Memory,
-    /// The writer failed after a beginning of the image.
-    Write,
-}
 
 /// Writes an image, row after row from the painter; the lines of a row fit into `pixels`. Returns the marks of its
 /// intervals.

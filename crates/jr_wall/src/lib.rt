@@ -14,6 +14,7 @@ mod painting;
 mod strips;
 mod sweeping;
 mod workers;
+mod writing;
 
 pub use board::{Board, Unposted};
 pub use decoding::Decoding;
@@ -27,3 +28,4 @@ pub use jr_piece::{
 };
 pub use laws::pieces_are_of_their_data;
 pub use workers::{decode_all, decode_alone, work};
+pub use writing::write_board;

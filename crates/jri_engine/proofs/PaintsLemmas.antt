@@ -6,11 +6,11 @@ use Rattle.jr_base.specs.Tally.{known_in}
 use Rattle.jr_scan.specs.ScanValue.{ScanValue}
 use Rattle.jr_picture.specs.declared.counts.Counts.{Counts}
 use Rattle.jr_picture.specs.Headline.{least}
-use Rattle.jr_rows.specs.Stream.{BeginsPicture, WritesPicture}
-use Rattle.jr_rows.specs.declared.writing.PictureError.{PictureError}
-use Rattle.jr_rows.specs.declared.writing.PictureError.TheVariants.{Write as Stopped}
-use Rattle.jri_file.specs.declared.report.Report.{Report}
-use Rattle.jri_file.specs.declared.report.Fault.{Fault}
+use Rattle.jr_picture.specs.Writing.{BeginsPicture, WritesPicture}
+use Rattle.jr_picture.specs.declared.picture_error.PictureError.{PictureError}
+use Rattle.jr_picture.specs.declared.picture_error.PictureError.TheVariants.{Write as Stopped}
+use Rattle.jr_picture.specs.declared.report.Report.{Report}
+use Rattle.jr_picture.specs.declared.report.Fault.{Fault}
 use Rattle.jri_file.specs.Files.{IsScanOfFile, OfFile}
 use Rattle.jri_engine.specs.Files.{BeginsFile, BeginsImage, Paints, PaintsFile}
 

@@ -8,8 +8,8 @@ use Rattle.jr_scan.specs.ScanValue.{ScanValue}
 use Rattle.jr_cut.specs.declared.scan_end.ScanEnd.{ScanEnd}
 use Rattle.jr_cut.specs.declared.breaks.Break.{Break}
 use Rattle.jr_mend.specs.Reading.{Becomes, IsTooLong}
-use Rattle.jri_file.specs.declared.report.Fault.{Fault}
-use Rattle.jri_file.specs.declared.report.Fault.TheVariants as fault
+use Rattle.jr_picture.specs.declared.report.Fault.{Fault}
+use Rattle.jr_picture.specs.declared.report.Fault.TheVariants as fault
 use Rattle.jri_file.specs.Files.{IsScanOfFile, OfFile}
 use Rattle.jri_engine.specs.declared.resync.ResyncReport.{ResyncReport}
 use Rattle.jri_engine.specs.Files.{BeginsFile, PaintsFile}

@@ -12,7 +12,8 @@ mod running;
 pub use ended::Ended;
 pub use engine::run;
 pub use headers::program_for_headers;
-pub use jri_file::{Fault, Report, one_text, scan_of_file};
+pub use jr_picture::{Fault, Report};
+pub use jri_file::{one_text, scan_of_file};
 pub use jri_words::{
     Asked, DecodeRequest, DescribeRequest, Destination, Devices, ManyRequest, Mode, Target,
     Unasked, Verbosity, asked, decode_request, describe_request, finish, many_request,

@@ -9,7 +9,7 @@ use crate::ended::Ended;
 use crate::running::{Decoding, decode_to_part};
 use jr_base::Tally;
 use jr_mend::Break;
-use jri_file::Fault;
+use jr_picture::Fault;
 use jri_words::{
     Destination, Devices, Ending, ManyRequest, Names, Unasked, Verbosity, answer, image_name,
     report_breaks, report_ending, unwritten,

@@ -7,8 +7,8 @@ use Rattle.jr_base.specs.declared.limits.TheConstants.{MAX_FILE_BYTES}
 use Rattle.std.proofs.Math.Seq.{take-append-add}
 use Rattle.jr_head.specs.HeadValue.{HeadValue}
 use Rattle.jr_head.specs.Heads.{HeadOf, RefusalOf}
-use Rattle.jri_file.specs.declared.report.Fault.{Fault}
-use Rattle.jri_file.specs.declared.report.Fault.TheVariants as fault
+use Rattle.jr_picture.specs.declared.report.Fault.{Fault}
+use Rattle.jr_picture.specs.declared.report.Fault.TheVariants as fault
 use Rattle.jri_file.specs.Files.{BeginsWithHead, IsFaultOf, IsFaultOfInput, OfFile}
 
 -- what was read, and then more

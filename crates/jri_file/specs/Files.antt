@@ -10,8 +10,8 @@ use Rattle.jr_head.specs.Geometry.{IsLawful}
 use Rattle.jr_scan.specs.ScanValue.{ScanValue, IsScanOf}
 use Rattle.jr_picture.specs.declared.mark.Mark.{Mark}
 use Rattle.jr_picture.specs.Headline.{IsPicture, AreFirst, ShowsFirst, least}
-use Rattle.jri_file.specs.declared.report.Fault.{Fault}
-use Rattle.jri_file.specs.declared.report.Fault.TheVariants as fault
+use Rattle.jr_picture.specs.declared.report.Fault.{Fault}
+use Rattle.jr_picture.specs.declared.report.Fault.TheVariants as fault
 
 -- the head is the file's, within its limits, and the intervals are those that its scan is cut into
 pub record IsScanOfFile (file : List ℕ) (scan : ScanValue) : Type 0 where

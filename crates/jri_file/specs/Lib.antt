@@ -1,3 +1,2 @@
 pub mod Files
 pub mod Reading
-pub mod Status

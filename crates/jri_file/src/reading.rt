@@ -8,7 +8,7 @@ ghost use Rattle.jr_scan.specs.PartialScan.{HasCome};
 ghost use Rattle.jri_file.specs.Files.{IsUnread};
 ghost use Rattle.jri_file.specs.Reading.{CutsOn};
 
-use crate::report::Fault;
+use jr_picture::Fault;
 use jr_base::Tally;
 use jr_base::limits::MAX_FILE_BYTES;
 use jr_scan::PartialScan;

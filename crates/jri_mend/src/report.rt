@@ -6,7 +6,7 @@ use crate::preparing::Prepared;
 use crate::runs::{RunObject, run_at};
 use jr_mend::Choice;
 use jr_scan::ScanEnd;
-use jri_file::Report;
+use jr_picture::Report;
 use std::alloc::{AllocError, Global};
 use std::io::{Result as IoResult, Write};
 

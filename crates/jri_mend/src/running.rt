@@ -11,7 +11,7 @@ use crate::reading::{CopyError, copies_of, read_files};
 use crate::report::{is_first_sound, object_of, report_of, write_lines, write_prepared};
 use jr_base::{Printable, Tally};
 use jr_mend::{FileCopy, MendError, Mended, mend};
-use jri_file::{Fault, Report};
+use jr_picture::{Fault, Report};
 use jri_words::{
     Destination, Devices, Ending, Noted, Target, Unasked, answer, flushed, make_part, place,
     unwritten,

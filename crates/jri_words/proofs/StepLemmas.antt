@@ -1,10 +1,10 @@
 -- Steps one after another, and what a run leaves.
 use Rattle.std.proofs.Common.{◌≡◌, ℕ, ◌+◌, length, length-append, Bool, true, false, inl, inr, List, [], ◌∷◌, ◌++◌, Option, Some, None, Result, Ok, Err, IfOk, IfErr, is_ok, append_assoc, append-nil, ap, sym, subst, refl, ◌∙◌, ◌==◌, if◌then◌else◌}
 use Rattle.std.proofs.lemmas.Bool.{true≢false}
-use Rattle.jri_file.specs.declared.report.Report.{Report}
-use Rattle.jri_file.specs.declared.report.Fault.{Fault}
-use Rattle.jri_file.specs.declared.report.Fault.TheVariants as fault
-use Rattle.jri_file.specs.Status.{report_status, fault_status}
+use Rattle.jr_picture.specs.declared.report.Report.{Report}
+use Rattle.jr_picture.specs.declared.report.Fault.{Fault}
+use Rattle.jr_picture.specs.declared.report.Fault.TheVariants as fault
+use Rattle.jr_picture.specs.Status.{report_status, fault_status}
 use Rattle.std.specs.List.{AllByRecursion}
 use Rattle.jri_words.specs.Steps.{Step, Created, Renamed, Removed, Opened, Follow, OpensDevice, LeavesFile, is_picture_status, DecodesEach, ImageEnd, IsInDirectory, LeavesEach, worse, worst_of}
 

@@ -1,12 +1,12 @@
 //! The end of a run, reported on standard error.
 
 ghost use Rattle.std.specs.Prelude.{◌≡◌, IfOk, IfErr, true, false};
-ghost use Rattle.jri_file.specs.Status.{fault_status, report_status};
+ghost use Rattle.jr_picture.specs.Status.{fault_status, report_status};
 
 use crate::answers::{Asked, Target, Verbosity};
 use crate::line::{LineContext, write_line};
 use jr_cut::Break;
-use jri_file::{Fault, Report};
+use jr_picture::{Fault, Report};
 use std::io::{Error, ErrorKind, Result as IoResult, Write};
 
 /// The end of a run, and the system's reason if a reader or writer failed.

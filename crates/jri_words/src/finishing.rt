@@ -3,12 +3,12 @@
 ghost use Rattle.std.specs.Prelude.{◌≡◌, IfOk, IfErr, OnOk, true, false};
 ghost use Rattle.std.specs.Io.KnownBytes.{Keeps};
 ghost use Rattle.jr_base.specs.Tally.{has_failed, known_in};
-ghost use Rattle.jri_file.specs.Status.{fault_status, report_status};
+ghost use Rattle.jr_picture.specs.Status.{fault_status, report_status};
 
 use crate::answers::Verbosity;
 use crate::ending::{Ending, Names, report_ending};
 use jr_base::Tally;
-use jri_file::{Fault, Report};
+use jr_picture::{Fault, Report};
 use std::io::Write;
 
 /// Returns the outcome after a flush of the image that was written.

@@ -3,7 +3,7 @@
 use crate::quality::quality_of;
 use jr_base::Printable;
 use jr_head::{Head, Kind};
-use jri_file::Fault;
+use jr_picture::Fault;
 use std::alloc::{AllocError, Global};
 
 /// Returns the name of the components' meaning.

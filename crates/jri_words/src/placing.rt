@@ -6,7 +6,7 @@ ghost use Rattle.jri_words.specs.Steps.{Step, Created, Renamed, Removed, Follow}
 
 use crate::devices::Devices;
 use crate::ending::Ending;
-use jri_file::Fault;
+use jr_picture::Fault;
 use std::alloc::{AllocError, Global};
 use std::io::{Error, ErrorKind};
 

@@ -3,7 +3,8 @@
 use crate::caller::Caller;
 use jr_crew::write_scan_by;
 use jr_paint::{Tally, bytes_of_line, write_netpbm};
-use jr_rows::{PictureError, paint_scan_lines, write_scan};
+use jr_picture::PictureError;
+use jr_rows::{paint_scan_lines, write_scan};
 use jr_wall::{Board, Counts, OpenGate};
 use std::io::{Result as IoResult, Write};
 use std::sync::{Arc, Wait};

@@ -2,8 +2,8 @@ use Rattle.std.proofs.Common.{◌≡◌, ◌∙◌, Result, IfOk, ap, refl, rule
 use Rattle.std.specs.Arc.{arc_value}
 use Rattle.jr_picture.specs.declared.counts.Counts.{Counts}
 use Rattle.jr_picture.specs.Headline.{least}
-use Rattle.jr_rows.specs.Stream.{WritesPicture}
-use Rattle.jr_rows.specs.declared.writing.PictureError.{PictureError}
+use Rattle.jr_picture.specs.Writing.{WritesPicture}
+use Rattle.jr_picture.specs.declared.picture_error.PictureError.{PictureError}
 use Rattle.jr_scan.specs.ScanValue.{ScanValue}
 use Rattle.jri_engine.proofs.PaintsLemmas.{Wrote, scan_begins, scan_paints, wrote}
 use Rattle.jri_engine.proofs.engine.write_image.Goals as goal

@@ -1,8 +1,8 @@
 use Rattle.std.proofs.Common.{◌≡◌, ℕ, Bool, List, [], ◌∷◌, ◌++◌, Result, Err, refl, subst, sym}
 use Rattle.std.specs.String.{string_bytes}
-use Rattle.jri_file.specs.declared.report.Report.{Report}
-use Rattle.jri_file.specs.declared.report.Fault.{Fault}
-use Rattle.jri_file.specs.declared.report.Fault.TheVariants as fault
+use Rattle.jr_picture.specs.declared.report.Report.{Report}
+use Rattle.jr_picture.specs.declared.report.Fault.{Fault}
+use Rattle.jr_picture.specs.declared.report.Fault.TheVariants as fault
 use Rattle.jri_words.specs.Steps.{IsInDirectory, LeavesFile, is_picture_status}
 use Rattle.jri_words.proofs.StepLemmas.{none_yet, status_tells, undone}
 use Rattle.jri_engine.proofs.many.decode_one.Goals as goal

@@ -1,7 +1,7 @@
 //! Exit statuses.
 
 ghost use Rattle.std.specs.Prelude.{◌≡◌, false};
-ghost use Rattle.jri_file.specs.Status.{fault_status, report_status};
+ghost use Rattle.jr_picture.specs.Status.{fault_status, report_status};
 
 use crate::report::{Fault, Report};
 
