@@ -98,7 +98,7 @@ impl<S: OneFirstIntervals> Baton<S> {
 
     /// Reports the intervals that begin in the next row to the gate, and skips the row. Returns the rows starting at that row, and
     /// those after it.
-    pub(crate) fn pass<G: Gate>(
+    pub(crate) fn skip<G: Gate>(
         self,
         part: &FirstIntervals<'_>,
         gate: &G,

@@ -115,10 +115,11 @@ impl<'a, S: OneFirstIntervals> Crew<'a, S> {
             queue.has_no_task(scan) && !queue.has_spare()
         });
         queue.waiting = queue.waiting.saturating_sub(1);
-        match queue.task(&self.part) {
-            Some(task) => Some(task),
-            None => queue.spare(self.alloc),
+        if let Some(task) = queue.task(&self.part) {
+            return Some(task);
         }
+        let spare = queue.spare(self.alloc)?;
+        Some(RowTask::GiveBack(spare))
     }
 
     /// Waits until the calling thread has something to do or this row is painted, and returns what to do. `None` if the
@@ -198,18 +199,18 @@ impl<'a, S: OneFirstIntervals> Crew<'a, S> {
     }
 
     /// Skips a row, which then waits for a free thread.
-    fn pass<R: Wait, G: Gate>(&self, rt: &R, gate: &G, row: BegunRow<S>) {
-        let (baton, behind) = row.baton.pass(&self.part, gate);
-        let passed = BegunRow {
+    fn skip<R: Wait, G: Gate>(&self, rt: &R, gate: &G, row: BegunRow<S>) {
+        let (baton, behind) = row.baton.skip(&self.part, gate);
+        let skipped = BegunRow {
             baton,
             buffer: row.buffer,
         };
-        let waiter = self.queue.lock(rt).put_passed(&self.part, passed, behind);
+        let waiter = self.queue.lock(rt).put_skipped(&self.part, skipped, behind);
         self.wake(waiter);
     }
 
     /// Makes a speculative read.
-    fn guess<R: Wait>(&self, rt: &R, task: GuessTask<ScanOf<S>>) {
+    fn speculate<R: Wait>(&self, rt: &R, task: GuessTask<ScanOf<S>>) {
         let made = task.make(self.part.scan());
         let waiter = self.queue.lock(rt).put_guess(made);
         self.wake(waiter);
@@ -224,11 +225,11 @@ impl<'a, S: OneFirstIntervals> Crew<'a, S> {
         room: &mut PaintRoom<S>,
     ) {
         match task {
-            RowTask::Read(row) => self.read(rt, gate, row, room),
-            RowTask::Pass(row) => self.pass(rt, gate, row),
+            RowTask::Begin(row, true) => self.skip(rt, gate, row),
+            RowTask::Begin(row, false) => self.read(rt, gate, row, room),
             RowTask::Finish(row) => self.finish(rt, row, room),
             RowTask::Paint(coded) => self.put_painted(rt, coded.paint(&self.part, room)),
-            RowTask::Guess(task) => self.guess(rt, task),
+            RowTask::Speculate(task) => self.speculate(rt, task),
             RowTask::BringGuess(most) => self.bring_guess(rt, most),
             RowTask::GiveBack(spare) => drop(spare),
         }

@@ -10,7 +10,7 @@ use crate::scan_of::ScanOf;
 use jr_base::Memory;
 use jr_rows::{FirstIntervals, intervals_of_row};
 use jr_scan::Scan;
-use jr_work::{GuessQueue, GuessTask};
+use jr_work::{Choice, GuessQueue, GuessTask, Steps};
 use std::alloc::Global;
 use std::collections::VecDeque;
 use std::mem::replace;
@@ -18,16 +18,14 @@ use std::mem::replace;
 /// The next task of a thread.
 #[derive(Drop)]
 pub(crate) enum RowTask<S: OneFirstIntervals> {
-    /// Reads the next row.
-    Read(BegunRow<S>),
-    /// Skips the next row, so that another thread can read it while the rows after it are skipped.
-    Pass(BegunRow<S>),
-    /// Reads and paints a row that was skipped.
+    /// Reads the next row; if `true`, skips it, so that another thread can read it while the rows after it are skipped.
+    Begin(BegunRow<S>, bool),
+    /// Decodes and paints a row that was skipped.
     Finish(BegunRow<S>),
-    /// Paints a row that is read.
+    /// Paints a row that was read.
     Paint(CodedRow<S>),
     /// Makes a speculative read.
-    Guess(GuessTask<ScanOf<S>>),
+    Speculate(GuessTask<ScanOf<S>>),
     /// Brings a buffer for a speculative read of at most this number of MCUs.
     BringGuess(u32),
     /// Frees memory that no thread needs any more.
@@ -46,21 +44,6 @@ pub(crate) enum Spare<S: OneFirstIntervals> {
 pub(crate) struct BegunRow<S: OneFirstIntervals> {
     pub(crate) baton: Baton<S>,
     pub(crate) buffer: RowBuffer<S>,
-}
-
-/// The kind of task that a thread can do next.
-#[derive(Clone, Copy, PartialEq, Eq)]
-enum Choice {
-    Read,
-    Pass,
-    Finish,
-    Paint,
-    Guess,
-    BringGuess,
-    /// Others read, paint or write what comes before.
-    Wait,
-    /// All is over.
-    End,
 }
 
 /// Who is woken for a row that is read.
@@ -90,7 +73,7 @@ pub(crate) struct RowQueue<S: OneFirstIntervals> {
     /// Whether their memory is freed.
     has_given_back: bool,
     /// Skipped rows, in their order.
-    passed: VecDeque<BegunRow<S>>,
+    skipped: VecDeque<BegunRow<S>>,
     /// Rows that are read, in their order.
     coded: VecDeque<CodedRow<S>>,
     /// Painted rows. The slot of a row is its number modulo the number of slots, which is that of the row buffers.
@@ -120,7 +103,7 @@ impl<S: OneFirstIntervals> RowQueue<S> {
             lacking,
             guesses,
             has_given_back: false,
-            passed: VecDeque::new(alloc),
+            skipped: VecDeque::new(alloc),
             coded: VecDeque::new(alloc),
             painted,
             waiting: 0,
@@ -132,7 +115,7 @@ impl<S: OneFirstIntervals> RowQueue<S> {
     pub(crate) fn reserve(&mut self, count: u32) -> Result<(), Memory> {
         let count = count as usize;
         if self.free.reserve_exact(count).is_err()
-            || self.passed.reserve_exact(count).is_err()
+            || self.skipped.reserve_exact(count).is_err()
             || self.coded.reserve_exact(count).is_err()
         {
             return Err(Memory);
@@ -164,30 +147,15 @@ impl<S: OneFirstIntervals> RowQueue<S> {
         self.awaited = row;
     }
 
-    /// Chooses what a thread does next: it skips a row, or reads one, if it can, so that reading continues; otherwise
-    /// it finishes one; and it makes a speculative read, or brings a buffer for one, if nothing else is to be done. A
-    /// row at whose start a speculative read is being made waits for it.
+    /// Chooses what a thread does next.
     fn choice(&self, scan: &Scan) -> Choice {
-        let can_begin = self.baton.is_some()
-            && !self.free.is_empty()
-            && !self.guesses.makes_next(scan);
-        if self.is_over {
-            Choice::End
-        } else if can_begin && self.guesses.has_next(scan) {
-            Choice::Pass
-        } else if can_begin {
-            Choice::Read
-        } else if !self.passed.is_empty() {
-            Choice::Finish
-        } else if !self.coded.is_empty() {
-            Choice::Paint
-        } else if self.guesses.can_guess(scan) {
-            Choice::Guess
-        } else if self.guesses.wants_room(scan) {
-            Choice::BringGuess
-        } else {
-            Choice::Wait
-        }
+        let steps = Steps {
+            can_begin: self.baton.is_some() && !self.free.is_empty(),
+            has_unfinished: !self.skipped.is_empty() || !self.coded.is_empty(),
+            is_over: self.is_over,
+            brings_buffers: true,
+        };
+        self.guesses.choice(scan, steps)
     }
 
     /// Returns whether a thread has to wait for what others read, paint or write.
@@ -196,15 +164,16 @@ impl<S: OneFirstIntervals> RowQueue<S> {
     }
 
     /// Takes the rows that come next, with the speculative reads for the first of them, and the row buffer into which it
-    /// is read.
-    fn begin(
-        &mut self,
-        part: &FirstIntervals<'_>,
-        buffer: Option<RowBuffer<S>>,
-    ) -> Option<BegunRow<S>>
+    /// is decoded: one that has memory for its blocks, if there is one, unless the row is skipped.
+    fn begin(&mut self, part: &FirstIntervals<'_>, skips: bool) -> Option<BegunRow<S>>
         requires { S.part ≡ Some part.now }
     {
-        let Some(buffer) = buffer else {
+        let free = if skips {
+            self.free.pop_front()
+        } else {
+            self.free.pop_back()
+        };
+        let Some(buffer) = free else {
             return None;
         };
         let Some(baton) = self.baton.take() else {
@@ -217,7 +186,7 @@ impl<S: OneFirstIntervals> RowQueue<S> {
             self.is_begun = true;
         }
         let number = self.guesses.number();
-        let guesses = self.guesses.for_next(part.scan());
+        let guesses = self.guesses.for_next(part.scan(), number);
         let baton = baton.with_guesses(part, number, guesses);
         Some(BegunRow { baton, buffer })
     }
@@ -226,35 +195,26 @@ impl<S: OneFirstIntervals> RowQueue<S> {
     pub(crate) fn task(&mut self, part: &FirstIntervals<'_>) -> Option<RowTask<S>>
         requires { S.part ≡ Some part.now }
     {
-        match self.choice(part.scan()) {
-            Choice::Read => {
-                let buffer = self.free.pop_back();
-                if let Some(row) = self.begin(part, buffer) {
-                    return Some(RowTask::Read(row));
-                }
-            }
-            Choice::Pass => {
-                let buffer = self.free.pop_front();
-                if let Some(row) = self.begin(part, buffer) {
-                    return Some(RowTask::Pass(row));
+        let choice = self.choice(part.scan());
+        match choice {
+            Choice::Read | Choice::Skip => {
+                let skips = choice == Choice::Skip;
+                if let Some(row) = self.begin(part, skips) {
+                    return Some(RowTask::Begin(row, skips));
                 }
             }
             Choice::Finish => {
-                if let Some(row) = self.passed.pop_front() {
+                if let Some(row) = self.skipped.pop_front() {
                     return Some(RowTask::Finish(row));
                 }
-            }
-            Choice::Paint => {
                 if let Some(row) = self.coded.pop_front() {
                     return Some(RowTask::Paint(row));
                 }
             }
-            Choice::Guess => {
+            Choice::Speculate => {
                 if let Some(guess) = self.guesses.take(part.scan()) {
-                    return Some(RowTask::Guess(guess));
+                    return Some(RowTask::Speculate(guess));
                 }
-            }
-            Choice::BringGuess => {
                 if let Some(most) = self.guesses.lacks_room() {
                     return Some(RowTask::BringGuess(most));
                 }
@@ -271,19 +231,17 @@ impl<S: OneFirstIntervals> RowQueue<S> {
 
     /// Takes memory that no thread needs any more, if there is some, for a thread that has nothing else to do: buffers
     /// for speculative reads first, since they are larger than a row buffer.
-    pub(crate) fn spare(&mut self, alloc: Global) -> Option<RowTask<S>> {
+    pub(crate) fn spare(&mut self, alloc: Global) -> Option<Spare<S>> {
         if !self.is_begun {
             return None;
         }
         if !self.has_given_back {
             self.has_given_back = true;
             let guesses = replace(&mut self.guesses, GuessQueue::none(alloc));
-            return Some(RowTask::GiveBack(Spare::Guesses(guesses)));
+            return Some(Spare::Guesses(guesses));
         }
-        if let Some(buffer) = self.free.pop_front() {
-            return Some(RowTask::GiveBack(Spare::RowBuffer(buffer)));
-        }
-        None
+        let buffer = self.free.pop_front()?;
+        Some(Spare::RowBuffer(buffer))
     }
 
     /// Keeps the rows after those that are begun. Returns which thread to wake, since something can be done now.
@@ -309,19 +267,19 @@ impl<S: OneFirstIntervals> RowQueue<S> {
     }
 
     /// Keeps a row that was skipped, and the rows after it. Returns which thread to wake.
-    pub(crate) fn put_passed(
+    pub(crate) fn put_skipped(
         &mut self,
         part: &FirstIntervals<'_>,
-        passed: BegunRow<S>,
+        skipped: BegunRow<S>,
         behind: Option<Baton<S>>,
     ) -> Option<Waiter>
         requires { S.part ≡ Some part.now }
     {
         if self.is_over {
-            drop((passed, behind));
+            drop((skipped, behind));
             return None;
         }
-        drop(self.passed.push_back(passed));
+        drop(self.skipped.push_back(skipped));
         self.go_on(part, behind)
     }
 
@@ -407,7 +365,7 @@ impl<S: OneFirstIntervals> RowQueue<S> {
         self.is_over = true;
         self.is_begun = true;
         self.start(None);
-        self.passed.clear();
+        self.skipped.clear();
         self.coded.clear();
     }
 }

@@ -183,10 +183,7 @@ impl<'a, S: OneScan> SharedScan<'a, S> {
             self.make(rt, task);
         }
         let guessing = self.guessing.lock(rt);
-        if guessing.guesses.number() != number {
-            return Guesses::none();
-        }
-        guessing.guesses.for_next(self.scan)
+        guessing.guesses.for_next(self.scan, number)
     }
 
     /// Notes that all is read.

@@ -1,10 +1,11 @@
 //! Speculative reads ahead of a reader of a scan, and buffers for them.
 
-ghost use Rattle.std.specs.Prelude.{◌≡◌, ◌*◌, ◌/◌, ◌<◌, Some, IfOk, length};
+ghost use Rattle.std.specs.Prelude.{◌≡◌, ◌*◌, ◌/◌, ◌<◌, Some, IfOk, length, true, false};
 ghost use Rattle.jr_work.specs.declared.tuning.TheConstants.{MIN_BITS_OF_READ};
 ghost use Rattle.jr_scan.specs.ScanValue.{interval_of};
 ghost use Rattle.jr_scan.specs.Guesses.{AreGuessesOf};
 
+use crate::choice::{Choice, Steps};
 use crate::guess_slot::GuessSlot;
 use crate::guess_task::GuessTask;
 use crate::one_scan::OneScan;
@@ -96,7 +97,7 @@ impl<S: OneScan> GuessQueue<S> {
     }
 
     /// Returns whether one more buffer is of use: no thread brings one yet, and there are bits to read ahead.
-    pub fn wants_room(&self, scan: &Scan) -> bool {
+    fn wants_room(&self, scan: &Scan) -> bool {
         self.lacking > 0 && self.next_window(scan).is_some()
     }
 
@@ -117,6 +118,15 @@ impl<S: OneScan> GuessQueue<S> {
         ensures { self.new.at ≡ self.old.at }
     {
         drop(self.slots.push(GuessSlot::of(room)));
+    }
+
+    /// Frees the buffers; no speculative read is made any more.
+    pub(crate) fn end(&mut self)
+        ensures { self.new.at ≡ self.old.at }
+    {
+        self.limit = 0;
+        self.lacking = 0;
+        self.slots.clear();
     }
 
     /// Notes that the reader is at this bit of an interval.
@@ -155,7 +165,7 @@ impl<S: OneScan> GuessQueue<S> {
 
     /// Returns whether a speculative read has an MCU that starts where the reader is, and one covers the end of its
     /// next step: then the step needs no reading.
-    pub fn has_next(&self, scan: &Scan) -> bool {
+    fn has_next(&self, scan: &Scan) -> bool {
         let (number, bit) = self.at;
         let has_end = match self.next_end(scan) {
             Some(end) => self.slots.iter().any(|slot| slot.is_ready(number, end)),
@@ -206,6 +216,31 @@ impl<S: OneScan> GuessQueue<S> {
         self.free_slot().is_some() && self.next_window(scan).is_some()
     }
 
+    /// Chooses what a worker does next: it skips a step, or reads one, if it can, so that reading continues; otherwise
+    /// it finishes one; and it makes a speculative read, or brings a buffer for one, if nothing else is to be done. A
+    /// step for which a speculative read is being made waits for it, and for nothing else.
+    pub fn choice(&self, scan: &Scan, steps: Steps) -> Choice
+        ensures wait { result ≡ Choice.Wait → (steps.has_unfinished ≡ false) × (steps.is_over ≡ false) }
+        ensures end { result ≡ Choice.End → (steps.has_unfinished ≡ false) × (steps.is_over ≡ true) }
+    {
+        if steps.can_begin && !steps.is_over && !self.makes_next(scan) {
+            return if self.has_next(scan) {
+                Choice::Skip
+            } else {
+                Choice::Read
+            };
+        }
+        if steps.has_unfinished {
+            Choice::Finish
+        } else if steps.is_over {
+            Choice::End
+        } else if self.can_guess(scan) || (steps.brings_buffers && self.wants_room(scan)) {
+            Choice::Speculate
+        } else {
+            Choice::Wait
+        }
+    }
+
     /// Takes the next speculative read, for a thread to make.
     pub fn take(&mut self, scan: &Scan) -> Option<GuessTask<S>>
         ensures { self.new.at ≡ self.old.at }
@@ -237,14 +272,18 @@ impl<S: OneScan> GuessQueue<S> {
         }
     }
 
-    /// Returns the speculative reads for the reader's next step, if it is not much longer than the last one.
-    pub fn for_next(&self, scan: &Scan) -> Guesses
+    /// Returns the speculative reads for the next step of a reader in interval `number`, if it is not much longer than
+    /// the last one; none if the reader is not there.
+    pub fn for_next(&self, scan: &Scan, number: u32) -> Guesses
         requires { S.scan ≡ Some scan.now }
-        ensures { AreGuessesOf (interval_of scan.now self.now.at.0) result }
+        ensures { AreGuessesOf (interval_of scan.now number) result }
     {
-        let (number, bit) = self.at;
+        let (at, bit) = self.at;
         let to = bit.saturating_add(self.step_bits.saturating_add(self.step_bits / 2));
         let mut guesses = Guesses::none();
+        if at != number {
+            return guesses;
+        }
         for slot in &self.slots {
             if slot.is_between(number, bit, to) {
                 guesses = slot.put_into(number, guesses);

@@ -42,37 +42,32 @@ impl<S: OneScan> Model for Job<S> {
     ghost invariant = { λ j. IsOneOf S.scan (arc_value j.interval) };
 }
 
-/// Opens a queue of speculative reads of interval i of a scan by `workers` workers, which bring the buffers. `None` if
-/// they are not worth their work, or if allocation fails.
+/// Opens a queue of speculative reads of interval i of a scan, which is read in steps of `step` MCUs, by `workers`
+/// workers, which bring the buffers. It makes none if they are not worth their work, or if allocation fails.
 fn open_guesses<S: OneScan>(
     alloc: Global,
     scan: &Scan,
     i: u32,
+    step: u32,
     workers: usize,
-) -> Option<GuessQueue<S>>
-    requires scan { S.scan ≡ Some scan.now }
-    requires i { i < length scan.now.intervals }
+) -> GuessQueue<S>
+    requires { i < length scan.now.intervals }
 {
     let windows = windows_of(scan, i);
     if workers < MIN_READERS as usize || windows < MIN_READS {
-        return None;
+        return GuessQueue::none(alloc);
     }
     let most = workers.min(MAX_WORKERS as usize) as u32 * READS_OF_STRIP_WORKER;
     let count = windows.min(u64::from(most)) as u32;
-    let Ok(interval) = scan.interval(i) else {
-        return None;
-    };
-    let step = strip_mcus(&interval);
-    drop(interval);
     let most = step.saturating_mul(STEPS_OF_BUFFER);
     let limit = i.saturating_add(1);
     let Ok(mut queue) = GuessQueue::open(alloc, scan, limit, count, step, most) else {
-        return None;
+        return GuessQueue::none(alloc);
     };
     if i > 0 {
         queue.reach(scan, i, 0);
     }
-    Some(queue)
+    queue
 }
 
 impl<S: OneScan> Job<S> {
@@ -91,7 +86,7 @@ impl<S: OneScan> Job<S> {
             return Err(Memory);
         };
         let reading = Reading::of(read);
-        let guesses = open_guesses(alloc, scan, i, workers);
+        let guesses = open_guesses(alloc, scan, i, strip_mcus(&interval), workers);
         let gathered = Gathered::of(alloc, kept);
         let most_waiting = workers.saturating_sub(1).max(1);
         let progress = Progress::of(alloc, reading, guesses, gathered, most_waiting);
@@ -109,7 +104,7 @@ impl<S: OneScan> Job<S> {
         &self.interval
     }
 
-    /// Waits for a task and returns it.
+    /// Waits for a task and returns it. `None` if none is left.
     fn task<R: Wait>(&self, rt: &R, scan: &Scan) -> Option<StripTask<S>>
         requires { S.scan ≡ Some scan.now }
     {
@@ -145,8 +140,8 @@ impl<S: OneScan> Job<S> {
         }
     }
 
-    /// Makes a speculative read, and wakes the workers that wait for it.
-    fn guess<R: Wait>(&self, rt: &R, scan: &Scan, task: GuessTask<S>)
+    /// Makes a speculative read, and wakes a worker that may wait for it.
+    fn speculate<R: Wait>(&self, rt: &R, scan: &Scan, task: GuessTask<S>)
         requires { S.scan ≡ Some scan.now }
     {
         let made = task.make(scan);
@@ -208,16 +203,15 @@ impl<S: OneScan> Job<S> {
                 return None;
             };
             match task {
-                StripTask::Read(reading) => self.read(rt, alloc, scan, reading),
-                StripTask::Guess(task) => self.guess(rt, scan, task),
-                StripTask::Decode(waiting) => {
+                StripTask::Begin(reading) => self.read(rt, alloc, scan, reading),
+                StripTask::Speculate(task) => self.speculate(rt, scan, task),
+                StripTask::Finish(waiting) => {
                     let strip = self.decode(rt, alloc, waiting).ok();
                     if strip.is_none() {
                         self.give_up(rt);
                     }
                     return strip;
                 }
-                StripTask::Leave => return None,
             }
         }
         None

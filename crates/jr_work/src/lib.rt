@@ -3,6 +3,7 @@
 #![tactic(auto)]
 
 mod beside;
+mod choice;
 mod gathered;
 mod guess_queue;
 mod guess_slot;
@@ -17,6 +18,7 @@ mod waiting_strip;
 mod window;
 
 pub use beside::{Beside, Help, run_beside};
+pub use choice::{Choice, Steps};
 pub use guess_queue::{GuessQueue, windows_of};
 pub use guess_task::GuessTask;
 pub use job::Job;

@@ -3,14 +3,12 @@
 ghost use Rattle.std.specs.Prelude.{◌≡◌, Some, IfOk, IfSome};
 ghost use Rattle.std.specs.Arc.{arc_value};
 ghost use Rattle.jr_work.specs.Sharing.{IsOneOf, IsNextOf, interval_of_strip, HasItsGuesses};
-ghost use Rattle.jr_scan.specs.Guesses.{AreGuessesOf};
-ghost use Rattle.jr_scan.specs.ScanValue.{interval_of};
 ghost use Rattle.jr_piece.specs.Strips.{AreOf, TellsEnd, shared_strips};
 
 use crate::gathered::Gathered;
 use crate::reading::{End, Next, Reading};
 use crate::waiting_strip::WaitingStrip;
-use crate::{GuessQueue, GuessTask, OneScan, ScanGuess};
+use crate::{Choice, GuessQueue, GuessTask, OneScan, ScanGuess, Steps};
 use jr_base::Coefficients;
 use jr_code::Memory;
 use jr_piece::Strip;
@@ -68,26 +66,12 @@ impl<S: OneScan> ScanStrip<S> {
 /// The next task of a worker.
 #[derive(Drop)]
 pub(crate) enum StripTask<S: OneScan> {
-    /// Read the next strip, or skip it.
-    Read(Reading<S>),
-    /// Decode a strip that waits.
-    Decode(ScanStrip<S>),
-    /// Make a speculative read of what comes after the next strip.
-    Guess(GuessTask<S>),
-    /// Nothing: all is read, and others decode what is left.
-    Leave,
-}
-
-/// The kind of task that a worker can do next.
-#[derive(Clone, Copy, PartialEq, Eq)]
-enum Choice {
-    Read,
-    Pass,
-    Decode,
-    Guess,
-    /// Others read, in turn or ahead.
-    Wait,
-    Leave,
+    /// Reads the next strip, or skips it.
+    Begin(Reading<S>),
+    /// Decodes a strip that waits.
+    Finish(ScanStrip<S>),
+    /// Makes a speculative read of what comes after the next strip.
+    Speculate(GuessTask<S>),
 }
 
 /// The progress of an interval: one worker reads or skips strips, and these wait for a free worker.
@@ -95,8 +79,8 @@ enum Choice {
 pub(crate) struct Progress<S: OneScan> {
     /// None while a worker reads, and where nothing is left to read.
     reading: Option<Reading<S>>,
-    /// `None` if strips are read and none is skipped, and if nothing is left to read: then their memory is freed.
-    guesses: Option<GuessQueue<S>>,
+    /// It has no buffers if strips are read and none is skipped, and once nothing is left to read.
+    guesses: GuessQueue<S>,
     /// Nothing will be read any more.
     is_over: bool,
     /// In their order.
@@ -113,7 +97,7 @@ impl<S: OneScan> Progress<S> {
     pub(crate) fn of(
         alloc: Global,
         reading: Reading<S>,
-        guesses: Option<GuessQueue<S>>,
+        guesses: GuessQueue<S>,
         gathered: Gathered<S>,
         most_waiting: usize,
     ) -> Progress<S> {
@@ -128,43 +112,15 @@ impl<S: OneScan> Progress<S> {
         }
     }
 
-    /// Chooses what a worker does next: it skips a strip, or reads one, if it can, so that reading continues; otherwise
-    /// it decodes one that waits; and it makes a speculative read if nothing else is to be done. A strip for which a
-    /// speculative read is being made waits for it, and for nothing else.
+    /// Chooses what a worker does next.
     fn choice(&self, scan: &Scan) -> Choice {
-        if self.is_over {
-            return if self.waiting.is_empty() {
-                Choice::Leave
-            } else {
-                Choice::Decode
-            };
-        }
-        let can_read = self.reading.is_some() && self.waiting.len() < self.most_waiting;
-        let makes_next = self
-            .guesses
-            .as_ref()
-            .is_some_and(|queue| queue.makes_next(scan));
-        if can_read
-            && self
-                .guesses
-                .as_ref()
-                .is_some_and(|queue| queue.has_next(scan))
-            && !makes_next
-        {
-            Choice::Pass
-        } else if can_read && !makes_next {
-            Choice::Read
-        } else if !self.waiting.is_empty() {
-            Choice::Decode
-        } else if self
-            .guesses
-            .as_ref()
-            .is_some_and(|queue| queue.can_guess(scan))
-        {
-            Choice::Guess
-        } else {
-            Choice::Wait
-        }
+        let steps = Steps {
+            can_begin: self.reading.is_some() && self.waiting.len() < self.most_waiting,
+            has_unfinished: !self.waiting.is_empty(),
+            is_over: self.is_over,
+            brings_buffers: false,
+        };
+        self.guesses.choice(scan, steps)
     }
 
     /// Returns whether a worker has to wait for what others read, ahead or in turn.
@@ -172,26 +128,15 @@ impl<S: OneScan> Progress<S> {
         self.choice(scan) == Choice::Wait
     }
 
-    /// Returns the speculative reads by which the next strip is skipped.
-    fn guesses_for(&self, scan: &Scan, number: u32) -> Guesses
-        requires { S.scan ≡ Some scan.now }
-        ensures { AreGuessesOf (interval_of scan.now number) result }
-    {
-        match &self.guesses {
-            Some(queue) if queue.number() == number => queue.for_next(scan),
-            _ => Guesses::none(),
-        }
-    }
-
     /// Takes the reading, with the speculative reads by which the next strip is skipped, or with none.
-    fn begin(&mut self, scan: &Scan, passes: bool) -> Option<Reading<S>>
+    fn begin(&mut self, scan: &Scan, skips: bool) -> Option<Reading<S>>
         requires { S.scan ≡ Some scan.now }
     {
         let Some(mut reading) = self.reading.take() else {
             return None;
         };
-        if passes {
-            let guesses = self.guesses_for(scan, reading.number());
+        if skips {
+            let guesses = self.guesses.for_next(scan, reading.number());
             reading.guide(guesses);
         } else {
             reading.guide(Guesses::none());
@@ -202,52 +147,47 @@ impl<S: OneScan> Progress<S> {
         Some(reading)
     }
 
-    /// Returns the next task of a worker. `None` if it has to wait.
+    /// Returns the next task of a worker. `None` if it has to wait, or if all is read and others decode what is left.
     pub(crate) fn task(&mut self, scan: &Scan) -> Option<StripTask<S>>
         requires { S.scan ≡ Some scan.now }
     {
         let choice = self.choice(scan);
         match choice {
-            Choice::Read | Choice::Pass => {
-                if let Some(reading) = self.begin(scan, choice == Choice::Pass) {
-                    return Some(StripTask::Read(reading));
+            Choice::Read | Choice::Skip => {
+                if let Some(reading) = self.begin(scan, choice == Choice::Skip) {
+                    return Some(StripTask::Begin(reading));
                 }
             }
-            Choice::Decode => {
+            Choice::Finish => {
                 if let Some(strip) = self.waiting.pop_front() {
-                    return Some(StripTask::Decode(strip));
+                    return Some(StripTask::Finish(strip));
                 }
             }
-            Choice::Guess => {
-                if let Some(queue) = &mut self.guesses
-                    && let Some(guess) = queue.take(scan)
-                {
-                    return Some(StripTask::Guess(guess));
+            Choice::Speculate => {
+                if let Some(guess) = self.guesses.take(scan) {
+                    return Some(StripTask::Speculate(guess));
                 }
             }
-            Choice::Wait => (),
-            Choice::Leave => return Some(StripTask::Leave),
+            Choice::Wait | Choice::End => (),
         }
         None
     }
 
     /// Returns the number of MCUs of a buffer for speculative reads that a worker is to bring, if it is to bring one.
     pub(crate) fn lacks_guess(&mut self) -> Option<u32> {
-        self.guesses.as_mut()?.lacks_room()
+        self.guesses.lacks_room()
     }
 
-    /// Takes a buffer for a speculative read, which a worker brings.
+    /// Takes a buffer for a speculative read, which a worker brings, as long as strips are read.
     pub(crate) fn bring_guess(&mut self, room: ScanGuess<S>) {
-        if let Some(queue) = &mut self.guesses {
-            queue.bring(room);
+        if !self.is_over {
+            self.guesses.bring(room);
         }
     }
 
     /// Keeps a speculative read that is made.
     pub(crate) fn put_guess(&mut self, made: GuessTask<S>) {
-        if let Some(queue) = &mut self.guesses {
-            queue.put(made);
-        }
+        self.guesses.put(made);
     }
 
     /// Takes the reading back, with what was read. Returns `true` if nothing will be read any more.
@@ -274,11 +214,9 @@ impl<S: OneScan> Progress<S> {
         if self.is_over {
             drop(reading);
             self.spare.clear();
-            drop(self.guesses.take());
+            self.guesses.end();
         } else {
-            if let Some(queue) = &mut self.guesses {
-                queue.reach(scan, reading.number(), reading.bit());
-            }
+            self.guesses.reach(scan, reading.number(), reading.bit());
             drop(replace(&mut self.reading, Some(reading)));
         }
         self.is_over
@@ -310,7 +248,7 @@ impl<S: OneScan> Progress<S> {
     pub(crate) fn give_up(&mut self) {
         self.is_over = true;
         drop(self.reading.take());
-        drop(self.guesses.take());
+        self.guesses.end();
         self.waiting.clear();
         self.spare.clear();
     }

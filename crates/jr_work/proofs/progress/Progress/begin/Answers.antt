@@ -9,7 +9,7 @@ pub guide-requires : goal.guide-requires
 guide-requires g c =
     let own : IsOneOf g.S.OneScan.scan c.in-Some.reading = search rules in
     let it = its_interval g.S.OneScan.scan c.args.scan.now c.in-Some.reading c.number.result c.requires own c.number.ensures in
-    subst (λ (i : IntervalValue). AreGuessesOf i c.guesses_for-guesses.result) (sym it.1) c.guesses_for-guesses.ensures
+    subst (λ (i : IntervalValue). AreGuessesOf i c.for_next-guesses.result) (sym it.1) c.for_next-guesses.ensures
 
-pub guide-requires-else-passes : goal.guide-requires-else-passes
-guide-requires-else-passes g c = c.none.ensures c.in-Some.reading
+pub guide-requires-else-skips : goal.guide-requires-else-skips
+guide-requires-else-skips g c = c.none.ensures c.in-Some.reading
