@@ -41,28 +41,28 @@ module _ (part : PartialScanValue) (v : PartialRowValue) (i limit : ℕ) (c : Is
   abbrev h : HeadValue
   h = part.scan.head
 
-  not_later : v.number ≤ i
-  not_later = elim (cases_lt i v.number) [ inl l ↦ absurd (is_open part i end last (c.begun i l)) | inr k ↦ k ]
+  not_later : v.cursor.number ≤ i
+  not_later = elim (cases_lt i v.cursor.number) [ inl l ↦ absurd (is_open part i end last (c.begun i l)) | inr k ↦ k ]
 
-  reaches : i < intervals_of h → v.number * h.restart + v.mcu ≤ first_mcu_of h i + limit
-  reaches few = elim (cases_lt v.number i) [
-    | inl l ↦ let le = before_later h v.number i v.mcu l few c.stands.few in omega (arith, le)
+  reaches : i < intervals_of h → v.cursor.number * h.restart + v.cursor.mcu ≤ first_mcu_of h i + limit
+  reaches few = elim (cases_lt v.cursor.number i) [
+    | inl l ↦ let le = before_later h v.cursor.number i v.cursor.mcu l few c.stands.few in omega (arith, le)
     | inr g ↦
-        let same : i ≡ v.number = omega (arith, g, not_later) in
-        let there : IsLimit (interval_of part.scan v.number) limit = subst (λ (n : ℕ). IsLimit (interval_of part.scan n) limit) same far in
-        let le = read_few part v.number v.mcu limit v.place (is_open part v.number end (omega (arith, same, last))) c.stands.few c.reads there in
+        let same : i ≡ v.cursor.number = omega (arith, g, not_later) in
+        let there : IsLimit (interval_of part.scan v.cursor.number) limit = subst (λ (n : ℕ). IsLimit (interval_of part.scan n) limit) same far in
+        let le = read_few part v.cursor.number v.cursor.mcu limit v.cursor.place (is_open part v.cursor.number end (omega (arith, same, last))) c.stands.few c.reads there in
         omega (arith, le, ap (λ (n : ℕ). n * h.restart) same)
   ]
 
   -- where no further MCU is settled, all that are have been read
-  all_read_there : HasNoMore part v → v.number * h.restart + v.mcu ≡ first_mcu_of h i + limit
+  all_read_there : HasNoMore part v → v.cursor.number * h.restart + v.cursor.mcu ≡ first_mcu_of h i + limit
   all_read_there none =
-      let same : i ≡ v.number = elim (cases_lt v.number i) [ inl l ↦ absurd (none.going (inr (omega (arith, l, last)))) | inr k ↦ omega (arith, k, not_later) ] in
-      let there : IsLimit (interval_of part.scan v.number) limit = subst (λ (n : ℕ). IsLimit (interval_of part.scan n) limit) same far in
-      let few = read_few part v.number v.mcu limit v.place none.going c.stands.few c.reads there in
-      let most : limit ≤ v.mcu = elim none.next [
+      let same : i ≡ v.cursor.number = elim (cases_lt v.cursor.number i) [ inl l ↦ absurd (none.going (inr (omega (arith, l, last)))) | inr k ↦ omega (arith, k, not_later) ] in
+      let there : IsLimit (interval_of part.scan v.cursor.number) limit = subst (λ (n : ℕ). IsLimit (interval_of part.scan n) limit) same far in
+      let few = read_few part v.cursor.number v.cursor.mcu limit v.cursor.place none.going c.stands.few c.reads there in
+      let most : limit ≤ v.cursor.mcu = elim none.next [
         | inl all ↦ omega (arith, all, there.few)
-        | inr grows ↦ elim (cases_lt v.mcu limit) [ inl l ↦ absurd (not_known (interval_of part.scan v.number) v.mcu grows (there.before v.mcu l)) | inr g ↦ g ]
+        | inr grows ↦ elim (cases_lt v.cursor.mcu limit) [ inl l ↦ absurd (not_known (interval_of part.scan v.cursor.number) v.cursor.mcu grows (there.before v.cursor.mcu l)) | inr g ↦ g ]
       ] in
       omega (arith, few, most, ap (λ (n : ℕ). n * h.restart) same)
 

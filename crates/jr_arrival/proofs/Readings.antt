@@ -24,10 +24,12 @@ use Rattle.jr_piece.proofs.StripRuns as runs
 use Rattle.jr_picture.specs.BoardValue.{BoardValue}
 use Rattle.jr_picture.specs.Samples.{samples_of}
 use Rattle.jr_rows.specs.Bands.{samples_in}
+use Rattle.jr_rows.specs.Cursors.{IsPlaceAfter, interval_start}
 use Rattle.jr_rows.specs.Groups.{units_in}
 use Rattle.jr_rows.specs.Rows.{CountsMarks, HasFirst, HasSampleRoom, ShowsFirstUnits, first_line, line_count}
 use Rattle.jr_rows.specs.RowLinesValue.{RowLinesValue}
 use Rattle.jr_rows.specs.RowsValue.{SampleRowValue}
+use Rattle.jr_rows.specs.declared.cursor.Cursor.{Cursor}
 use Rattle.jr_rows.specs.declared.marked.Marked.{Marked}
 use Rattle.jr_rows.proofs.CodedUnits.{grey_codes, whole_codes}
 use Rattle.jr_rows.proofs.IntervalPlaces.{mcus_in_some, next_there}
@@ -110,10 +112,19 @@ partial_stays old new v lawful b c = record {
   stands = subst (λ (h : HeadValue). StandsIn h v) (sym b.becomes.head) c.stands;
   given = subst (λ (h : HeadValue). HasGiven h v) (sym b.becomes.head) c.given;
   begun = λ i lt. over_stays old new i b (c.begun i lt);
-  reads = reads_stays old new v.number v.mcu v.place lawful b c.reads;
+  reads = reads_stays old new v.cursor.number v.cursor.mcu v.cursor.place lawful b c.reads;
   shows = λ u then. c.shows u (becomes_more old new u b then);
   counts = λ u then. c.counts u (becomes_more old new u b then);
 }
+
+-- such a position is one of the interval's bytes so far
+pub reads_there : (part : PartialScanValue) (number mcu : ℕ) (place : Option Place) → mcu ≤ mcus_in part.scan.head number → ReadsTo part number mcu place → IsPlaceAfter (interval_of part.scan number) mcu place
+reads_there part number mcu (Some p) few r = record {
+  few = few;
+  next = λ q e. let same : p ≡ q = cc in (r.0, subst (IsNext (interval_of part.scan number) mcu r.0) same r.1);
+  none = λ e. let z : Some p ≡ None = e in cc;
+}
+reads_there part number mcu None few r = record { few = few; next = λ p e. let z : None ≡ Some p = e in cc; none = λ e. (r.0, r.1, r.2, r.3.longest) }
 
 -- nothing of an interval is read at its start
 pub at_the_start : (i : IntervalValue) → (zs : List (List ℤ)) × IsNext i 0 zs start_of_interval
@@ -126,11 +137,11 @@ module _ (part : PartialScanValue) (v : PartialRowValue) (lawful : IsLawful part
   per_mcu = length-order 0 part.scan.head.components
 
   -- further MCUs of the interval, which are the outcomes' in whatever the scan may become
-  module _ (n : ℕ) (place : Option Place) (w : SampleRowValue) (within : v.done + n ≤ mcus_across part.scan.head) (few : v.mcu + n ≤ mcus_in part.scan.head v.number) (room : HasSampleRoom part.scan.head w) (reads : ReadsTo part v.number (v.mcu + n) place)
+  module _ (n : ℕ) (place : Option Place) (w : SampleRowValue) (within : v.done + n ≤ mcus_across part.scan.head) (few : v.cursor.mcu + n ≤ mcus_in part.scan.head v.cursor.number) (room : HasSampleRoom part.scan.head w) (reads : ReadsTo part v.cursor.number (v.cursor.mcu + n) place)
       (kept : (k : ℕ) → k < v.done * blocks_of part.scan.head → get_or (units_in part.scan.head w.lines.groups) k [] ≡ get_or (units_in part.scan.head v.samples.lines.groups) k [])
-      (codes : (t : ScanValue) → GrowsInto part t → (o : PieceValue) → o.interval ≡ interval_of t v.number → IsOutcome o → (k : ℕ) → k < n * blocks_of part.scan.head → get_or (units_in part.scan.head w.lines.groups) (v.done * blocks_of part.scan.head + k) [] ≡ unit_in_piece o (v.mcu * blocks_of part.scan.head + k)) where
+      (codes : (t : ScanValue) → GrowsInto part t → (o : PieceValue) → o.interval ≡ interval_of t v.cursor.number → IsOutcome o → (k : ℕ) → k < n * blocks_of part.scan.head → get_or (units_in part.scan.head w.lines.groups) (v.done * blocks_of part.scan.head + k) [] ≡ unit_in_piece o (v.cursor.mcu * blocks_of part.scan.head + k)) where
     abbrev new : PartialRowValue
-    new = record { row = v.row; done = v.done + n; number = v.number; mcu = v.mcu + n; place = place; samples = w; lines = v.lines; marked = v.marked }
+    new = record { row = v.row; done = v.done + n; cursor = record { number = v.cursor.number; mcu = v.cursor.mcu + n; place = place }; samples = w; lines = v.lines; marked = v.marked }
 
     -- by the head of whatever the scan may become
     module _ (t : ScanValue) (b : GrowsInto part t) where
@@ -138,7 +149,7 @@ module _ (part : PartialScanValue) (v : PartialRowValue) (lawful : IsLawful part
       KeptBy g = (k : ℕ) → k < v.done * blocks_of g → get_or (units_in g w.lines.groups) k [] ≡ get_or (units_in g v.samples.lines.groups) k []
 
       abbrev CodesBy : HeadValue → Type 0
-      CodesBy g = (o : PieceValue) → o.interval ≡ interval_of t v.number → IsOutcome o → (k : ℕ) → k < n * blocks_of g → get_or (units_in g w.lines.groups) (v.done * blocks_of g + k) [] ≡ unit_in_piece o (v.mcu * blocks_of g + k)
+      CodesBy g = (o : PieceValue) → o.interval ≡ interval_of t v.cursor.number → IsOutcome o → (k : ℕ) → k < n * blocks_of g → get_or (units_in g w.lines.groups) (v.done * blocks_of g + k) [] ≡ unit_in_piece o (v.cursor.mcu * blocks_of g + k)
 
       e : part.scan.head ≡ t.head
       e = sym b.head
@@ -148,10 +159,10 @@ module _ (part : PartialScanValue) (v : PartialRowValue) (lawful : IsLawful part
           let positive : 0 < blocks_of t.head = subst (λ (g : HeadValue). 0 < blocks_of g) e some in
           let here : StandsIn t.head v = subst (λ (g : HeadValue). StandsIn g v) e c.stands in
           let all : length t.intervals ≡ intervals_of t.head = b.count ∙ count ∙ ap intervals_of e in
-          let there : v.mcu + n ≤ mcus_in t.head v.number = subst (λ (g : HeadValue). v.mcu + n ≤ mcus_in g v.number) e few in
-          shown_on t (length t.intervals) (v.row * mcus_across t.head) v.done n (v.number * t.head.restart + v.mcu) (units_in t.head v.samples.lines.groups) (units_in t.head w.lines.groups) positive here.at
+          let there : v.cursor.mcu + n ≤ mcus_in t.head v.cursor.number = subst (λ (g : HeadValue). v.cursor.mcu + n ≤ mcus_in g v.cursor.number) e few in
+          shown_on t (length t.intervals) (v.row * mcus_across t.head) v.done n (v.cursor.number * t.head.restart + v.cursor.mcu) (units_in t.head v.samples.lines.groups) (units_in t.head w.lines.groups) positive here.at
           (c.shows t b) (subst KeptBy e kept)
-          (shown_there t (length t.intervals) v.number v.mcu n (v.done * blocks_of t.head) (units_in t.head w.lines.groups) positive here.number (omega (arith, here.number, all)) there (subst CodesBy e (codes t b)))
+          (shown_there t (length t.intervals) v.cursor.number v.cursor.mcu n (v.done * blocks_of t.head) (units_in t.head w.lines.groups) positive here.number (omega (arith, here.number, all)) there (subst CodesBy e (codes t b)))
 
     pub step : IsPartialRow part new
     step = record {
@@ -164,72 +175,69 @@ module _ (part : PartialScanValue) (v : PartialRowValue) (lawful : IsLawful part
     }
 
   -- whole MCUs
-  module _ (p q : Place) (zs ys : List (List ℤ)) (n : ℕ) (w : SampleRowValue) (next : IsNext (interval_of part.scan v.number) v.mcu zs p) (run : IsRun (run_from (interval_of part.scan v.number) p n) ys q AllRead) (can : CanReadFrom (interval_of part.scan v.number) q)
-      (within : v.done + n ≤ mcus_across part.scan.head) (few : v.mcu + n ≤ mcus_in part.scan.head v.number) (room : HasSampleRoom part.scan.head w)
+  module _ (p q : Place) (zs ys : List (List ℤ)) (n : ℕ) (w : SampleRowValue) (next : IsNext (interval_of part.scan v.cursor.number) v.cursor.mcu zs p) (run : IsRun (run_from (interval_of part.scan v.cursor.number) p n) ys q AllRead) (can : CanReadFrom (interval_of part.scan v.cursor.number) q)
+      (within : v.done + n ≤ mcus_across part.scan.head) (few : v.cursor.mcu + n ≤ mcus_in part.scan.head v.cursor.number) (room : HasSampleRoom part.scan.head w)
       (kept : (k : ℕ) → k < v.done * blocks_of part.scan.head → get_or (units_in part.scan.head w.lines.groups) k [] ≡ get_or (units_in part.scan.head v.samples.lines.groups) k [])
       (units : (k : ℕ) → k < n * blocks_of part.scan.head → get_or (units_in part.scan.head w.lines.groups) (v.done * blocks_of part.scan.head + k) [] ≡ unit_of part.scan.head ys k) where
     abbrev i : IntervalValue
-    i = interval_of part.scan v.number
+    i = interval_of part.scan v.cursor.number
 
-    codes_whole : (t : ScanValue) → GrowsInto part t → (o : PieceValue) → o.interval ≡ interval_of t v.number → IsOutcome o → (k : ℕ) → k < n * blocks_of part.scan.head → get_or (units_in part.scan.head w.lines.groups) (v.done * blocks_of part.scan.head + k) [] ≡ unit_in_piece o (v.mcu * blocks_of part.scan.head + k)
+    codes_whole : (t : ScanValue) → GrowsInto part t → (o : PieceValue) → o.interval ≡ interval_of t v.cursor.number → IsOutcome o → (k : ℕ) → k < n * blocks_of part.scan.head → get_or (units_in part.scan.head w.lines.groups) (v.done * blocks_of part.scan.head + k) [] ≡ unit_in_piece o (v.cursor.mcu * blocks_of part.scan.head + k)
     codes_whole t b o same is k lt =
-        let d = b.so_far v.number in
+        let d = b.so_far v.cursor.number in
         let longer = with_more i d.0 in
-        let of_longer : o.interval ≡ longer = same ∙ interval_more part.scan t v.number d.0 b.head d.1 in
+        let of_longer : o.interval ≡ longer = same ∙ interval_more part.scan t v.cursor.number d.0 b.head d.1 in
         let goes_on = run_is_final (run_from i p n) d.0 ys q next.can.0 run in
         let there : k < n * length (order_of part.scan.head) = omega (arith, lt, ap (λ (m : ℕ). n * m) per_mcu) in
-        units k lt ∙ whole_codes longer lawful v.mcu zs p (next_stays i d.0 v.mcu zs p next) n ys q goes_on few o of_longer is k there
-        ∙ ap (λ (m : ℕ). unit_in_piece o (v.mcu * m + k)) per_mcu
+        units k lt ∙ whole_codes longer lawful v.cursor.mcu zs p (next_stays i d.0 v.cursor.mcu zs p next) n ys q goes_on few o of_longer is k there
+        ∙ ap (λ (m : ℕ). unit_in_piece o (v.cursor.mcu * m + k)) per_mcu
 
-    pub step_whole : IsPartialRow part (record { row = v.row; done = v.done + n; number = v.number; mcu = v.mcu + n; place = Some q; samples = w; lines = v.lines; marked = v.marked })
+    pub step_whole : IsPartialRow part (record { row = v.row; done = v.done + n; cursor = record { number = v.cursor.number; mcu = v.cursor.mcu + n; place = Some q }; samples = w; lines = v.lines; marked = v.marked })
     step_whole =
         let first : FirstMcus (run_from i p n) n ys = record { to = q; run = run; none = λ lt. absurd (omega (arith, lt)) } in
-        step n (Some q) w within few room (zs ++ ys, runs.going one_run runs_meet shorter_front i lawful v.mcu zs p next n n ys first few q run can) kept codes_whole
+        step n (Some q) w within few room (zs ++ ys, runs.going one_run runs_meet shorter_front i lawful v.cursor.mcu zs p next n n ys first few q run can) kept codes_whole
 
   -- grey ones past the last one of an interval that becomes whole
-  module _ (front n : ℕ) (zs : List (List ℤ)) (w : SampleRowValue) (more : 0 < n) (far : front ≤ v.mcu) (longest : StaysLongest part v.number front zs)
-      (within : v.done + n ≤ mcus_across part.scan.head) (few : v.mcu + n ≤ mcus_in part.scan.head v.number) (room : HasSampleRoom part.scan.head w)
+  module _ (front n : ℕ) (zs : List (List ℤ)) (w : SampleRowValue) (more : 0 < n) (far : front ≤ v.cursor.mcu) (longest : StaysLongest part v.cursor.number front zs)
+      (within : v.done + n ≤ mcus_across part.scan.head) (few : v.cursor.mcu + n ≤ mcus_in part.scan.head v.cursor.number) (room : HasSampleRoom part.scan.head w)
       (kept : (k : ℕ) → k < v.done * blocks_of part.scan.head → get_or (units_in part.scan.head w.lines.groups) k [] ≡ get_or (units_in part.scan.head v.samples.lines.groups) k [])
       (grey : (k : ℕ) → k < n * blocks_of part.scan.head → get_or (units_in part.scan.head w.lines.groups) (v.done * blocks_of part.scan.head + k) [] ≡ grey_unit) where
-    codes_grey : (t : ScanValue) → GrowsInto part t → (o : PieceValue) → o.interval ≡ interval_of t v.number → IsOutcome o → (k : ℕ) → k < n * blocks_of part.scan.head → get_or (units_in part.scan.head w.lines.groups) (v.done * blocks_of part.scan.head + k) [] ≡ unit_in_piece o (v.mcu * blocks_of part.scan.head + k)
+    codes_grey : (t : ScanValue) → GrowsInto part t → (o : PieceValue) → o.interval ≡ interval_of t v.cursor.number → IsOutcome o → (k : ℕ) → k < n * blocks_of part.scan.head → get_or (units_in part.scan.head w.lines.groups) (v.done * blocks_of part.scan.head + k) [] ≡ unit_in_piece o (v.cursor.mcu * blocks_of part.scan.head + k)
     codes_grey t b o same is k lt =
-        let i = interval_of part.scan v.number in
-        let d = b.so_far v.number in
-        let codes : grey_unit ≡ unit_in_piece o (v.mcu * length (order_of part.scan.head) + k) = elim longest.final [
-          | inl over ↦ grey_codes i front v.mcu zs far longest.longest o (same ∙ b.whole v.number over) is k
+        let i = interval_of part.scan v.cursor.number in
+        let d = b.so_far v.cursor.number in
+        let codes : grey_unit ≡ unit_in_piece o (v.cursor.mcu * length (order_of part.scan.head) + k) = elim longest.final [
+          | inl over ↦ grey_codes i front v.cursor.mcu zs far longest.longest o (same ∙ b.whole v.cursor.number over) is k
           | inr long ↦
               let longer = long_rest_stays i d.0 front zs lawful (longest.longest, long) in
-              grey_codes (with_more i d.0) front v.mcu zs far longer.0 o (same ∙ interval_more part.scan t v.number d.0 b.head d.1) is k
+              grey_codes (with_more i d.0) front v.cursor.mcu zs far longer.0 o (same ∙ interval_more part.scan t v.cursor.number d.0 b.head d.1) is k
         ] in
-        grey k lt ∙ codes ∙ ap (λ (m : ℕ). unit_in_piece o (v.mcu * m + k)) per_mcu
+        grey k lt ∙ codes ∙ ap (λ (m : ℕ). unit_in_piece o (v.cursor.mcu * m + k)) per_mcu
 
-    pub step_grey : IsPartialRow part (record { row = v.row; done = v.done + n; number = v.number; mcu = v.mcu + n; place = None; samples = w; lines = v.lines; marked = v.marked })
+    pub step_grey : IsPartialRow part (record { row = v.row; done = v.done + n; cursor = record { number = v.cursor.number; mcu = v.cursor.mcu + n; place = None }; samples = w; lines = v.lines; marked = v.marked })
     step_grey = step n None w within few room (front, zs, omega (arith, far, more), longest) kept codes_grey
 
-started_next : (part : PartialScanValue) (v : PartialRowValue) → ReadsTo part (v.number + 1) 0 (Some start_of_interval)
-started_next part v = at_the_start (interval_of part.scan (v.number + 1))
-
 -- on to the next interval
-pub step_next : (part : PartialScanValue) (v : PartialRowValue) (m : Marked) → IsPartialRow part v → IsOver part.scan part.segments v.number → v.mcu ≡ mcus_in part.scan.head v.number → v.done < mcus_across part.scan.head
-    → ((t : ScanValue) → GrowsInto part t → interval_of t v.number ≡ interval_of part.scan v.number → CountsMarks t (length t.intervals) 0 (v.number + 1) m)
-    → IsPartialRow part (record { row = v.row; done = v.done; number = v.number + 1; mcu = 0; place = Some start_of_interval; samples = v.samples; lines = v.lines; marked = m })
+pub step_next : (part : PartialScanValue) (v : PartialRowValue) (m : Marked) → IsPartialRow part v → IsOver part.scan part.segments v.cursor.number → v.cursor.mcu ≡ mcus_in part.scan.head v.cursor.number → v.done < mcus_across part.scan.head
+    → ((t : ScanValue) → GrowsInto part t → interval_of t v.cursor.number ≡ interval_of part.scan v.cursor.number → CountsMarks t (length t.intervals) 0 (v.cursor.number + 1) m)
+    → IsPartialRow part (record { row = v.row; done = v.done; cursor = interval_start (v.cursor.number + 1); samples = v.samples; lines = v.lines; marked = m })
 step_next part v m c over all more counts =
-    let next = next_there part.scan.head v.number v.mcu c.stands.number all (omega (arith, c.stands.at, more, row_inside part.scan.head v.row c.stands.row)) in
+    let next = next_there part.scan.head v.cursor.number v.cursor.mcu c.stands.number all (omega (arith, c.stands.at, more, row_inside part.scan.head v.row c.stands.row)) in
     record {
       stands = record { row = c.stands.row; within = c.stands.within; number = next.0; few = omega arith; at = omega (arith, next.1, c.stands.at); room = c.stands.room };
       given = record { from = c.given.from; to = c.given.to; none = c.given.none; left = c.given.left };
-      begun = λ j lt. elim (cases_lt j v.number) [ inl l ↦ c.begun j l | inr g ↦ subst (λ (k : ℕ). IsOver part.scan part.segments k) {x = v.number} {y = j} (omega (arith, g, lt)) over ];
-      reads = started_next part v;
+      begun = λ j lt. elim (cases_lt j v.cursor.number) [ inl l ↦ c.begun j l | inr g ↦ subst (λ (k : ℕ). IsOver part.scan part.segments k) {x = v.cursor.number} {y = j} (omega (arith, g, lt)) over ];
+      reads = at_the_start (interval_of part.scan (v.cursor.number + 1));
       shows = c.shows;
-      counts = λ t b. counts t b (b.whole v.number over);
+      counts = λ t b. counts t b (b.whole v.cursor.number over);
     }
 
 -- which has an MCU
-pub next_inside : (part : PartialScanValue) (v : PartialRowValue) → IsPartialRow part v → v.mcu ≡ mcus_in part.scan.head v.number → v.done < mcus_across part.scan.head → 0 < mcus_in part.scan.head (v.number + 1)
+pub next_inside : (part : PartialScanValue) (v : PartialRowValue) → IsPartialRow part v → v.cursor.mcu ≡ mcus_in part.scan.head v.cursor.number → v.done < mcus_across part.scan.head → 0 < mcus_in part.scan.head (v.cursor.number + 1)
 next_inside part v c all more =
     let inside = row_inside part.scan.head v.row c.stands.row in
-    let next = next_there part.scan.head v.number v.mcu c.stands.number all (omega (arith, c.stands.at, more, inside)) in
-    mcus_in_some part.scan.head (v.number + 1) (omega (arith, more, inside)) next.0
+    let next = next_there part.scan.head v.cursor.number v.cursor.mcu c.stands.number all (omega (arith, c.stands.at, more, inside)) in
+    mcus_in_some part.scan.head (v.cursor.number + 1) (omega (arith, more, inside)) next.0
 
 -- ---- where the reading ends
 
@@ -246,13 +254,13 @@ far_front part number mcu (Some p) r all (inr long) =
 far_front part number mcu None r all final = (r.0, r.1, omega (arith, r.2), r.3)
 
 -- where it may become longer, no further MCU is settled
-pub no_more : (part : PartialScanValue) (v : PartialRowValue) → ReadsTo part v.number v.mcu v.place → ReadsAll part.scan v.number v.mcu v.place → (IsFinal part v.number v.place → ⊥) → HasNoMore part v
-no_more part v = go v.place
+pub no_more : (part : PartialScanValue) (v : PartialRowValue) → ReadsTo part v.cursor.number v.cursor.mcu v.cursor.place → ReadsAll part.scan v.cursor.number v.cursor.mcu v.cursor.place → (IsFinal part v.cursor.number v.cursor.place → ⊥) → HasNoMore part v
+no_more part v = go v.cursor.place
   where
-    go : (place : Option Place) → ReadsTo part v.number v.mcu place → ReadsAll part.scan v.number v.mcu place → (IsFinal part v.number place → ⊥) → HasNoMore part v
+    go : (place : Option Place) → ReadsTo part v.cursor.number v.cursor.mcu place → ReadsAll part.scan v.cursor.number v.cursor.mcu place → (IsFinal part v.cursor.number place → ⊥) → HasNoMore part v
     go None r all going = absurd (going tt)
     go (Some p) r all going =
-        let same = rest_left (interval_of part.scan v.number) v.mcu all.0 r.0 p all.1.front r.1.run in
+        let same = rest_left (interval_of part.scan v.cursor.number) v.cursor.mcu all.0 r.0 p all.1.front r.1.run in
         let short : length all.1.front.rest < MCU_BITS = elim (cases_lt (length all.1.front.rest) MCU_BITS) [
           | inl lt ↦ lt
           | inr ge ↦ absurd (going (inr (omega (arith, ge, ap length same))))
@@ -263,7 +271,7 @@ no_more part v = go v.place
 
 -- on to the next one
 pub step_row : (part : PartialScanValue) (v : PartialRowValue) → IsPartialRow part v → 0 < vertical_max part.scan.head → v.done ≡ mcus_across part.scan.head → (lines : ℕ) → lines ≡ first_line part.scan.head v.row + line_count part.scan.head v.row → lines < part.scan.head.height
-    → IsPartialRow part (record { row = v.row + 1; done = 0; number = v.number; mcu = v.mcu; place = v.place; samples = v.samples; lines = lines; marked = v.marked })
+    → IsPartialRow part (record { row = v.row + 1; done = 0; cursor = v.cursor; samples = v.samples; lines = lines; marked = v.marked })
 step_row part v c some whole lines given more =
     let deep = 8 * vertical_max part.scan.head in
     let positive : 0 < deep = omega (arith, some) in
@@ -288,7 +296,7 @@ step_row part v c some whole lines given more =
 
 -- lines that are given of it
 pub step_lines : (part : PartialScanValue) (v : PartialRowValue) (n : ℕ) → IsPartialRow part v → v.done ≡ mcus_across part.scan.head → v.lines + n ≤ first_line part.scan.head v.row + line_count part.scan.head v.row → (v.lines + n < part.scan.head.height → v.lines + n < first_line part.scan.head v.row + line_count part.scan.head v.row)
-    → IsPartialRow part (record { row = v.row; done = v.done; number = v.number; mcu = v.mcu; place = v.place; samples = v.samples; lines = v.lines + n; marked = v.marked })
+    → IsPartialRow part (record { row = v.row; done = v.done; cursor = v.cursor; samples = v.samples; lines = v.lines + n; marked = v.marked })
 step_lines part v n c whole few left = record {
   stands = record { row = c.stands.row; within = c.stands.within; number = c.stands.number; few = c.stands.few; at = c.stands.at; room = c.stands.room };
   given = record { from = omega (arith, c.given.from); to = few; none = λ lt. absurd (omega (arith, lt, whole)); left = left };
@@ -326,23 +334,22 @@ row_partial part v lawful c whole n few pixels are t b board first = are ∙ lin
 pub begins_partial : (part : PartialScanValue) (v : PartialRowValue) → Begins part.scan.head v → 0 < mcus_down part.scan.head → 0 < intervals_of part.scan.head → 0 < part.scan.head.height → 0 < vertical_max part.scan.head → IsPartialRow part v
 begins_partial part v b down some high deep =
     let none : v.row * mcus_across part.scan.head ≡ 0 * mcus_across part.scan.head = ap (λ (n : ℕ). n * mcus_across part.scan.head) b.row in
-    let before : v.number * part.scan.head.restart ≡ 0 * part.scan.head.restart = ap (λ (n : ℕ). n * part.scan.head.restart) b.number in
+    let number : v.cursor.number ≡ 0 = ap (λ (c : Cursor). c.number) b.cursor in
+    let mcu : v.cursor.mcu ≡ 0 = ap (λ (c : Cursor). c.mcu) b.cursor in
+    let before : v.cursor.number * part.scan.head.restart ≡ 0 * part.scan.head.restart = ap (λ (n : ℕ). n * part.scan.head.restart) number in
     let top : first_line part.scan.head v.row ≡ 0 * (8 * vertical_max part.scan.head) = ap (λ (n : ℕ). n * (8 * vertical_max part.scan.head)) b.row in
     record {
-      stands = record { row = omega (arith, b.row, down); within = omega (arith, b.done); number = omega (arith, b.number, some); few = omega (arith, b.mcu); at = omega (arith, b.mcu, b.done, none, before); room = b.room };
+      stands = record { row = omega (arith, b.row, down); within = omega (arith, b.done); number = omega (arith, number, some); few = omega (arith, mcu); at = omega (arith, mcu, b.done, none, before); room = b.room };
       given = record { from = omega (arith, top, b.lines); to = omega (arith, b.lines); none = λ lt. omega (arith, top, b.lines); left = λ lt. omega (arith, top, b.lines, high, deep) };
-      begun = λ i lt. absurd (omega (arith, lt, b.number));
-      reads = subst (λ (o : Option Place). ReadsTo part v.number v.mcu o) (sym b.place) (subst (λ (m : ℕ). ReadsTo part v.number m (Some start_of_interval)) (sym b.mcu) started);
+      begun = λ i lt. absurd (omega (arith, lt, number));
+      reads = subst (λ (c : Cursor). ReadsTo part c.number c.mcu c.place) (sym b.cursor) (at_the_start (interval_of part.scan 0));
       shows = λ t becomes board first k lt. let zero : v.done * blocks_of t.head ≡ 0 * blocks_of t.head = ap (λ (n : ℕ). n * blocks_of t.head) b.done in absurd (omega (arith, lt, zero));
-      counts = λ t becomes. counts_none t (length t.intervals) 0 v.number v.marked b.sound b.damaged (sym b.number);
+      counts = λ t becomes. counts_none t (length t.intervals) 0 v.cursor.number v.marked b.sound b.damaged (sym number);
     }
-  where
-    started : ReadsTo part v.number 0 (Some start_of_interval)
-    started = at_the_start (interval_of part.scan v.number)
 
 -- what is read of a row does not hang on what else its memory holds
 pub same_lines : (part : PartialScanValue) (v : PartialRowValue) (w : SampleRowValue) → IsPartialRow part v → w.lines ≡ v.samples.lines → HasSampleRoom part.scan.head w
-    → IsPartialRow part (record { row = v.row; done = v.done; number = v.number; mcu = v.mcu; place = v.place; samples = w; lines = v.lines; marked = v.marked })
+    → IsPartialRow part (record { row = v.row; done = v.done; cursor = v.cursor; samples = w; lines = v.lines; marked = v.marked })
 same_lines part v w c same room = record {
   stands = record { row = c.stands.row; within = c.stands.within; number = c.stands.number; few = c.stands.few; at = c.stands.at; room = room };
   given = record { from = c.given.from; to = c.given.to; none = c.given.none; left = c.given.left };

@@ -7,14 +7,16 @@ use Rattle.jr_scan.specs.declared.place.Place.{Place}
 use Rattle.jr_scan.specs.PartialScan.{PartialScanValue}
 use Rattle.jr_scan.specs.Mcus.{HasLongestFront, LongestFront}
 use Rattle.jr_scan.specs.ScanValue.{ScanValue, interval_of, intervals_of, mcus_in}
-use Rattle.jr_scan.specs.Run.{left_at, start_of_interval}
+use Rattle.jr_scan.specs.Run.{left_at}
 use Rattle.jr_piece.specs.Strips.{IsNext}
 use Rattle.jr_paint.specs.Lines.{next_lines_of}
 use Rattle.jr_picture.specs.BoardValue.{BoardValue}
 use Rattle.jr_picture.specs.Samples.{samples_of}
+use Rattle.jr_rows.specs.Cursors.{interval_start}
 use Rattle.jr_rows.specs.Groups.{units_in}
 use Rattle.jr_rows.specs.Rows.{CountsMarks, HasFirst, HasSampleRoom, ShowsFirstUnits, first_line, line_count}
 use Rattle.jr_rows.specs.RowsValue.{SampleRowValue}
+use Rattle.jr_rows.specs.declared.cursor.Cursor.{Cursor}
 use Rattle.jr_rows.specs.declared.marked.Marked.{Marked}
 use Rattle.jr_arrival.specs.declared.cursor.TheConstants.{MCU_BITS}
 use Rattle.jr_arrival.specs.LongerFile.{IsOver, MayGrow}
@@ -27,15 +29,12 @@ pub record GrowsInto (g : PartialScanValue) (t : ScanValue) : Type 0 where
   pub whole : (i : ℕ) → IsOver g.scan g.segments i → interval_of t i ≡ interval_of g.scan i
   pub end : g.scan.ended ≢ EndOfFile → t.ended ≡ g.scan.ended
 
--- a row of MCUs, its samples and the number of its MCUs; the interval of the next MCU, the number of that interval's MCUs before it, and
--- where it starts: nowhere, if no further one of the interval becomes whole; the number of lines that were returned; and the marks of the
--- intervals before that one
+-- a row of MCUs, its samples and the number of its MCUs; where the next MCU starts: nowhere, if no further one of its interval becomes
+-- whole; the number of lines that were returned; and the marks of the intervals before that one
 pub record PartialRowValue : Type 0 where
   pub row : ℕ
   pub done : ℕ
-  pub number : ℕ
-  pub mcu : ℕ
-  pub place : Option Place
+  pub cursor : Cursor
   pub samples : SampleRowValue
   pub lines : ℕ
   pub marked : Marked
@@ -65,9 +64,9 @@ IsFinal g number None = ⊤
 pub record StandsIn (h : HeadValue) (v : PartialRowValue) : Type 0 where
   pub row : v.row < mcus_down h
   pub within : v.done ≤ mcus_across h
-  pub number : v.number < intervals_of h
-  pub few : v.mcu ≤ mcus_in h v.number
-  pub at : v.number * h.restart + v.mcu ≡ v.row * mcus_across h + v.done
+  pub number : v.cursor.number < intervals_of h
+  pub few : v.cursor.mcu ≤ mcus_in h v.cursor.number
+  pub at : v.cursor.number * h.restart + v.cursor.mcu ≡ v.row * mcus_across h + v.done
   pub room : HasSampleRoom h v.samples
 
 -- lines are returned in order, those of a row of MCUs once the row is whole
@@ -81,9 +80,7 @@ pub record HasGiven (h : HeadValue) (v : PartialRowValue) : Type 0 where
 pub record Begins (h : HeadValue) (v : PartialRowValue) : Type 0 where
   pub row : v.row ≡ 0
   pub done : v.done ≡ 0
-  pub number : v.number ≡ 0
-  pub mcu : v.mcu ≡ 0
-  pub place : v.place ≡ Some start_of_interval
+  pub cursor : v.cursor ≡ interval_start 0
   pub room : HasSampleRoom h v.samples
   pub lines : v.lines ≡ 0
   pub sound : v.marked.sound ≡ 0
@@ -93,15 +90,15 @@ pub record Begins (h : HeadValue) (v : PartialRowValue) : Type 0 where
 pub record IsPartialRow (g : PartialScanValue) (v : PartialRowValue) : Type 0 where
   pub stands : StandsIn g.scan.head v
   pub given : HasGiven g.scan.head v
-  pub begun : (i : ℕ) → i < v.number → IsOver g.scan g.segments i
-  pub reads : ReadsTo g v.number v.mcu v.place
+  pub begun : (i : ℕ) → i < v.cursor.number → IsOver g.scan g.segments i
+  pub reads : ReadsTo g v.cursor.number v.cursor.mcu v.cursor.place
   pub shows : (t : ScanValue) → GrowsInto g t → ShowsFirstUnits t (length t.intervals) (v.row * mcus_across t.head) v.done (units_in t.head v.samples.lines.groups)
-  pub counts : (t : ScanValue) → GrowsInto g t → CountsMarks t (length t.intervals) 0 v.number v.marked
+  pub counts : (t : ScanValue) → GrowsInto g t → CountsMarks t (length t.intervals) 0 v.cursor.number v.marked
 
 -- the interval is not over, and its MCUs are passed, or the next one is not whole and may become so
 pub record HasNoMore (g : PartialScanValue) (v : PartialRowValue) : Type 0 where
-  pub going : IsOver g.scan g.segments v.number → ⊥
-  pub next : (v.mcu ≡ mcus_in g.scan.head v.number) ⊎ MayGrow (interval_of g.scan v.number) v.mcu
+  pub going : IsOver g.scan g.segments v.cursor.number → ⊥
+  pub next : (v.cursor.mcu ≡ mcus_in g.scan.head v.cursor.number) ⊎ MayGrow (interval_of g.scan v.cursor.number) v.cursor.mcu
 
 -- these are n lines of the image of every scan that this one may become, starting at this line
 abbrev pub AreFinalLines : PartialScanValue → (first count : ℕ) → List ℕ → Type 0

@@ -3,7 +3,6 @@
 ghost use Rattle.std.specs.Prelude.{◌≡◌, ◌+◌, ◌-◌, ◌*◌, ◌/◌, ◌<◌, ◌≤◌, min, true, false, length, take, IfOk};
 ghost use Rattle.jr_head.specs.Geometry.{mcus_across};
 ghost use Rattle.jr_paint.specs.Lines.{line_size};
-ghost use Rattle.jr_scan.specs.Mcus.{HasDecoding, HasNoDecoding};
 ghost use Rattle.jr_scan.specs.Run.{left_at};
 ghost use Rattle.jr_scan.specs.ScanValue.{ScanValue, interval_of, mcus_in};
 ghost use Rattle.jr_piece.specs.Strips.{TellsSound};
@@ -14,7 +13,7 @@ ghost use Rattle.jr_arrival.specs.LongerFile.{IsOver};
 use crate::cursor::MCU_BITS;
 use jr_base::Memory;
 use jr_head::Head;
-use jr_rows::{Marked, SampleRow, bytes_to, lines_of, shape_of};
+use jr_rows::{Cursor, Marked, SampleRow, bytes_to, lines_of, shape_of};
 use jr_scan::{IntervalRef, McuReader, PartialScan, Place, ScanEnd};
 use std::alloc::Global;
 use std::marker::Model;
@@ -41,28 +40,18 @@ fn bits_left(interval: IntervalRef<'_>, place: Place) -> u64
     8 * interval.bytes().len() as u64 - place.bit
 }
 
-/// Returns whether an interval has a decoding, of which `mcu` MCUs are before a position; without one no further MCU becomes whole.
-/// It skips those that are left.
-fn is_sound(scan: &PartialScan, i: u32, mcu: u32, place: Option<Place>) -> bool
-    requires number { i < length scan.now.scan.intervals }
-    requires few { mcu ≤ mcus_in scan.now.scan.head i }
-    requires reads { ReadsTo scan.now i mcu place }
-    ensures sound { result ≡ true → HasDecoding (interval_of scan.now.scan i) }
-    ensures damaged { result ≡ false → HasNoDecoding (interval_of scan.now.scan i) }
+/// Returns whether the interval of a cursor has a decoding. It skips the MCUs that are left.
+fn is_sound(scan: &PartialScan, cursor: Cursor) -> bool
+    requires number { cursor.number < length scan.now.scan.intervals }
+    requires few { cursor.mcu ≤ mcus_in scan.now.scan.head cursor.number }
+    requires reads { ReadsTo scan.now cursor.number cursor.mcu cursor.place }
+    ensures { TellsSound result (interval_of scan.now.scan cursor.number) }
 {
-    // By its contract the numbers of all intervals fit.
-    let _most = scan.intervals();
-    let head = scan.head();
-    let Some(place) = place else {
-        return false;
-    };
-    let left = head.mcus_in(i) - mcu;
-    let interval = scan.interval_ref(i);
-    let bits = 8 * interval.bytes().len() as u64;
-    let mut reader = McuReader::at(interval, place, left);
-    let whole = reader.skip(left);
-    let end = reader.place();
-    whole == left && bits - end.bit < 8
+    let interval = scan.interval_ref(cursor.number);
+    let left = interval.mcus() - cursor.mcu;
+    let mut cursor = cursor;
+    cursor.skip(interval.fork(), None, left);
+    cursor.is_sound(&interval)
 }
 
 /// Returns the number of lines of an image starting at `first` that fit into `bytes` bytes.
@@ -82,11 +71,8 @@ pub(crate) struct PartialRow {
     row: u32,
     /// Number of its MCUs that are decoded.
     done: u32,
-    /// The interval that is read, and the number of its MCUs that are read or grey.
-    number: u32,
-    mcu: u32,
-    /// Start of its next MCU; `None` if no further one becomes whole.
-    place: Option<Place>,
+    /// Start of the next MCU; without a position no further one of its interval becomes whole.
+    cursor: Cursor,
     lines: u32,
     /// The marks of the intervals before the one that is read.
     marked: Marked,
@@ -97,7 +83,7 @@ impl Model for PartialRow {
 
     ghost Value = { PartialRowValue };
 
-    ghost view = { λ r. record { row = r.row; done = r.done; number = r.number; mcu = r.mcu; place = r.place; samples = r.samples; lines = r.lines; marked = r.marked } };
+    ghost view = { λ r. record { row = r.row; done = r.done; cursor = r.cursor; samples = r.samples; lines = r.lines; marked = r.marked } };
 }
 
 impl PartialRow {
@@ -109,9 +95,7 @@ impl PartialRow {
             samples: SampleRow::open(alloc, head)?,
             row: 0,
             done: 0,
-            number: 0,
-            mcu: 0,
-            place: Some(Place::start()),
+            cursor: Cursor::at_start(0),
             lines: 0,
             marked: Marked::none(),
         })
@@ -127,11 +111,11 @@ impl PartialRow {
     /// Returns the marks of the intervals up to the one that is read: its own is that of its data so far.
     fn partial_marks(&self, scan: &PartialScan) -> Marked
         requires partial_row { IsPartialRow scan.now self.now }
-        ensures counts { (t : ScanValue) → GrowsInto scan.now t → interval_of t self.now.number ≡ interval_of scan.now.scan self.now.number → CountsMarks t (length t.intervals) 0 (self.now.number + 1) result }
+        ensures counts { (t : ScanValue) → GrowsInto scan.now t → interval_of t self.now.cursor.number ≡ interval_of scan.now.scan self.now.cursor.number → CountsMarks t (length t.intervals) 0 (self.now.cursor.number + 1) result }
     {
         // By its contract the numbers of all intervals fit.
         let _most = scan.intervals();
-        let is_sound = is_sound(scan, self.number, self.mcu, self.place);
+        let is_sound = is_sound(scan, self.cursor);
         self.marked.with(Marked::one(is_sound))
     }
 
@@ -142,8 +126,8 @@ impl PartialRow {
     {
         let mut marked = self.partial_marks(scan);
         let all = scan.intervals();
-        for i in self.number + 1..all {
-            let is_sound = is_sound(scan, i, 0, Some(Place::start()));
+        for i in self.cursor.number + 1..all {
+            let is_sound = is_sound(scan, Cursor::at_start(i));
             marked = marked.with(Marked::one(is_sound));
         }
         marked
@@ -157,21 +141,19 @@ impl PartialRow {
         ensures row { self.new.row ≡ self.old.row }
         ensures done { self.new.done ≡ self.old.done }
         ensures lines { self.new.lines ≡ self.old.lines }
-        ensures some { result ≡ true → self.new.mcu < mcus_in scan.now.scan.head self.new.number }
+        ensures some { result ≡ true → self.new.cursor.mcu < mcus_in scan.now.scan.head self.new.cursor.number }
         ensures none { result ≡ false → HasNoMore scan.now self.new }
     {
         // By its contract the numbers of all intervals fit.
         let _most = scan.intervals();
-        if self.mcu < scan.head().mcus_in(self.number) {
+        if self.cursor.mcu < scan.head().mcus_in(self.cursor.number) {
             return true;
         }
-        if !is_over(scan, self.number) {
+        if !is_over(scan, self.cursor.number) {
             return false;
         }
         self.marked = self.partial_marks(scan);
-        self.number += 1;
-        self.mcu = 0;
-        self.place = Some(Place::start());
+        self.cursor = Cursor::at_start(self.cursor.number + 1);
         true
     }
 
@@ -179,31 +161,31 @@ impl PartialRow {
     fn decode_whole(&mut self, scan: &PartialScan) -> u32
         requires partial_row { IsPartialRow scan.now self.old }
         requires more { self.old.done < mcus_across scan.now.scan.head }
-        requires some { self.old.mcu < mcus_in scan.now.scan.head self.old.number }
+        requires some { self.old.cursor.mcu < mcus_in scan.now.scan.head self.old.cursor.number }
         ensures partial_row { IsPartialRow scan.now self.new }
         ensures row { self.new.row ≡ self.old.row }
         ensures done { self.new.done ≡ self.old.done + result }
-        ensures number { self.new.number ≡ self.old.number }
-        ensures mcu { self.new.mcu ≡ self.old.mcu + result }
+        ensures number { self.new.cursor.number ≡ self.old.cursor.number }
+        ensures mcu { self.new.cursor.mcu ≡ self.old.cursor.mcu + result }
         ensures lines { self.new.lines ≡ self.old.lines }
-        ensures all { result ≡ 0 → ReadsAll scan.now.scan self.new.number self.new.mcu self.new.place }
+        ensures all { result ≡ 0 → ReadsAll scan.now.scan self.new.cursor.number self.new.cursor.mcu self.new.cursor.place }
     {
         // By their contracts the numbers of a row's MCUs and of all intervals fit, and an MCU has a data unit.
         let _few = shape_of(scan.head());
         let _most = scan.intervals();
         let _some = scan.head().order().len();
-        let Some(place) = self.place else {
+        let Some(place) = self.cursor.place else {
             return 0;
         };
-        let left = scan.head().mcus_in(self.number) - self.mcu;
-        let mut reader = McuReader::at(scan.interval_ref(self.number), place, left);
+        let left = scan.head().mcus_in(self.cursor.number) - self.cursor.mcu;
+        let mut reader = McuReader::at(scan.interval_ref(self.cursor.number), place, left);
         let whole = self
             .samples
             .decode_whole(scan.head(), &mut reader, self.done);
         let next = reader.place();
         self.done += whole;
-        self.mcu += whole;
-        self.place = Some(next);
+        self.cursor.mcu += whole;
+        self.cursor.place = Some(next);
         whole
     }
 
@@ -211,24 +193,25 @@ impl PartialRow {
     /// so far have as many bits from there on as an MCU has at most (T.81, F.1.2).
     fn is_final(&self, scan: &PartialScan) -> bool
         requires partial_row { IsPartialRow scan.now self.now }
-        ensures never { result ≡ true → IsFinal scan.now self.now.number self.now.place }
-        ensures going { result ≡ false → IsFinal scan.now self.now.number self.now.place → ⊥ }
+        ensures never { result ≡ true → IsFinal scan.now self.now.cursor.number self.now.cursor.place }
+        ensures going { result ≡ false → IsFinal scan.now self.now.cursor.number self.now.cursor.place → ⊥ }
     {
         // By its contract the numbers of all intervals fit.
         let _most = scan.intervals();
-        let Some(place) = self.place else {
+        let Some(place) = self.cursor.place else {
             return true;
         };
-        is_over(scan, self.number) || bits_left(scan.interval_ref(self.number), place) >= MCU_BITS
+        is_over(scan, self.cursor.number)
+            || bits_left(scan.interval_ref(self.cursor.number), place) >= MCU_BITS
     }
 
     /// Makes MCUs of the row grey, of an interval whose next one never becomes whole.
     fn decode_grey(&mut self, scan: &PartialScan)
         requires partial_row { IsPartialRow scan.now self.old }
         requires more { self.old.done < mcus_across scan.now.scan.head }
-        requires some { self.old.mcu < mcus_in scan.now.scan.head self.old.number }
-        requires never { IsFinal scan.now self.old.number self.old.place }
-        requires all { ReadsAll scan.now.scan self.old.number self.old.mcu self.old.place }
+        requires some { self.old.cursor.mcu < mcus_in scan.now.scan.head self.old.cursor.number }
+        requires never { IsFinal scan.now self.old.cursor.number self.old.cursor.place }
+        requires all { ReadsAll scan.now.scan self.old.cursor.number self.old.cursor.mcu self.old.cursor.place }
         ensures partial_row { IsPartialRow scan.now self.new }
         ensures row { self.new.row ≡ self.old.row }
         ensures done { self.old.done < self.new.done }
@@ -238,12 +221,12 @@ impl PartialRow {
         let head = scan.head();
         let _most = scan.intervals();
         let _some = head.order().len();
-        let left = head.mcus_in(self.number) - self.mcu;
+        let left = head.mcus_in(self.cursor.number) - self.cursor.mcu;
         let some = left.min(shape_of(head).across - self.done);
         let grey = self.samples.put_grey(head, self.done, some);
         self.done += grey;
-        self.mcu += grey;
-        self.place = None;
+        self.cursor.mcu += grey;
+        self.cursor.place = None;
     }
 
     /// Decodes some further MCUs of the row. Returns `false` if the bytes do not make the next one final.

@@ -17,7 +17,7 @@ use Rattle.jr_scan.specs.Run.{HasNoMcu, IsRun, RunOf, left_at, run_from, start_o
 use Rattle.jr_scan.proofs.McuReaders.{front_of_run, left_is, read_on}
 use Rattle.jr_piece.specs.PieceValue.{PieceValue}
 use Rattle.jr_piece.specs.Outcome.{IsOutcome, unit_of}
-use Rattle.jr_piece.specs.Strips.{CanReadFrom, FirstMcus, IsNext, units_before}
+use Rattle.jr_piece.specs.Strips.{CanReadFrom, FirstMcus, IsNext, TellsSound, units_before}
 use Rattle.jr_piece.specs.Units.{CodesUnits, unit_in_piece, zero_block}
 use Rattle.jr_piece.proofs.ScanLaws as laws
 use Rattle.jr_piece.proofs.StripRuns as runs
@@ -29,14 +29,10 @@ use Rattle.jr_rows.proofs.CodedUnits.{grey_codes, whole_codes}
 use Rattle.jr_rows.proofs.IntervalPlaces.{ends_before, of_first}
 
 -- at the start of an interval
-pub at_start : (i : IntervalValue) (mcu : ℕ) (place : Option Place) → mcu ≡ 0 → place ≡ Some start_of_interval → IsPlaceAfter i mcu place
-at_start i mcu place none e =
+pub at_start : (i : IntervalValue) → IsPlaceAfter i 0 (Some start_of_interval)
+at_start i =
     let start = runs.at_start i in
-    record {
-      few = omega (arith, none);
-      next = λ p f. let is : Some start_of_interval ≡ Some p = sym e ∙ f in (start.blocks, subst (λ (k : ℕ). IsNext i k start.blocks p) (sym none) (start.next p is));
-      none = λ f. let z : Some start_of_interval ≡ None = sym e ∙ f in cc;
-    }
+    record { few = omega arith; next = λ p e. (start.blocks, start.next p e); none = λ e. let z : Some start_of_interval ≡ None = e in cc }
 
 -- a reader has read n more MCUs into these blocks
 pub record HasReadInto (r r' : McuReaderValue) (n : ℕ) (blocks : List (List ℤ)) : Type 0 where
@@ -173,8 +169,14 @@ module _ (i : IntervalValue) (lawful : IsLawful i.head) (mcu : ℕ) (place : Opt
       let same : p ≡ to = (laws.one_run (whole_run i) (record { blocks = blocks; to = p; end = AllRead; is = mine }) (record { blocks = ys; to = to; end = AllRead; is = w.1 }) lawful).1 in
       many (omega (arith, left_is i p, ap (λ (x : Place). length (left_at i x)) same, few))
 
-  pub tells_there : (b : Bool) → (b ≡ true → 8 * length i.bytes - p.bit < 8) → (b ≡ false → 8 * length i.bytes - p.bit < 8 → ⊥) → (o : PieceValue) → IsOutcome o → o.interval ≡ i → o.is_sound ≡ b
-  tells_there b few many o out e = tells o i blocks b e out (λ t. sound_there (few t)) (λ f. bits_there (many f))
+  pub tells_there : (b : Bool) → (b ≡ true → 8 * length i.bytes - p.bit < 8) → (b ≡ false → 8 * length i.bytes - p.bit < 8 → ⊥) → TellsSound b i
+  tells_there true few many = (blocks, sound_there (few refl))
+  tells_there false few many = bits_there (many refl)
+
+-- each piece of an interval says whether this has a decoding
+pub outcome_tells : (i : IntervalValue) (b : Bool) → TellsSound b i → (p : PieceValue) → IsOutcome p → p.interval ≡ i → p.is_sound ≡ b
+outcome_tells i true told p o e = tells p i told.0 true e o (λ t. told.1) (λ f. absurd cc)
+outcome_tells i false told p o e = tells p i [] false e o (λ t. absurd cc) (λ f. told)
 
 -- a cursor that is ready to read on
 pub record IsReady (s : ScanValue) (old r : Cursor) (left : ℕ) : Type 0 where

@@ -5,6 +5,7 @@ use Rattle.jr_scan.specs.declared.place.Place.{Place}
 use Rattle.jr_scan.specs.Guesses.{AreGuessesOf}
 use Rattle.jr_scan.specs.IntervalValue.{IntervalValue}
 use Rattle.jr_scan.specs.Mcus.{LongestFront}
+use Rattle.jr_scan.specs.Run.{start_of_interval}
 use Rattle.jr_scan.specs.ScanValue.{ScanValue, interval_of}
 use Rattle.jr_piece.specs.Strips.{IsNext}
 use Rattle.jr_rows.specs.declared.cursor.Cursor.{Cursor}
@@ -15,6 +16,10 @@ pub record IsPlaceAfter (i : IntervalValue) (mcu : ℕ) (place : Option Place) :
   pub few : mcu ≤ i.mcus
   pub next : (p : Place) → place ≡ Some p → (zs : List (List ℤ)) × IsNext i mcu zs p
   pub none : place ≡ None → (front : ℕ) × (zs : List (List ℤ)) × (front < mcu) × LongestFront i front zs
+
+-- the start of an interval
+abbrev pub interval_start : ℕ → Cursor
+interval_start number = record { number = number; mcu = 0; place = Some start_of_interval }
 
 -- the cursor is one of the scan
 pub record IsCursorOf (s : ScanValue) (c : Cursor) : Type 0 where

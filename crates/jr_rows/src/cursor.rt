@@ -4,12 +4,11 @@ ghost use Rattle.std.specs.Prelude.{◌≡◌, ◌+◌, ◌*◌, ◌<◌, ◌≤
 ghost use Rattle.jr_head.specs.Geometry.{order_of};
 ghost use Rattle.jr_scan.specs.declared.place.Place.{Place};
 ghost use Rattle.jr_scan.specs.Guesses.{AreGuessesOf};
-ghost use Rattle.jr_scan.specs.Run.{start_of_interval};
 ghost use Rattle.jr_piece.specs.Outcome.{IsOutcome};
 ghost use Rattle.jr_piece.specs.PieceValue.{PieceValue};
-ghost use Rattle.jr_piece.specs.Strips.{CanReadFrom, units_before};
+ghost use Rattle.jr_piece.specs.Strips.{CanReadFrom, TellsSound, units_before};
 ghost use Rattle.jr_piece.specs.Units.{CodesUnits, zero_block};
-ghost use Rattle.jr_rows.specs.Cursors.{IsPlaceAfter};
+ghost use Rattle.jr_rows.specs.Cursors.{IsPlaceAfter, interval_start};
 
 use jr_base::Coefficients;
 use jr_mcu::Kept;
@@ -19,11 +18,11 @@ use jr_scan::{Guesses, IntervalRef, McuReader, Place};
 #[derive(Clone, Copy)]
 pub struct Cursor {
     /// The interval.
-    pub(crate) number: u32,
+    pub number: u32,
     /// Number of its MCUs that are read, those after its longest prefix among them.
-    pub(crate) mcu: u32,
+    pub mcu: u32,
     /// Start of the next MCU; `None` if no further one is whole.
-    pub(crate) place: Option<Place>,
+    pub place: Option<Place>,
 }
 
 /// Fills the blocks starting at `first` with zeros.
@@ -53,10 +52,8 @@ fn place_after(reader: &McuReader<'_>, whole: u32, mcus: u32) -> Option<Place>
 
 impl Cursor {
     /// Returns the start of an interval.
-    pub(crate) fn at_start(number: u32) -> Cursor
-        ensures number { result.number ≡ number }
-        ensures mcu { result.mcu ≡ 0 }
-        ensures place { result.place ≡ Some start_of_interval }
+    pub fn at_start(number: u32) -> Cursor
+        ensures { result ≡ interval_start number }
     {
         Cursor {
             number,
@@ -101,7 +98,7 @@ impl Cursor {
     }
 
     /// Skips the next MCUs of the interval.
-    pub(crate) fn skip(&mut self, interval: IntervalRef<'_>, guesses: Option<&Guesses>, mcus: u32)
+    pub fn skip(&mut self, interval: IntervalRef<'_>, guesses: Option<&Guesses>, mcus: u32)
         requires at { IsPlaceAfter interval self.old.mcu self.old.place }
         requires few { self.old.mcu + mcus ≤ interval.mcus }
         requires same { IfSome guesses (λ g. AreGuessesOf interval g.now) }
@@ -124,10 +121,10 @@ impl Cursor {
     }
 
     /// Returns whether the interval has a decoding, once all its MCUs are read.
-    pub(crate) fn is_sound(&self, interval: &IntervalRef<'_>) -> bool
+    pub fn is_sound(&self, interval: &IntervalRef<'_>) -> bool
         requires at { IsPlaceAfter interval.now self.now.mcu self.now.place }
         requires all { self.now.mcu ≡ interval.now.mcus }
-        ensures { (p : PieceValue) → IsOutcome p → p.interval ≡ interval.now → p.is_sound ≡ result }
+        ensures { TellsSound result interval.now }
     {
         // By its contract an interval's header is valid.
         let _lawful = interval.head();

@@ -14,21 +14,21 @@ pub returns-clause-partial_row : goal.returns-clause-partial_row
 returns-clause-partial_row c =
     let s : ScanValue = c.args.scan.now.scan in
     let i = c.self.inside in
-    let v : PartialRowValue = record { row = i.row; done = i.done; number = i.number; mcu = i.mcu; place = i.place; samples = i.samples; lines = i.lines; marked = i.marked } in
+    let v : PartialRowValue = record { row = i.row; done = i.done; cursor = i.cursor; samples = i.samples; lines = i.lines; marked = i.marked } in
     let partial_row : IsPartialRow c.args.scan.now v = subst (IsPartialRow c.args.scan.now) (sym c.self.view_is) c.requires.partial_row in
-    let final : IsFinal c.args.scan.now i.number i.place = subst (λ (r : PartialRowValue). IsFinal c.args.scan.now r.number r.place) (sym c.self.view_is) c.requires.never in
-    let all : ReadsAll s i.number i.mcu i.place = subst (λ (r : PartialRowValue). ReadsAll s r.number r.mcu r.place) (sym c.self.view_is) c.requires.all in
-    let front = far_front c.args.scan.now i.number i.mcu i.place partial_row.reads all final in
+    let final : IsFinal c.args.scan.now i.cursor.number i.cursor.place = subst (λ (r : PartialRowValue). IsFinal c.args.scan.now r.cursor.number r.cursor.place) (sym c.self.view_is) c.requires.never in
+    let all : ReadsAll s i.cursor.number i.cursor.mcu i.cursor.place = subst (λ (r : PartialRowValue). ReadsAll s r.cursor.number r.cursor.mcu r.cursor.place) (sym c.self.view_is) c.requires.all in
+    let front = far_front c.args.scan.now i.cursor.number i.cursor.mcu i.cursor.place partial_row.reads all final in
     let e : c.head-head.result.now ≡ s.head = c.head-head.ensures.value in
     let lawful : IsLawful s.head = subst IsLawful e c.head-head.ensures.lawful in
     let n = c.put_grey-grey.result in
     let w : SampleRowValue = c.put_grey-grey.new.self in
-    let left : c.mcus_in.result ≡ mcus_in s.head i.number = c.mcus_in.ensures.value ∙ ap (λ (h : HeadValue). mcus_in h i.number) e in
+    let left : c.mcus_in.result ≡ mcus_in s.head i.cursor.number = c.mcus_in.ensures.value ∙ ap (λ (h : HeadValue). mcus_in h i.cursor.number) e in
     let across : c.shape_of.result.across ≡ mcus_across s.head = c.shape_of.ensures.across ∙ ap mcus_across e in
     let some_unit : 0 < blocks_of s.head = subst (λ (h : HeadValue). 0 < blocks_of h) e (omega (arith, c.order-some.ensures.some, c.order-some.ensures.count)) in
-    let asked : c.min-some.result ≡ min (c.mcus_in.result - i.mcu) (c.shape_of.result.across - i.done) = search rules in
+    let asked : c.min-some.result ≡ min (c.mcus_in.result - i.cursor.mcu) (c.shape_of.result.across - i.done) = search rules in
     let within : i.done + n ≤ mcus_across s.head = omega (arith, c.put_grey-grey.ensures.few, asked, across, partial_row.stands.within) in
-    let few : i.mcu + n ≤ mcus_in s.head i.number = omega (arith, c.put_grey-grey.ensures.few, asked, left, partial_row.stands.few) in
+    let few : i.cursor.mcu + n ≤ mcus_in s.head i.cursor.number = omega (arith, c.put_grey-grey.ensures.few, asked, left, partial_row.stands.few) in
     let count = sym c.intervals-most.ensures.value ∙ c.intervals-most.ensures.count in
     let room : HasSampleRoom s.head w = subst (λ (h : HeadValue). HasSampleRoom h w) e c.put_grey-grey.ensures.room in
     let kept = subst (λ (h : HeadValue). (k : ℕ) → k < i.done * blocks_of h → slice_index_or (units_in h w.lines.groups) k [] ≡ slice_index_or (units_in h i.samples.lines.groups) k []) e c.put_grey-grey.ensures.kept in

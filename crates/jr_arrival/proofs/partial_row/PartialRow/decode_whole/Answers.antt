@@ -23,24 +23,24 @@ returns-clause-partial_row c =
     let s : ScanValue = c.args.scan.now.scan in
     let i = c.self.inside in
     let p : Place = c.in-Some.place in
-    let v : PartialRowValue = record { row = i.row; done = i.done; number = i.number; mcu = i.mcu; place = i.place; samples = i.samples; lines = i.lines; marked = i.marked } in
+    let v : PartialRowValue = record { row = i.row; done = i.done; cursor = i.cursor; samples = i.samples; lines = i.lines; marked = i.marked } in
     let partial_row : IsPartialRow c.args.scan.now v = subst (IsPartialRow c.args.scan.now) (sym c.self.view_is) c.requires.partial_row in
-    let reads : ReadsTo c.args.scan.now i.number i.mcu (Some p) = subst (ReadsTo c.args.scan.now i.number i.mcu) c.in-Some.is partial_row.reads in
-    let interval = interval_of s i.number in
+    let reads : ReadsTo c.args.scan.now i.cursor.number i.cursor.mcu (Some p) = subst (ReadsTo c.args.scan.now i.cursor.number i.cursor.mcu) c.in-Some.is partial_row.reads in
+    let interval = interval_of s i.cursor.number in
     let e : c.head-4.result.now ≡ s.head = c.head-4.ensures.value in
     let lawful : IsLawful s.head = subst IsLawful e c.head-4.ensures.lawful in
     let n = c.decode_whole-whole.result in
     let w : SampleRowValue = c.decode_whole-whole.new.self in
     let r : McuReaderValue = c.at-reader.result in
     let r' : McuReaderValue = c.decode_whole-whole.new.reader in
-    let left : c.mcus_in.result ≡ mcus_in s.head i.number = c.mcus_in.ensures.value ∙ ap (λ (h : HeadValue). mcus_in h i.number) c.head-3.ensures.value in
+    let left : c.mcus_in.result ≡ mcus_in s.head i.cursor.number = c.mcus_in.ensures.value ∙ ap (λ (h : HeadValue). mcus_in h i.cursor.number) c.head-3.ensures.value in
     let decoded = c.decode_whole-whole.ensures.decoded in
     let own : r.run.interval ≡ interval = ap (λ (o : RunOf). o.interval) c.at-reader.ensures.run ∙ c.interval_ref.ensures in
     let h_is : r.run.interval.head ≡ s.head = ap (λ (x : IntervalValue). x.head) own in
     let read = decoded.read [] c.at-reader.ensures.read in
-    let run : IsRun (run_from interval p n) decoded.blocks r'.place AllRead = passed_place r r' c.interval_ref.result interval p (c.mcus_in.result - i.mcu) n decoded.blocks c.interval_ref.ensures c.at-reader.ensures.run c.at-reader.ensures.mcu c.decode_whole-whole.ensures.run c.decode_whole-whole.ensures.mcu read in
-    let most : r'.run.mcus ≡ c.mcus_in.result - i.mcu = ap (λ (o : RunOf). o.mcus) (c.decode_whole-whole.ensures.run ∙ c.at-reader.ensures.run) in
-    let few : i.mcu + n ≤ mcus_in s.head i.number = omega (arith, read.few, most, left, c.decode_whole-whole.ensures.mcu, c.at-reader.ensures.mcu, partial_row.stands.few) in
+    let run : IsRun (run_from interval p n) decoded.blocks r'.place AllRead = passed_place r r' c.interval_ref.result interval p (c.mcus_in.result - i.cursor.mcu) n decoded.blocks c.interval_ref.ensures c.at-reader.ensures.run c.at-reader.ensures.mcu c.decode_whole-whole.ensures.run c.decode_whole-whole.ensures.mcu read in
+    let most : r'.run.mcus ≡ c.mcus_in.result - i.cursor.mcu = ap (λ (o : RunOf). o.mcus) (c.decode_whole-whole.ensures.run ∙ c.at-reader.ensures.run) in
+    let few : i.cursor.mcu + n ≤ mcus_in s.head i.cursor.number = omega (arith, read.few, most, left, c.decode_whole-whole.ensures.mcu, c.at-reader.ensures.mcu, partial_row.stands.few) in
     let within : i.done + n ≤ mcus_across s.head = subst (λ (h : HeadValue). i.done + n ≤ mcus_across h) e c.decode_whole-whole.ensures.few in
     let count = sym c.intervals-most.ensures.value ∙ c.intervals-most.ensures.count in
     let room : HasSampleRoom s.head w = subst (λ (h : HeadValue). HasSampleRoom h w) e c.decode_whole-whole.ensures.room in
@@ -59,19 +59,19 @@ returns-clause-all c none =
     let s : ScanValue = c.args.scan.now.scan in
     let i = c.self.inside in
     let p : Place = c.in-Some.place in
-    let v : PartialRowValue = record { row = i.row; done = i.done; number = i.number; mcu = i.mcu; place = i.place; samples = i.samples; lines = i.lines; marked = i.marked } in
+    let v : PartialRowValue = record { row = i.row; done = i.done; cursor = i.cursor; samples = i.samples; lines = i.lines; marked = i.marked } in
     let partial_row : IsPartialRow c.args.scan.now v = subst (IsPartialRow c.args.scan.now) (sym c.self.view_is) c.requires.partial_row in
-    let some : i.mcu < mcus_in s.head i.number = subst (λ (r : PartialRowValue). r.mcu < mcus_in s.head r.number) (sym c.self.view_is) c.requires.some in
-    let reads : ReadsTo c.args.scan.now i.number i.mcu (Some p) = subst (ReadsTo c.args.scan.now i.number i.mcu) c.in-Some.is partial_row.reads in
-    let interval = interval_of s i.number in
+    let some : i.cursor.mcu < mcus_in s.head i.cursor.number = subst (λ (r : PartialRowValue). r.cursor.mcu < mcus_in s.head r.cursor.number) (sym c.self.view_is) c.requires.some in
+    let reads : ReadsTo c.args.scan.now i.cursor.number i.cursor.mcu (Some p) = subst (ReadsTo c.args.scan.now i.cursor.number i.cursor.mcu) c.in-Some.is partial_row.reads in
+    let interval = interval_of s i.cursor.number in
     let e : c.head-4.result.now ≡ s.head = c.head-4.ensures.value in
     let lawful : IsLawful s.head = subst IsLawful e c.head-4.ensures.lawful in
     let n = c.decode_whole-whole.result in
     let r : McuReaderValue = c.at-reader.result in
     let r' : McuReaderValue = c.decode_whole-whole.new.reader in
-    let left : c.mcus_in.result ≡ mcus_in s.head i.number = c.mcus_in.ensures.value ∙ ap (λ (h : HeadValue). mcus_in h i.number) c.head-3.ensures.value in
+    let left : c.mcus_in.result ≡ mcus_in s.head i.cursor.number = c.mcus_in.ensures.value ∙ ap (λ (h : HeadValue). mcus_in h i.cursor.number) c.head-3.ensures.value in
     let decoded = c.decode_whole-whole.ensures.decoded in
     let read = decoded.read [] c.at-reader.ensures.read in
-    let part : FirstMcus (run_from interval p (c.mcus_in.result - i.mcu)) n decoded.blocks = passed_part r r' c.interval_ref.result interval p (c.mcus_in.result - i.mcu) n decoded.blocks c.interval_ref.ensures c.at-reader.ensures.run c.at-reader.ensures.mcu c.decode_whole-whole.ensures.run c.decode_whole-whole.ensures.mcu read (λ lt. c.decode_whole-whole.ensures.none none) in
-    let here = subst (λ (m : ℕ). FirstMcus (run_from interval p (c.mcus_in.result - i.mcu)) m decoded.blocks) none part in
-    subst (λ (m : ℕ). HasLongestFront interval (i.mcu + m)) (sym none) (nothing_follows interval i.mcu (c.mcus_in.result - i.mcu) reads.0 decoded.blocks p lawful reads.1 here (omega (arith, left, some)) partial_row.stands.few)
+    let part : FirstMcus (run_from interval p (c.mcus_in.result - i.cursor.mcu)) n decoded.blocks = passed_part r r' c.interval_ref.result interval p (c.mcus_in.result - i.cursor.mcu) n decoded.blocks c.interval_ref.ensures c.at-reader.ensures.run c.at-reader.ensures.mcu c.decode_whole-whole.ensures.run c.decode_whole-whole.ensures.mcu read (λ lt. c.decode_whole-whole.ensures.none none) in
+    let here = subst (λ (m : ℕ). FirstMcus (run_from interval p (c.mcus_in.result - i.cursor.mcu)) m decoded.blocks) none part in
+    subst (λ (m : ℕ). HasLongestFront interval (i.cursor.mcu + m)) (sym none) (nothing_follows interval i.cursor.mcu (c.mcus_in.result - i.cursor.mcu) reads.0 decoded.blocks p lawful reads.1 here (omega (arith, left, some)) partial_row.stands.few)

@@ -2,8 +2,9 @@ use Rattle.std.proofs.Common.{◌≡◌, ℕ, ◌+◌, ◌<◌, length, refl, sy
 use Rattle.jr_scan.specs.ScanValue.{ScanValue, interval_of}
 use Rattle.jr_piece.specs.Strips.{TellsSound}
 use Rattle.jr_rows.specs.Rows.{CountsMarks}
-use Rattle.jr_arrival.specs.PartialRows.{PartialRowValue}
-use Rattle.jr_arrival.proofs.Marks.{counted, tells}
+use Rattle.jr_rows.specs.declared.cursor.Cursor.{Cursor}
+use Rattle.jr_arrival.specs.PartialRows.{PartialRowValue, ReadsTo}
+use Rattle.jr_arrival.proofs.Marks.{counted}
 use Rattle.jr_arrival.proofs.Readings.{at_the_start, becomes_itself}
 use Rattle.jr_arrival.proofs.partial_row.PartialRow.marks.Goals as goal
 
@@ -11,13 +12,12 @@ pub loop-i-init : goal.loop-i-init
 loop-i-init c =
     let s : ScanValue = c.args.scan.now.scan in
     let counted = c.partial_marks-marked.ensures.counts s (becomes_itself c.args.scan.now) refl in
-    subst (λ (r : PartialRowValue). CountsMarks s (length s.intervals) 0 (r.number + 1) c.partial_marks-marked.result) (sym c.self.view_is) counted
+    subst (λ (r : PartialRowValue). CountsMarks s (length s.intervals) 0 (r.cursor.number + 1) c.partial_marks-marked.result) (sym c.self.view_is) counted
 
 pub is_sound-is_sound-requires-clause-reads : goal.is_sound-is_sound-requires-clause-reads
 is_sound-is_sound-requires-clause-reads c =
     let s : ScanValue = c.args.scan.now.scan in
-    let start = at_the_start (interval_of s c.loop-i.i) in
-    search (rules, start)
+    subst (λ (k : Cursor). ReadsTo c.args.scan.now k.number k.mcu k.place) (sym c.at_start.ensures) (at_the_start (interval_of s c.loop-i.i))
 
 pub with-marked-requires : goal.with-marked-requires
 with-marked-requires c =
@@ -29,7 +29,7 @@ pub loop-i-preserved : goal.loop-i-preserved
 loop-i-preserved c =
     let s : ScanValue = c.args.scan.now.scan in
     let i = c.loop-i.i in
-    let told : TellsSound c.is_sound-is_sound.result (interval_of s i) = tells (interval_of s i) c.is_sound-is_sound.result c.is_sound-is_sound.ensures.sound c.is_sound-is_sound.ensures.damaged in
+    let told = subst (λ (k : Cursor). TellsSound c.is_sound-is_sound.result (interval_of s k.number)) c.at_start.ensures c.is_sound-is_sound.ensures in
     let inside : i < length s.intervals = omega (arith, c.loop-i-test.true, c.intervals-all.ensures.value) in
     counted s (interval_of s i) i c.loop-i.marked c.one.result c.with-marked.result c.is_sound-is_sound.result inside c.loop-i.invariant refl told c.one.ensures.sound c.one.ensures.damaged c.with-marked.ensures.sound c.with-marked.ensures.damaged
 

@@ -14,7 +14,7 @@ pub pass_lines-requires-clause-partial_row : goal.pass_lines-requires-clause-par
 pass_lines-requires-clause-partial_row c =
     let s : ScanValue = c.args.scan.now.scan in
     let i = c.self.inside in
-    let v : PartialRowValue = record { row = i.row; done = i.done; number = i.number; mcu = i.mcu; place = i.place; samples = i.samples; lines = i.lines; marked = i.marked } in
+    let v : PartialRowValue = record { row = i.row; done = i.done; cursor = i.cursor; samples = i.samples; lines = i.lines; marked = i.marked } in
     let partial_row : IsPartialRow c.args.scan.now v = subst (IsPartialRow c.args.scan.now) (sym c.self.view_is) c.requires.partial_row in
     let w : SampleRowValue = c.paint_some.new.self in
     same_lines c.args.scan.now v w partial_row c.paint_some.ensures.kept (subst (λ (h : HeadValue). HasSampleRoom h w) c.head-head.ensures.value c.paint_some.ensures.room)
@@ -24,7 +24,7 @@ returns-clause-painted c =
     let s : ScanValue = c.args.scan.now.scan in
     let i = c.self.inside in
     let n = c.args.count in
-    let v : PartialRowValue = record { row = i.row; done = i.done; number = i.number; mcu = i.mcu; place = i.place; samples = i.samples; lines = i.lines; marked = i.marked } in
+    let v : PartialRowValue = record { row = i.row; done = i.done; cursor = i.cursor; samples = i.samples; lines = i.lines; marked = i.marked } in
     let partial_row : IsPartialRow c.args.scan.now v = subst (IsPartialRow c.args.scan.now) (sym c.self.view_is) c.requires.partial_row in
     let e : c.head-head.result.now ≡ s.head = c.head-head.ensures.value in
     let lawful : IsLawful s.head = subst IsLawful e c.head-head.ensures.lawful in

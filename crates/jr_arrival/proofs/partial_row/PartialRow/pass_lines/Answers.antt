@@ -17,7 +17,7 @@ pub returns-then-self-first-clause-partial_row : goal.returns-then-self-first-cl
 returns-then-self-first-clause-partial_row c =
     let s : ScanValue = c.args.scan.now.scan in
     let i = c.self.inside in
-    let v : PartialRowValue = record { row = i.row; done = i.done; number = i.number; mcu = i.mcu; place = i.place; samples = i.samples; lines = i.lines; marked = i.marked } in
+    let v : PartialRowValue = record { row = i.row; done = i.done; cursor = i.cursor; samples = i.samples; lines = i.lines; marked = i.marked } in
     let partial_row : IsPartialRow c.args.scan.now v = subst (IsPartialRow c.args.scan.now) (sym c.self.view_is) c.requires.partial_row in
     let whole : i.done ≡ mcus_across s.head = subst (λ (r : PartialRowValue). r.done ≡ mcus_across s.head) (sym c.self.view_is) c.requires.whole in
     let few : Ends s v c.args.count = subst (λ (r : PartialRowValue). Ends s r c.args.count) (sym c.self.view_is) c.requires.inside in
@@ -36,7 +36,7 @@ returns-clause-partial_row c =
     let s : ScanValue = c.args.scan.now.scan in
     let i = c.self.inside in
     let n = c.args.count in
-    let v : PartialRowValue = record { row = i.row; done = i.done; number = i.number; mcu = i.mcu; place = i.place; samples = i.samples; lines = i.lines; marked = i.marked } in
+    let v : PartialRowValue = record { row = i.row; done = i.done; cursor = i.cursor; samples = i.samples; lines = i.lines; marked = i.marked } in
     let partial_row : IsPartialRow c.args.scan.now v = subst (IsPartialRow c.args.scan.now) (sym c.self.view_is) c.requires.partial_row in
     let whole : i.done ≡ mcus_across s.head = subst (λ (r : PartialRowValue). r.done ≡ mcus_across s.head) (sym c.self.view_is) c.requires.whole in
     let few : Ends s v n = subst (λ (r : PartialRowValue). Ends s r n) (sym c.self.view_is) c.requires.inside in

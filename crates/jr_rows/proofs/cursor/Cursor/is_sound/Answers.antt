@@ -1,16 +1,15 @@
-use Rattle.std.proofs.Common.{rules, arith, subst, ap, ◌≡◌, ◌-◌, ◌*◌, ◌<◌, ℕ, false, true, nat_lt, None, List, [], length}
+use Rattle.std.proofs.Common.{rules, arith, subst, ap, ◌≡◌, ◌-◌, ◌*◌, ◌<◌, ℕ, false, true, nat_lt, None, List, length}
 use Rattle.jr_head.specs.Geometry.{IsLawful}
-use Rattle.jr_piece.proofs.UnitReading.{tells}
 use Rattle.jr_rows.proofs.CursorSteps.{cut_short, tells_there}
 use Rattle.jr_rows.proofs.cursor.Cursor.is_sound.Goals as goal
 
 pub returns-in_default : goal.returns-in_default
-returns-in_default c = λ o out e.
+returns-in_default c =
     let none : c.args.self.now.place ≡ None = search rules in
-    tells o c.args.interval.now [] false e out (λ t. cc) (λ f. cut_short c.args.interval.now c.args.self.now.mcu c.args.self.now.place c.requires.at none c.requires.all)
+    cut_short c.args.interval.now c.args.self.now.mcu c.args.self.now.place c.requires.at none c.requires.all
 
 pub returns : goal.returns
-returns c = λ o out e.
+returns c =
     let i = c.args.interval.now in
     let p = c.in-Some.place in
     let lawful = subst IsLawful c.head-lawful.ensures.value c.head-lawful.ensures.lawful in
@@ -18,4 +17,4 @@ returns c = λ o out e.
     let left : c.saturating_sub.result ≡ 8 * length i.bytes - p.bit = omega (arith, c.saturating_sub.ensures, bytes) in
     let few : nat_lt c.saturating_sub.result 8 ≡ true → 8 * length i.bytes - p.bit < 8 = λ t. search (arith, left, t) in
     let many : nat_lt c.saturating_sub.result 8 ≡ false → 8 * length i.bytes - p.bit < 8 → ⊥ = λ f lt. search (arith, left, f, lt) in
-    tells_there i lawful c.args.self.now.mcu c.args.self.now.place c.requires.at p c.in-Some.is c.requires.all (nat_lt c.saturating_sub.result 8) few many o out e
+    tells_there i lawful c.args.self.now.mcu c.args.self.now.place c.requires.at p c.in-Some.is c.requires.all (nat_lt c.saturating_sub.result 8) few many

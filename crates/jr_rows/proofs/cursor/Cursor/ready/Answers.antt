@@ -1,8 +1,9 @@
-use Rattle.std.proofs.Common.{rules, arith, ap, ◌∙◌, ◌≡◌, ◌*◌, ◌<◌, ℕ, length}
+use Rattle.std.proofs.Common.{rules, arith, ap, ◌∙◌, ◌≡◌, ◌+◌, ◌<◌, length}
 use Rattle.jr_head.specs.HeadValue.{HeadValue}
-use Rattle.jr_scan.specs.ScanValue.{intervals_of, interval_of, mcus_in}
-use Rattle.jr_rows.proofs.CursorSteps.{at_start}
+use Rattle.jr_scan.specs.ScanValue.{intervals_of, mcus_in}
+use Rattle.jr_rows.specs.declared.cursor.Cursor.{Cursor}
 use Rattle.jr_rows.proofs.IntervalPlaces.{next_there}
+use Rattle.jr_rows.proofs.RowCursors.{start_to, starts}
 use Rattle.jr_rows.proofs.cursor.Cursor.ready.Goals as goal
 
 pub mcus_in-requires-2 : goal.mcus_in-requires-2
@@ -13,7 +14,7 @@ mcus_in-requires-2 c =
     let left : c.mcus_in.result ≡ mcus_in h r.number = c.mcus_in.ensures.value ∙ ap (λ (x : HeadValue). mcus_in x r.number) c.head-2.ensures.value in
     let ended : r.mcu ≡ mcus_in h r.number = omega (arith, left, c.requires.stands.at.few, c.if-left-gt0.false) in
     let there = (next_there h r.number r.mcu number ended c.requires.more).0 in
-    search (rules, there)
+    search (rules, there, ap (λ (k : Cursor). k.number) c.at_start.ensures)
 
 pub returns-clause-stands : goal.returns-clause-stands
 returns-clause-stands c =
@@ -23,8 +24,8 @@ returns-clause-stands c =
     let left : c.mcus_in.result ≡ mcus_in h r.number = c.mcus_in.ensures.value ∙ ap (λ (x : HeadValue). mcus_in x r.number) c.head-2.ensures.value in
     let ended : r.mcu ≡ mcus_in h r.number = omega (arith, left, c.requires.stands.at.few, c.if-left-gt0.false) in
     let there = (next_there h r.number r.mcu number ended c.requires.more).0 in
-    let more : c.at_start.result.number < length c.args.scan.now.intervals = omega (arith, there, c.at_start.ensures.number, c.intervals.ensures.value, c.intervals.ensures.count) in
-    record { number = more; at = at_start (interval_of c.args.scan.now c.at_start.result.number) c.at_start.result.mcu c.at_start.result.place c.at_start.ensures.mcu c.at_start.ensures.place }
+    let more : r.number + 1 < length c.args.scan.now.intervals = omega (arith, there, c.intervals.ensures.value, c.intervals.ensures.count) in
+    starts c.args.scan.now (r.number + 1) c.at_start.result more c.at_start.ensures
 
 pub returns-clause-number : goal.returns-clause-number
 returns-clause-number c =
@@ -34,7 +35,7 @@ returns-clause-number c =
     let left : c.mcus_in.result ≡ mcus_in h r.number = c.mcus_in.ensures.value ∙ ap (λ (x : HeadValue). mcus_in x r.number) c.head-2.ensures.value in
     let ended : r.mcu ≡ mcus_in h r.number = omega (arith, left, c.requires.stands.at.few, c.if-left-gt0.false) in
     let there = next_there h r.number r.mcu number ended c.requires.more in
-    omega (arith, there.0, c.at_start.ensures.number)
+    omega (arith, there.0, ap (λ (k : Cursor). k.number) c.at_start.ensures)
 
 pub returns-clause-to : goal.returns-clause-to
 returns-clause-to c =
@@ -44,4 +45,4 @@ returns-clause-to c =
     let left : c.mcus_in.result ≡ mcus_in h r.number = c.mcus_in.ensures.value ∙ ap (λ (x : HeadValue). mcus_in x r.number) c.head-2.ensures.value in
     let ended : r.mcu ≡ mcus_in h r.number = omega (arith, left, c.requires.stands.at.few, c.if-left-gt0.false) in
     let there = next_there h r.number r.mcu number ended c.requires.more in
-    omega (arith, ap (λ (k : ℕ). k * h.restart) c.at_start.ensures.number, c.at_start.ensures.mcu, there.1)
+    omega (arith, start_to h (r.number + 1) c.at_start.result c.at_start.ensures, there.1)

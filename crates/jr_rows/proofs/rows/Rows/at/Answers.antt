@@ -2,7 +2,7 @@ use Rattle.std.proofs.Common.{rules, arith, subst, sym, ap, ℕ, ◌∙◌, ◌�
 use Rattle.jr_head.specs.Geometry.{mcus_across, mcus_of}
 use Rattle.jr_scan.specs.ScanValue.{ScanValue, intervals_of}
 use Rattle.jr_picture.specs.Headline.{interval_number, within_interval}
-use Rattle.jr_rows.specs.Cursors.{IsCursorOf, mcus_to}
+use Rattle.jr_rows.specs.Cursors.{IsCursorOf, mcus_to, interval_start}
 use Rattle.jr_rows.proofs.RowCursors.{start_to, starts}
 use Rattle.jr_rows.specs.Rows.{coded_before}
 use Rattle.jr_rows.proofs.RowStarts.{all_before, mcu_there, row_starts}
@@ -16,8 +16,7 @@ skip_mcus-requires-clause-stands c =
     let there = mcu_there h (c.args.row * mcus_across h) (row_starts h c.args.row some c.requires.row) in
     let number : c.interval_with-number.result.0 ≡ interval_number h (c.args.row * mcus_across h) = search rules in
     let count : length t.intervals ≡ intervals_of h = search (rules, arith) in
-    let e = c.at_start-cursor.ensures in
-    subst (λ (s : ScanValue). IsCursorOf s c.at_start-cursor.result) (sym c.scan-scan.ensures) (starts t c.interval_with-number.result.0 c.at_start-cursor.result (omega (arith, there.0, number, count)) e.number e.mcu e.place)
+    subst (λ (s : ScanValue). IsCursorOf s c.at_start-cursor.result) (sym c.scan-scan.ensures) (starts t c.interval_with-number.result.0 c.at_start-cursor.result (omega (arith, there.0, number, count)) c.at_start-cursor.ensures)
 
 pub skip_mcus-requires-clause-few : goal.skip_mcus-requires-clause-few
 skip_mcus-requires-clause-few c =
@@ -28,8 +27,7 @@ skip_mcus-requires-clause-few c =
     let whole = there.1 in
     let number : c.interval_with-number.result.0 ≡ interval_number h (c.args.row * mcus_across h) = search rules in
     let within : c.interval_with-number.result.1 ≡ within_interval h (c.args.row * mcus_across h) = search rules in
-    let e = c.at_start-cursor.ensures in
-    let to = start_to h (interval_number h (c.args.row * mcus_across h)) c.at_start-cursor.result (e.number ∙ number) e.mcu in
+    let to = start_to h (interval_number h (c.args.row * mcus_across h)) c.at_start-cursor.result (c.at_start-cursor.ensures ∙ ap interval_start number) in
     subst (λ (s : ScanValue). mcus_to s.head c.at_start-cursor.result + c.interval_with-number.result.1 ≤ mcus_of s.head) (sym c.scan-scan.ensures) (omega (arith, to, within, whole, starts))
 
 pub returns-clause-rows : goal.returns-clause-rows
@@ -44,8 +42,7 @@ returns-clause-rows c =
     let number : c.interval_with-number.result.0 ≡ interval_number h (c.args.row * mcus_across h) = search rules in
     let within : c.interval_with-number.result.1 ≡ within_interval h (c.args.row * mcus_across h) = search rules in
     let count : length t.intervals ≡ intervals_of h = search (rules, arith) in
-    let e = c.at_start-cursor.ensures in
-    let to = start_to h (interval_number h (c.args.row * mcus_across h)) start (e.number ∙ number) e.mcu in
+    let to = start_to h (interval_number h (c.args.row * mcus_across h)) start (c.at_start-cursor.ensures ∙ ap interval_start number) in
     let moved = subst (λ (s : ScanValue). mcus_to s.head next ≡ mcus_to s.head start + c.interval_with-number.result.1) c.scan-scan.ensures c.skip_mcus.ensures.moved in
     let at : mcus_to h next ≡ c.args.row * mcus_across h = omega (arith, moved, to, within, whole) in
     record {

@@ -1,6 +1,7 @@
-use Rattle.std.proofs.Common.{rules, arith, ◌∙◌, ◌≡◌, ◌*◌, ◌<◌, ◌≤◌, min, length}
+use Rattle.std.proofs.Common.{rules, arith, ap, ◌∙◌, ◌≡◌, ◌*◌, ◌<◌, ◌≤◌, min, length}
 use Rattle.jr_head.specs.Geometry.{mcus_of}
 use Rattle.jr_scan.specs.ScanValue.{intervals_of}
+use Rattle.jr_rows.specs.Cursors.{interval_start}
 use Rattle.jr_rows.proofs.RowCursors.{start_to, starts}
 use Rattle.jr_rows.proofs.WholeRows.{row_there, row_at}
 use Rattle.jr_rows.proofs.rows.Rows.from.Goals as goal
@@ -21,9 +22,8 @@ returns-clause-rows c =
     let count : length t.intervals ≡ intervals_of h = search (rules, arith) in
     let there = row_there h c.args.row c.args.intervals some c.requires.row c.requires.whole in
     let number : c.min-number.result ≡ min (c.args.row * c.args.intervals) c.args.part.now.limit = search rules in
-    let e = c.at_start.ensures in
     record {
-      stands = starts t c.min-number.result c.at_start.result (omega (arith, number, there, count)) e.number e.mcu e.place;
-      at = start_to h (min (c.args.row * c.args.intervals) c.args.part.now.limit) c.at_start.result (e.number ∙ number) e.mcu
+      stands = starts t c.min-number.result c.at_start.result (omega (arith, number, there, count)) c.at_start.ensures;
+      at = start_to h (min (c.args.row * c.args.intervals) c.args.part.now.limit) c.at_start.result (c.at_start.ensures ∙ ap interval_start number)
           ∙ row_at h c.args.row c.args.intervals some c.requires.row c.requires.whole c.args.part.now.limit (omega (arith, few, count));
     }

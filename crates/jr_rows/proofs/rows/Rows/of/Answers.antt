@@ -8,8 +8,7 @@ returns-clause-rows c =
     let t = c.args.part.now.scan in
     let some : 0 < length t.intervals = search (arith, c.scan.ensures, c.intervals-some.ensures.value, c.intervals-some.ensures.some) in
     let none : 0 ≡ coded_before t.head c.args.part.now.limit 0 = omega arith in
-    let e = c.at_start.ensures in
     record {
-      stands = starts t 0 c.at_start.result some e.number e.mcu e.place;
-      at = omega (arith, start_to t.head 0 c.at_start.result e.number e.mcu, none);
+      stands = starts t 0 c.at_start.result some c.at_start.ensures;
+      at = omega (arith, start_to t.head 0 c.at_start.result c.at_start.ensures, none);
     }
