@@ -1,8 +1,8 @@
 //! The arguments of a command line.
 
-ghost use Rattle.std.specs.Prelude.{◌≡◌, ◌≤◌, IfOk, false, codes, map, option_map};
+ghost use Rattle.std.specs.Prelude.{◌≡◌, ◌≤◌, IfOk, IfSome, false, codes, map, option_map};
 ghost use Rattle.std.specs.String.{string_bytes};
-ghost use Rattle.clap.specs.Words.{app_of, first_value, found_of, one_text, rule_of};
+ghost use Rattle.clap.specs.Words.{App, app_of, first_value, found_of, one_text, rule_of, with_rule};
 ghost use Rattle.jr_base.specs.declared.limits.TheConstants.{MAX_WORKERS};
 ghost use Rattle.jri_words.specs.CommandLine.{IsFlag, IsTarget, IsTargetOf, decoding_app, file_named, file_rule, first_rule, flag_rule, jri, output_rule, reading, option_value, workers_rule, writing_app};
 
@@ -88,30 +88,50 @@ pub(crate) fn flag_word<'a>(alloc: Global, name: &'a str, help: &'a str) -> Arg<
         .help(help)
 }
 
-/// Adds the arguments that say what is decoded.
-fn with_decoding_words<'a>(alloc: Global, command: Command<'a>) -> Result<Command<'a>, AllocError>
-    ensures { IfOk result (λ c. app_of c ≡ decoding_app (app_of command.entry)) }
+/// Adds an argument to a command, unless an earlier one could not be added.
+pub(crate) fn with_word<'a>(
+    command: Result<Command<'a>, AllocError>,
+    word: Arg<'a>,
+) -> Result<Command<'a>, AllocError>
+    ensures { (app : App) → word.entry.global ≡ false → IfOk command.entry (λ c. app_of c ≡ app) → IfOk result (λ c. app_of c ≡ with_rule app (rule_of word.entry)) }
 {
-    command
-        .arg(workers_word(alloc))?
-        .arg(first_word(alloc))?
-        .arg(resync_word(alloc))?
-        .arg(file_word(alloc))
+    match command {
+        Ok(command) => command.arg(word),
+        Err(refused) => Err(refused),
+    }
+}
+
+/// Adds the arguments that say what is decoded.
+fn with_decoding_words<'a>(
+    alloc: Global,
+    command: Result<Command<'a>, AllocError>,
+) -> Result<Command<'a>, AllocError>
+    ensures { (app : App) → IfOk command.entry (λ c. app_of c ≡ app) → IfOk result (λ c. app_of c ≡ decoding_app app) }
+{
+    let with_workers = with_word(command, workers_word(alloc));
+    let with_first = with_word(with_workers, first_word(alloc));
+    let with_resync = with_word(with_first, resync_word(alloc));
+    with_word(with_resync, file_word(alloc))
 }
 
 /// Adds the arguments that say where the image goes, and what is reported on standard error.
-fn with_writing_words<'a>(alloc: Global, command: Command<'a>) -> Result<Command<'a>, AllocError>
-    ensures { IfOk result (λ c. app_of c ≡ writing_app (app_of command.entry)) }
+fn with_writing_words<'a>(
+    alloc: Global,
+    command: Result<Command<'a>, AllocError>,
+) -> Result<Command<'a>, AllocError>
+    ensures { (app : App) → IfOk command.entry (λ c. app_of c ≡ app) → IfOk result (λ c. app_of c ≡ writing_app app) }
 {
-    command
-        .arg(output_word(alloc))?
-        .arg(flag_word(alloc, "force", "Write the image even to a terminal"))?
-        .arg(flag_word(alloc, "quiet", "Do not print the report"))?
-        .arg(flag_word(
-            alloc,
-            "verbose",
-            "Add the file name and the system error to each line",
-        ))
+    let force = flag_word(alloc, "force", "Write the image even to a terminal");
+    let quiet = flag_word(alloc, "quiet", "Do not print the report");
+    let verbose = flag_word(
+        alloc,
+        "verbose",
+        "Add the file name and the system error to each line",
+    );
+    let with_output = with_word(command, output_word(alloc));
+    let with_force = with_word(with_output, force);
+    let with_quiet = with_word(with_force, quiet);
+    with_word(with_quiet, verbose)
 }
 
 /// `jri [--workers N] [--first K] [--resync] [-o PICTURE] [--force] [--quiet] [--verbose] [FILE]`.
@@ -123,7 +143,7 @@ fn command<'a>(alloc: Global) -> Result<Command<'a>, AllocError>
         .version(VERSION.trim_end())
         .after_help(AFTER_HELP)
         .no_binary_name(true);
-    with_writing_words(alloc, with_decoding_words(alloc, command)?)
+    with_writing_words(alloc, with_decoding_words(alloc, Ok(command)))
 }
 
 pub(crate) fn refusal(alloc: Global, error: &Error) -> Unasked {
@@ -190,6 +210,45 @@ fn verbosity_of(matches: &ArgMatches) -> Verbosity
     }
 }
 
+/// Returns the number of workers, from 1 to 64.
+pub(crate) fn workers_of(matches: &ArgMatches) -> Option<u32>
+    ensures some { IfSome result (λ workers. 1 ≤ workers) }
+    ensures few { IfSome result (λ workers. workers ≤ MAX_WORKERS) }
+{
+    match matches.get_one::<u32>("workers") {
+        // the range of the argument's values, which the parser's contract does not repeat
+        Some(workers) if (1..=MAX_WORKERS).contains(&workers) => Some(workers),
+        _ => None,
+    }
+}
+
+/// Returns what parsed arguments ask for.
+fn request_in(alloc: Global, matches: &ArgMatches) -> Result<DecodeRequest, Unasked>
+    ensures some { IfOk result (λ r. 1 ≤ r.asked.workers) }
+    ensures few { IfOk result (λ r. r.asked.workers ≤ MAX_WORKERS) }
+    ensures file { IfOk result (λ r. option_map string_bytes r.asked.file ≡ file_named (first_value (found_of matches.now) (codes "file"))) }
+    ensures target { IfOk result (λ r. IsTarget (first_value (found_of matches.now) (codes "output")) (one_text (found_of matches.now) (codes "force")) r.asked.target) }
+    ensures quiet { IfOk result (λ r. IsFlag (one_text (found_of matches.now) (codes "quiet")) r.asked.verbosity.is_quiet) }
+    ensures verbose { IfOk result (λ r. IsFlag (one_text (found_of matches.now) (codes "verbose")) r.asked.verbosity.is_verbose) }
+    ensures resync { IfOk result (λ r. IsFlag (one_text (found_of matches.now) (codes "resync")) r.is_resync) }
+{
+    let Some(workers) = workers_of(matches) else {
+        return Err(Unasked::Wrong(String::new(alloc)));
+    };
+    let file = file_of(alloc, matches)?;
+    let target = target_of(alloc, matches)?;
+    Ok(DecodeRequest {
+        asked: Asked {
+            workers,
+            first: matches.get_one::<u32>("first"),
+            file,
+            target,
+            verbosity: verbosity_of(matches),
+        },
+        is_resync: matches.get_flag("resync"),
+    })
+}
+
 /// Returns what the arguments after the program's name ask for: `--workers` from 1 to 64, 4 by default; `--first`;
 /// `--resync`; at most one file; and the arguments of the output and of the report. `Unasked` has the text to print if
 /// they ask for help or the version or are wrong.
@@ -202,27 +261,9 @@ pub fn decode_request(alloc: Global, words: &[String]) -> Result<DecodeRequest, 
     ensures verbose { IfOk result (λ r. IsFlag (reading (codes "verbose") (map string_bytes words.now)) r.asked.verbosity.is_verbose) }
     ensures resync { IfOk result (λ r. IsFlag (reading (codes "resync") (map string_bytes words.now)) r.is_resync) }
 {
-    let matches = match command(alloc)?.try_get_matches_from(words) {
-        Ok(matches) => matches,
-        Err(error) => return Err(refusal(alloc, &error)),
-    };
-    let file = file_of(alloc, &matches)?;
-    let target = target_of(alloc, &matches)?;
-    let verbosity = verbosity_of(&matches);
-    let is_resync = matches.get_flag("resync");
-    match matches.get_one::<u32>("workers") {
-        // the range of the argument's values, which the parser's contract does not repeat
-        Some(workers) if (1..=MAX_WORKERS).contains(&workers) => Ok(DecodeRequest {
-            asked: Asked {
-                workers,
-                first: matches.get_one::<u32>("first"),
-                file,
-                target,
-                verbosity,
-            },
-            is_resync,
-        }),
-        _ => Err(Unasked::Wrong(String::new(alloc))),
+    match command(alloc)?.try_get_matches_from(words) {
+        Ok(matches) => request_in(alloc, &matches),
+        Err(error) => Err(refusal(alloc, &error)),
     }
 }
 
@@ -235,5 +276,8 @@ pub fn asked<'a>(alloc: Global, words: &'a [String]) -> Result<Asked, Unasked>
     ensures quiet { IfOk result (λ a. IsFlag (reading (codes "quiet") (map string_bytes words.now)) a.verbosity.is_quiet) }
     ensures verbose { IfOk result (λ a. IsFlag (reading (codes "verbose") (map string_bytes words.now)) a.verbosity.is_verbose) }
 {
-    Ok(decode_request(alloc, words)?.asked)
+    match decode_request(alloc, words) {
+        Ok(request) => Ok(request.asked),
+        Err(unasked) => Err(unasked),
+    }
 }

@@ -1,7 +1,7 @@
 //! The arguments of `jri --info`.
 
 use crate::answers::Unasked;
-use crate::asking::{flag_word, refusal, strings_of};
+use crate::asking::{flag_word, refusal, strings_of, with_word};
 use clap::{Arg, ArgAction, ArgMatches, Command};
 use jr_base::VERSION;
 use std::alloc::{AllocError, Global};
@@ -27,13 +27,14 @@ pub(crate) fn files_word<'a>(alloc: Global) -> Arg<'a> {
 
 /// `jri --info [--json] FILE..`.
 fn command<'a>(alloc: Global) -> Result<Command<'a>, AllocError> {
-    Command::new(alloc, "jri")
+    let command = Command::new(alloc, "jri")
         .about("Print what the headers of JPEG files say, and decode nothing")
         .version(VERSION.trim_end())
-        .no_binary_name(true)
-        .arg(flag_word(alloc, "info", "Describe files"))?
-        .arg(flag_word(alloc, "json", "Print each line as a JSON object"))?
-        .arg(files_word(alloc))
+        .no_binary_name(true);
+    let info = flag_word(alloc, "info", "Describe files");
+    let json = flag_word(alloc, "json", "Print each line as a JSON object");
+    let command = with_word(with_word(Ok(command), info), json);
+    with_word(command, files_word(alloc))
 }
 
 /// Returns what parsed arguments ask for.

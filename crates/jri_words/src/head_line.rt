@@ -5,6 +5,8 @@ use jr_base::Printable;
 use jr_head::{Head, Kind};
 use jr_picture::Fault;
 use std::alloc::{AllocError, Global};
+use std::fmt;
+use std::fmt::{Display, Formatter};
 
 /// Returns the name of the components' meaning.
 fn kind_name(kind: Kind) -> &'static str {
@@ -23,55 +25,85 @@ fn write_string(alloc: Global, line: &mut String, text: &str) -> Result<(), Allo
     }
 }
 
-/// Appends the sampling factors of each component (T.81, A.1.1): horizontal, `x`, vertical.
-fn write_sampling(
-    line: &mut String,
-    head: &Head,
-    between: &str,
-    mark: &str,
-) -> Result<(), AllocError> {
-    // By its contract a header has so few components that their numbers are in order.
-    head.assert_invariant();
-    for c in 0..head.components() {
-        if c > 0 {
-            line.push_str(between)?;
+/// The sampling factors of each component (T.81, A.1.1): horizontal, `x`, vertical.
+#[derive(Clone, Copy)]
+struct Sampling<'a> {
+    head: &'a Head,
+    /// The text between two components.
+    between: &'static str,
+    /// The text before and after each component.
+    mark: &'static str,
+}
+
+impl Display for Sampling<'_> {
+    fn fmt<W: fmt::Write>(&self, f: &mut Formatter<W>) -> fmt::Result {
+        // By its contract a header has so few components that their numbers are in order.
+        self.head.assert_invariant();
+        let mark = self.mark;
+        for c in 0..self.head.components() {
+            let between = if c > 0 { self.between } else { "" };
+            let (horizontal, vertical) = (self.head.horizontal(c), self.head.vertical(c));
+            write!(f, "{between}{mark}{horizontal}x{vertical}{mark}")?;
         }
-        let (horizontal, vertical) = (head.horizontal(c), head.vertical(c));
-        write!(line, "{mark}{horizontal}x{vertical}{mark}")?;
+        Ok(())
     }
-    Ok(())
+}
+
+/// A quality after a text, or nothing.
+#[derive(Clone, Copy)]
+struct Quality {
+    before: &'static str,
+    quality: Option<u32>,
+}
+
+impl Display for Quality {
+    fn fmt<W: fmt::Write>(&self, f: &mut Formatter<W>) -> fmt::Result {
+        match self.quality {
+            Some(quality) => write!(f, "{}{quality}", self.before),
+            None => Ok(()),
+        }
+    }
 }
 
 /// Appends what a header says, after the file's name.
 fn write_head(line: &mut String, head: &Head) -> Result<(), AllocError> {
-    let (width, height) = (head.width(), head.height());
+    let (width, height, scan_at) = (head.width(), head.height(), head.scan_at());
     let kind = kind_name(head.kind());
-    write!(line, ": {width} x {height}, {kind}, sampling ")?;
-    write_sampling(line, head, " ", "")?;
+    let sampling = Sampling {
+        head,
+        between: " ",
+        mark: "",
+    };
     let intervals = head.intervals();
     let plural = if intervals == 1 { "" } else { "s" };
-    write!(line, ", {intervals} interval{plural}")?;
-    if let Some(quality) = quality_of(head) {
-        write!(line, ", quality {quality}")?;
-    }
-    writeln!(line, ", scan at byte {}", head.scan_at())
+    let quality = Quality {
+        before: ", quality ",
+        quality: quality_of(head),
+    };
+    writeln!(
+        line,
+        ": {width} x {height}, {kind}, sampling {sampling}, {intervals} interval{plural}{quality}, scan at byte {scan_at}"
+    )
 }
 
 /// Appends the members of a header, after the file's name.
 fn write_members(line: &mut String, head: &Head) -> Result<(), AllocError> {
-    let (width, height) = (head.width(), head.height());
+    let (width, height, scan_at) = (head.width(), head.height(), head.scan_at());
     let kind = kind_name(head.kind());
-    write!(
-        line,
-        ",\"width\":{width},\"height\":{height},\"kind\":\"{kind}\",\"sampling\":["
-    )?;
-    write_sampling(line, head, ",", "\"")?;
+    let sampling = Sampling {
+        head,
+        between: ",",
+        mark: "\"",
+    };
     let (intervals, restart) = (head.intervals(), head.restart());
-    write!(line, "],\"intervals\":{intervals},\"restart\":{restart}")?;
-    if let Some(quality) = quality_of(head) {
-        write!(line, ",\"quality\":{quality}")?;
-    }
-    writeln!(line, ",\"scan_at\":{}}}", head.scan_at())
+    let quality = Quality {
+        before: ",\"quality\":",
+        quality: quality_of(head),
+    };
+    writeln!(
+        line,
+        ",\"width\":{width},\"height\":{height},\"kind\":\"{kind}\",\"sampling\":[{sampling}],\"intervals\":{intervals},\"restart\":{restart}{quality},\"scan_at\":{scan_at}}}"
+    )
 }
 
 /// Returns the text of a fault without a refusal.
@@ -83,39 +115,36 @@ fn fault_text(fault: Fault) -> &'static str {
     }
 }
 
-/// Returns the line of a file.
-fn text_line(alloc: Global, name: &str, head: &Result<Head, Fault>) -> Result<String, AllocError> {
-    let mut line = String::new(alloc);
+/// Appends the line of a file.
+fn write_text(line: &mut String, name: &str, head: &Result<Head, Fault>) -> Result<(), AllocError> {
     let name = Printable(name);
     write!(line, "{name}")?;
     match head {
-        Ok(head) => write_head(&mut line, head)?,
+        Ok(head) => write_head(line, head),
         Err(Fault::Refused(refusal)) => {
-            writeln!(line, ": refused {}: {refusal}", refusal.number())?;
+            writeln!(line, ": refused {}: {refusal}", refusal.number())
         }
-        Err(fault) => writeln!(line, ": {}", fault_text(*fault))?,
+        Err(fault) => writeln!(line, ": {}", fault_text(*fault)),
     }
-    Ok(line)
 }
 
-/// Returns the object of a file, with the line's end.
-fn object_line(
+/// Appends the object of a file, with the line's end.
+fn write_object(
     alloc: Global,
+    line: &mut String,
     name: &str,
     head: &Result<Head, Fault>,
-) -> Result<String, AllocError> {
-    let mut line = String::new(alloc);
+) -> Result<(), AllocError> {
     line.push_str("{\"file\":")?;
-    write_string(alloc, &mut line, name)?;
+    write_string(alloc, line, name)?;
     match head {
-        Ok(head) => write_members(&mut line, head)?,
+        Ok(head) => write_members(line, head),
         Err(Fault::Refused(refusal)) => {
             let number = refusal.number();
-            writeln!(line, ",\"refusal\":{number},\"why\":\"{refusal}\"}}")?;
+            writeln!(line, ",\"refusal\":{number},\"why\":\"{refusal}\"}}")
         }
-        Err(fault) => writeln!(line, ",\"why\":\"{}\"}}", fault_text(*fault))?,
+        Err(fault) => writeln!(line, ",\"why\":\"{}\"}}", fault_text(*fault)),
     }
-    Ok(line)
 }
 
 /// Returns the line of a file, or its JSON object: what its header says (T.81, B.2), or why nothing can be said.
@@ -125,9 +154,11 @@ pub fn describe(
     head: &Result<Head, Fault>,
     is_json: bool,
 ) -> Result<String, AllocError> {
+    let mut line = String::new(alloc);
     if is_json {
-        object_line(alloc, name, head)
+        write_object(alloc, &mut line, name, head)?;
     } else {
-        text_line(alloc, name, head)
+        write_text(&mut line, name, head)?;
     }
+    Ok(line)
 }

@@ -6,12 +6,13 @@ ghost use Rattle.jr_base.specs.declared.limits.TheConstants.{MAX_WORKERS};
 ghost use Rattle.jri_words.specs.Steps.{IsInDirectory};
 
 use crate::answers::Unasked;
-use crate::asking::{first_word, flag_word, refusal, resync_word, strings_of, workers_word};
+use crate::asking::{
+    first_word, flag_word, refusal, resync_word, strings_of, with_word, workers_of, workers_word,
+};
 use crate::describing::files_word;
 use crate::opening::wrong;
 use clap::{Arg, ArgAction, ArgMatches, Command};
 use jr_base::VERSION;
-use jr_base::limits::MAX_WORKERS;
 use std::alloc::{AllocError, Global};
 
 /// A request for the decoding of many files.
@@ -43,16 +44,16 @@ fn directory_word<'a>(alloc: Global) -> Arg<'a> {
 
 /// `jri --output-dir DIR [--workers N] [--first K] [--resync] [--quiet] FILE..`.
 fn command<'a>(alloc: Global) -> Result<Command<'a>, AllocError> {
-    Command::new(alloc, "jri")
+    let command = Command::new(alloc, "jri")
         .about("Decode baseline JPEG files to Netpbm images in a directory")
         .version(VERSION.trim_end())
-        .no_binary_name(true)
-        .arg(directory_word(alloc))?
-        .arg(workers_word(alloc))?
-        .arg(first_word(alloc))?
-        .arg(resync_word(alloc))?
-        .arg(flag_word(alloc, "quiet", "Do not print the reports"))?
-        .arg(files_word(alloc))
+        .no_binary_name(true);
+    let quiet = flag_word(alloc, "quiet", "Do not print the reports");
+    let command = with_word(Ok(command), directory_word(alloc));
+    let command = with_word(command, workers_word(alloc));
+    let command = with_word(command, first_word(alloc));
+    let command = with_word(command, resync_word(alloc));
+    with_word(with_word(command, quiet), files_word(alloc))
 }
 
 /// The name of standard input, which has no name for its image.
@@ -66,27 +67,24 @@ fn request_in(alloc: Global, matches: &ArgMatches<'_>) -> Result<ManyRequest, Un
     ensures some { IfOk result (λ r. 1 ≤ r.workers) }
     ensures few { IfOk result (λ r. r.workers ≤ MAX_WORKERS) }
 {
+    let Some(workers) = workers_of(matches) else {
+        return Err(wrong(alloc, ""));
+    };
+    let Some(directory) = matches.get_str("output-dir") else {
+        return Err(wrong(alloc, ""));
+    };
     let files = strings_of(alloc, matches, "files")?;
     if files.iter().any(|file| file.as_str() == STREAM) {
         return Err(wrong(alloc, NAMELESS));
     }
-    match (
-        matches.get_one::<u32>("workers"),
-        matches.get_str("output-dir"),
-    ) {
-        // the range of the argument's values, which the parser's contract does not repeat
-        (Some(workers), Some(directory)) if (1..=MAX_WORKERS).contains(&workers) => {
-            Ok(ManyRequest {
-                workers,
-                first: matches.get_one::<u32>("first"),
-                is_resync: matches.get_flag("resync"),
-                is_quiet: matches.get_flag("quiet"),
-                directory: String::from_str(alloc, directory)?,
-                files,
-            })
-        }
-        _ => Err(wrong(alloc, "")),
-    }
+    Ok(ManyRequest {
+        workers,
+        first: matches.get_one::<u32>("first"),
+        is_resync: matches.get_flag("resync"),
+        is_quiet: matches.get_flag("quiet"),
+        directory: String::from_str(alloc, directory)?,
+        files,
+    })
 }
 
 /// Returns what the arguments of `jri --output-dir` ask for, or the text to print if they ask for help or are wrong.

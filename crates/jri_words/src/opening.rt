@@ -90,6 +90,37 @@ pub fn warn_of_name<E: Write>(asked: &Asked, errors: &mut E) {
     }
 }
 
+/// Returns why an image is not written to where the arguments say: onto a terminal, or over the file that is read.
+fn objection<D: Devices>(devices: &D, asked: &Asked) -> Option<&'static str> {
+    match &asked.target {
+        Target::Output if devices.is_output_terminal() => Some(ONTO_TERMINAL),
+        Target::File(name) if is_own_input(devices, asked, name.as_str()) => Some(OWN_INPUT),
+        _ => None,
+    }
+}
+
+/// Returns what arguments that are text ask for.
+fn request_on<D: Devices>(
+    alloc: Global,
+    devices: &D,
+    words: &[String],
+) -> Result<DecodeRequest, Unasked>
+    ensures some { IfOk result (λ r. 1 ≤ r.asked.workers) }
+    ensures few { IfOk result (λ r. r.asked.workers ≤ MAX_WORKERS) }
+    ensures target { IfOk result (λ r. IsTargetOf (map string_bytes words.now) r.asked.target) }
+{
+    if has_outfile(words) {
+        return Err(wrong(alloc, NO_OUTFILE));
+    }
+    match decode_request(alloc, words) {
+        Ok(request) => match objection(devices, &request.asked) {
+            Some(text) => Err(wrong(alloc, text)),
+            None => Ok(request),
+        },
+        Err(unasked) => Err(unasked),
+    }
+}
+
 /// Returns what the arguments ask for, if there are some, on a machine whose output may be a terminal, and whose
 /// image's name may be that of the file that is read.
 pub fn understood<D: Devices>(
@@ -101,20 +132,9 @@ pub fn understood<D: Devices>(
     ensures few { IfOk result (λ r. r.asked.workers ≤ MAX_WORKERS) }
     ensures target { IfOk result (λ r. IfOk words (λ given. IsTargetOf (map string_bytes given.items) r.asked.target)) }
 {
-    let words = match words {
-        Ok(words) => words,
-        Err(error) => return Err(unread(alloc, &error)),
-    };
-    if has_outfile(&words) {
-        return Err(wrong(alloc, NO_OUTFILE));
-    }
-    let request = decode_request(alloc, &words)?;
-    match &request.asked.target {
-        Target::Output if devices.is_output_terminal() => Err(wrong(alloc, ONTO_TERMINAL)),
-        Target::File(name) if is_own_input(devices, &request.asked, name.as_str()) => {
-            Err(wrong(alloc, OWN_INPUT))
-        }
-        _ => Ok(request),
+    match words {
+        Ok(words) => request_on(alloc, devices, &words),
+        Err(error) => Err(unread(alloc, &error)),
     }
 }
 

@@ -1,45 +1,39 @@
-use Rattle.std.proofs.Common.{rules, Option, codes, map, ap, subst, ◌∙◌}
+use Rattle.std.proofs.Common.{Option, codes, map, ap, subst, ◌∙◌}
 use Rattle.std.specs.String.{string_bytes}
+use Rattle.std.proofs.lemmas.Result.{IfOk-weaker}
 use Rattle.clap.specs.Words.{Text, app_of, first_value, found_of}
 use Rattle.jri_words.specs.CommandLine.{IsFlag, IsTarget, file_named, reading}
 use Rattle.jri_words.proofs.CommandLemmas.{found_value, found_reading}
 use Rattle.jri_words.proofs.asking.decode_request.Goals as goal
 
-pub returns-in-Some-clause-some : goal.returns-in-Some-clause-some
-returns-in-Some-clause-some c = search rules
+pub returns-in-Ok-clause-file : goal.returns-in-Ok-clause-file
+returns-in-Ok-clause-file c =
+    let value = found_value c.in-Ok.matches (app_of c.in_ok-command.field-0) (map string_bytes c.args.words.now) c.in_ok-command.ensures c.in-Ok.ensures.matches (codes "file") in
+    IfOk-weaker c.request_in.result _ _ (λ r h. h ∙ ap file_named value) c.request_in.ensures.file
 
-pub returns-in-Some-clause-few : goal.returns-in-Some-clause-few
-returns-in-Some-clause-few c = search rules
-
-pub returns-in-Some-clause-file : goal.returns-in-Some-clause-file
-returns-in-Some-clause-file c =
-    c.in_ok-file.ensures ∙ ap file_named (found_value c.in-Ok.matches (app_of c.in_ok-command.field-0) (map string_bytes c.args.words.now) c.in_ok-command.ensures c.in-Ok.ensures.matches (codes "file"))
-
-pub returns-in-Some-clause-target : goal.returns-in-Some-clause-target
-returns-in-Some-clause-target c =
+pub returns-in-Ok-clause-target : goal.returns-in-Ok-clause-target
+returns-in-Ok-clause-target c =
     let words = map string_bytes c.args.words.now in
     let app = app_of c.in_ok-command.field-0 in
     let m = c.in-Ok.matches in
-    let target = c.in_ok-target.target in
     let force = found_reading m app words c.in_ok-command.ensures c.in-Ok.ensures.matches (codes "force") in
     let output = found_value m app words c.in_ok-command.ensures c.in-Ok.ensures.matches (codes "output") in
-    subst (λ (t : Option Text). IsTarget t (reading (codes "force") words) target) output
-    (subst (λ (t : Option Text). IsTarget (first_value (found_of m) (codes "output")) t target) force c.in_ok-target.ensures)
+    IfOk-weaker c.request_in.result _ _
+    (λ r h. subst (λ (t : Option Text). IsTarget t (reading (codes "force") words) r.asked.target) output
+    (subst (λ (t : Option Text). IsTarget (first_value (found_of m) (codes "output")) t r.asked.target) force h))
+    c.request_in.ensures.target
 
-pub returns-in-Some-clause-quiet : goal.returns-in-Some-clause-quiet
-returns-in-Some-clause-quiet c =
-    subst (λ (t : Option Text). IsFlag t c.verbosity_of-verbosity.result.is_quiet)
-    (found_reading c.in-Ok.matches (app_of c.in_ok-command.field-0) (map string_bytes c.args.words.now) c.in_ok-command.ensures c.in-Ok.ensures.matches (codes "quiet"))
-    c.verbosity_of-verbosity.ensures.quiet
+pub returns-in-Ok-clause-quiet : goal.returns-in-Ok-clause-quiet
+returns-in-Ok-clause-quiet c =
+    let value = found_reading c.in-Ok.matches (app_of c.in_ok-command.field-0) (map string_bytes c.args.words.now) c.in_ok-command.ensures c.in-Ok.ensures.matches (codes "quiet") in
+    IfOk-weaker c.request_in.result _ _ (λ r h. subst (λ (t : Option Text). IsFlag t r.asked.verbosity.is_quiet) value h) c.request_in.ensures.quiet
 
-pub returns-in-Some-clause-verbose : goal.returns-in-Some-clause-verbose
-returns-in-Some-clause-verbose c =
-    subst (λ (t : Option Text). IsFlag t c.verbosity_of-verbosity.result.is_verbose)
-    (found_reading c.in-Ok.matches (app_of c.in_ok-command.field-0) (map string_bytes c.args.words.now) c.in_ok-command.ensures c.in-Ok.ensures.matches (codes "verbose"))
-    c.verbosity_of-verbosity.ensures.verbose
+pub returns-in-Ok-clause-verbose : goal.returns-in-Ok-clause-verbose
+returns-in-Ok-clause-verbose c =
+    let value = found_reading c.in-Ok.matches (app_of c.in_ok-command.field-0) (map string_bytes c.args.words.now) c.in_ok-command.ensures c.in-Ok.ensures.matches (codes "verbose") in
+    IfOk-weaker c.request_in.result _ _ (λ r h. subst (λ (t : Option Text). IsFlag t r.asked.verbosity.is_verbose) value h) c.request_in.ensures.verbose
 
-pub returns-in-Some-clause-resync : goal.returns-in-Some-clause-resync
-returns-in-Some-clause-resync c =
-    subst (λ (t : Option Text). IsFlag t c.get_flag-is_resync.result)
-    (found_reading c.in-Ok.matches (app_of c.in_ok-command.field-0) (map string_bytes c.args.words.now) c.in_ok-command.ensures c.in-Ok.ensures.matches (codes "resync"))
-    (search (rules, c.get_flag-is_resync.ensures))
+pub returns-in-Ok-clause-resync : goal.returns-in-Ok-clause-resync
+returns-in-Ok-clause-resync c =
+    let value = found_reading c.in-Ok.matches (app_of c.in_ok-command.field-0) (map string_bytes c.args.words.now) c.in_ok-command.ensures c.in-Ok.ensures.matches (codes "resync") in
+    IfOk-weaker c.request_in.result _ _ (λ r h. subst (λ (t : Option Text). IsFlag t r.is_resync) value h) c.request_in.ensures.resync

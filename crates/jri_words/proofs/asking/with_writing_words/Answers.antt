@@ -1,17 +1,15 @@
-use Rattle.std.proofs.Common.{codes, refl}
-use Rattle.std.proofs.lemmas.Result.{IfOk-weaker}
-use Rattle.clap.specs.Words.{app_of, with_rule}
+use Rattle.std.proofs.Common.{codes}
+use Rattle.clap.specs.Words.{with_rule}
 use Rattle.jri_words.specs.CommandLine.{flag_rule, output_rule}
-use Rattle.jri_words.proofs.CommandLemmas.{adds}
+use Rattle.jri_words.proofs.CommandLemmas.{adds_word}
 use Rattle.jri_words.proofs.asking.with_writing_words.Goals as goal
 
 pub returns : goal.returns
-returns c =
-    let a = app_of c.args.command in
-    let b = with_rule a output_rule in
+returns c = λ app is_app.
+    let b = with_rule app output_rule in
     let d = with_rule b (flag_rule (codes "force")) in
     let e = with_rule d (flag_rule (codes "quiet")) in
-    let one = adds c.args.command c.output_word.result c.in_ok-arg.field-0 a output_rule c.in_ok-arg.ensures c.output_word.ensures.local refl c.output_word.ensures.rule in
-    let two = adds c.in_ok-arg.field-0 c.flag_word.result c.in_ok-arg-2.field-0 b (flag_rule (codes "force")) c.in_ok-arg-2.ensures c.flag_word.ensures.local one c.flag_word.ensures.rule in
-    let three = adds c.in_ok-arg-2.field-0 c.flag_word-2.result c.in_ok-arg-3.field-0 d (flag_rule (codes "quiet")) c.in_ok-arg-3.ensures c.flag_word-2.ensures.local two c.flag_word-2.ensures.rule in
-    IfOk-weaker c.arg-4.result _ _ (λ new h. adds c.in_ok-arg-3.field-0 c.flag_word-3.result new e (flag_rule (codes "verbose")) h c.flag_word-3.ensures.local three c.flag_word-3.ensures.rule) c.arg-4.ensures
+    let one = adds_word c.args.command c.with_word-with_output.result c.output_word.result app output_rule c.with_word-with_output.ensures c.output_word.ensures.local c.output_word.ensures.rule is_app in
+    let two = adds_word c.with_word-with_output.result c.with_word-with_force.result c.flag_word-force.result b (flag_rule (codes "force")) c.with_word-with_force.ensures c.flag_word-force.ensures.local c.flag_word-force.ensures.rule one in
+    let three = adds_word c.with_word-with_force.result c.with_word-with_quiet.result c.flag_word-quiet.result d (flag_rule (codes "quiet")) c.with_word-with_quiet.ensures c.flag_word-quiet.ensures.local c.flag_word-quiet.ensures.rule two in
+    adds_word c.with_word-with_quiet.result c.with_word.result c.flag_word-verbose.result e (flag_rule (codes "verbose")) c.with_word.ensures c.flag_word-verbose.ensures.local c.flag_word-verbose.ensures.rule three
