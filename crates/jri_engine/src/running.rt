@@ -12,8 +12,8 @@ use crate::engine::run;
 use crate::resync::run_resynced;
 use jr_base::Tally;
 use jr_mend::Break;
-use jr_wall::OpenGate;
 use jr_picture::Fault;
+use jr_wall::OpenGate;
 use jri_words::{
     DecodeRequest, Destination, Devices, Ending, Names, Noted, Target, answer, flushed, make_part,
     opened, place, report_breaks, report_ending, understood, unwritten, warn_of_name,

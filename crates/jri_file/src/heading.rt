@@ -7,9 +7,9 @@ ghost use Rattle.jri_file.specs.Files.{BeginsWithHead, IsFaultOf, IsFaultOfInput
 
 use crate::incoming::fault_of;
 use crate::reading::{MAX_FIRST, PART, TOO_MANY, read_more};
-use jr_picture::Fault;
 use jr_base::Tally;
 use jr_head::{Head, read_head};
+use jr_picture::Fault;
 use std::alloc::Global;
 use std::io::Read;
 

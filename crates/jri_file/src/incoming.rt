@@ -9,11 +9,11 @@ ghost use Rattle.jr_head.specs.Heads.{HeadOf};
 ghost use Rattle.jri_file.specs.Files.{IsFaultOf, IsFaultOfInput, IsScanOfFile, OfFile, fault_by};
 
 use crate::reading::{MAX_FIRST, PART, TOO_MANY, cut_on, read_more};
-use jr_picture::Fault;
 use crate::scanning::{scan_in_place, share};
 use jr_base::Tally;
 use jr_base::limits::MAX_FILE_BYTES;
 use jr_head::{Head, Refusal, read_head};
+use jr_picture::Fault;
 use jr_scan::{PartialScan, Scan};
 use std::alloc::Global;
 use std::io::Read;

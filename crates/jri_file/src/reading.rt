@@ -8,9 +8,9 @@ ghost use Rattle.jr_scan.specs.PartialScan.{HasCome};
 ghost use Rattle.jri_file.specs.Files.{IsUnread};
 ghost use Rattle.jri_file.specs.Reading.{CutsOn};
 
-use jr_picture::Fault;
 use jr_base::Tally;
 use jr_base::limits::MAX_FILE_BYTES;
+use jr_picture::Fault;
 use jr_scan::PartialScan;
 use std::io::Read;
 

@@ -7,9 +7,9 @@ ghost use Rattle.jri_file.specs.Files.{IsFaultOfInput, OfFile};
 
 use crate::heading::head_of_bytes;
 use crate::reading::{TOO_MANY, read_more};
-use jr_picture::Fault;
 use jr_base::Tally;
 use jr_head::Head;
+use jr_picture::Fault;
 use std::alloc::Global;
 use std::io::Read;
 

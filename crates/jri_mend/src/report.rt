@@ -5,8 +5,8 @@ use crate::headers::{Borrowed, BorrowedObject};
 use crate::preparing::Prepared;
 use crate::runs::{RunObject, run_at};
 use jr_mend::Choice;
-use jr_scan::ScanEnd;
 use jr_picture::Report;
+use jr_scan::ScanEnd;
 use std::alloc::{AllocError, Global};
 use std::io::{Result as IoResult, Write};
 
