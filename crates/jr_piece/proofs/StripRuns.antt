@@ -1,10 +1,8 @@
 -- Runs of an interval that follow one another, and the fronts that they are.
-use Rattle.std.proofs.Common.{◌≡◌, ℕ, zero, suc, ◌+◌, ◌-◌, ◌*◌, ◌<◌, ◌≤◌, min, inl, inr, Option, Some, None, List, [], ◌++◌, length, take, drop, length-append, refl, sym, ap, subst, ◌∙◌, arith}
+use Rattle.std.proofs.Common.{◌≡◌, ℕ, zero, suc, ◌+◌, ◌-◌, ◌*◌, ◌^◌, ◌<◌, ◌≤◌, min, inl, inr, Option, Some, None, List, [], ◌++◌, length, take, drop, length-append, refl, sym, ap, subst, ◌∙◌, arith}
 use Rattle.std.specs.Prelude.{◌↔◌, ℤ}
-use Rattle.std.specs.Option.{IfSome, IfNone}
 use Rattle.std.specs.List.{All}
 use Rattle.std.proofs.lemmas.Bool.{cases_lt}
-use Rattle.std.proofs.Math.Nat.{mul-le-mul_right}
 use Rattle.std.proofs.Math.Seq.{drop-append_seam, take-append_seam}
 use Rattle.jr_code.specs.Bits.{bits}
 use Rattle.jr_head.specs.Geometry.{order_of, IsLawful}
@@ -16,55 +14,18 @@ use Rattle.jr_scan.specs.IntervalValue.{IntervalValue}
 use Rattle.jr_scan.specs.Mcus.{HasNoDecoding, Decodes, Front, LongestFront, HasLongestFront}
 use Rattle.jr_mcu.specs.Mcus.{no_predictions}
 use Rattle.jr_scan.specs.Run.{RunOf, start_of_interval, whole_run, run_from, left_at, HasNoMcu, IsRun, RunRead, IsSoundRun}
-use Rattle.jr_scan.specs.McuReader.{McuReaderValue, HasRead, HasEnded, per_mcu}
+use Rattle.jr_scan.specs.McuReader.{McuReaderValue, HasRead, HasEnded}
 use Rattle.jr_mcu.proofs.McuLaws.{no_blocks}
 use Rattle.jr_scan.proofs.McuReaders.{front_of_run, left_is, no_room, run_of_front}
 use Rattle.jr_piece.specs.StripValue.{ReadingValue}
-use Rattle.jr_piece.specs.Strips.{AreBlocks, CanReadFrom, FirstMcus, IsNext, IsReading}
+use Rattle.jr_piece.specs.Strips.{AreBlocks, CanReadFrom, FirstMcus, IsNext, IsReading, MovesOn}
 use Rattle.jr_piece.proofs.Strips.{ShorterFront}
 
 -- what stands in a list behind a slice of all of it was written
 pub written : (n : ℕ) (xs ys : List (List ℤ)) → length xs ≡ n → take n (xs ++ ys) ≡ xs
 written n xs ys e = ap (λ (k : ℕ). take k (xs ++ ys)) (sym e) ∙ take-append_seam xs ys
 
--- what a reader of whole MCUs has read, which had read nothing of a run from this place on
-module _ (r r' : McuReaderValue) (j i : IntervalValue) (from : Place) (m n len : ℕ) (held ys : List (List ℤ)) (same : j ≡ i) (run : r.run ≡ run_from j from m) (start : r.mcu ≡ 0) (run' : r'.run ≡ r.run) (mcu : r'.mcu ≡ r.mcu + n)
-    (order : len ≡ length (order_of i.head)) (first : ys ≡ take (n * len) held) (read : HasRead r' (take (n * per_mcu r) held)) where
-  own : r.run ≡ run_from i from m
-  own = run ∙ ap (λ (v : IntervalValue). run_from v from m) same
-
-  per : per_mcu r ≡ len
-  per = ap (λ (o : RunOf). length (order_of o.interval.head)) own ∙ sym order
-
-  pub place : IsRun (run_from i from n) ys r'.place AllRead
-  place =
-      let count : r'.mcu ≡ n = omega (arith, mcu, start) in
-      let s1 = subst (λ (o : RunOf). IsRun (run_from o.interval o.from r'.mcu) (take (n * per_mcu r) held) r'.place AllRead) (run' ∙ own) read.run in
-      let s2 = subst (λ (k : ℕ). IsRun (run_from i from k) (take (n * per_mcu r) held) r'.place AllRead) count s1 in
-      let s3 = subst (λ (k : ℕ). IsRun (run_from i from n) (take (n * k) held) r'.place AllRead) per s2 in
-      subst (λ (zs : List (List ℤ)). IsRun (run_from i from n) zs r'.place AllRead) (sym first) s3
-
-  -- where they are fewer than may be, none follows: there was room for one more, or the bits can code no more
-  pub part : (most : ℕ) → IsLawful i.head → from.bit ≤ 8 * length i.bytes → length held ≡ most * len → ((n + 1) * per_mcu r ≤ length held → HasEnded r')
-      → ((k : ℕ) (zs : List (List ℤ)) (to : Place) → IsRun (run_from i from k) zs to AllRead → k ≤ m → k ≤ most) → FirstMcus (run_from i from m) n ys
-  part most lawful at room ended enough = record { to = r'.place; run = place; none = none }
-    where
-      within : r'.place.bit ≤ 8 * length i.bytes
-      within = omega (arith, at, place.bit, ap length place.spelled, length-append place.taken (left_at i r'.place), left_is i from)
-
-      none : n < m → HasNoMcu i r'.place
-      none lt = elim (cases_lt n most) [
-        | inr g ↦ no_room i from r'.place n m most ys lawful within place enough g lt
-        | inl l ↦
-            let more : (n + 1) * len ≤ most * len = mul-le-mul_right {m = n + 1} {n = most} len (omega (arith, l)) in
-            let fits : (n + 1) * per_mcu r ≤ length held = subst (λ (k : ℕ). (n + 1) * k ≤ length held) (sym per) (omega (arith, more, room)) in
-            elim (ended fits) [
-              | inl full ↦ absurd (omega (arith, full, mcu, start, lt, ap (λ (o : RunOf). o.mcus) (run' ∙ own)))
-              | inr stuck ↦ subst (λ (o : RunOf). HasNoMcu o.interval r'.place) (run' ∙ own) stuck
-            ]
-      ]
-
--- what a reader of whole MCUs has passed over, which had read nothing of a run from this place on
+-- what a reader of whole MCUs has read or skipped, which had read nothing of a run from this place on
 module _ (r r' : McuReaderValue) (j i : IntervalValue) (from : Place) (m n : ℕ) (ys : List (List ℤ)) (same : j ≡ i) (run : r.run ≡ run_from j from m) (start : r.mcu ≡ 0) (run' : r'.run ≡ r.run) (mcu : r'.mcu ≡ r.mcu + n)
     (read : HasRead r' ys) where
   its_run : r'.run ≡ run_from i from m
@@ -76,13 +37,26 @@ module _ (r r' : McuReaderValue) (j i : IntervalValue) (from : Place) (m n : ℕ
       let s = subst (λ (o : RunOf). IsRun (run_from o.interval o.from r'.mcu) ys r'.place AllRead) its_run read.run in
       subst (λ (k : ℕ). IsRun (run_from i from k) ys r'.place AllRead) count s
 
+  none_follows : HasEnded r' → n < m → HasNoMcu i r'.place
+  none_follows ended lt = elim ended [
+    | inl full ↦ absurd (omega (arith, full, mcu, start, lt, ap (λ (o : RunOf). o.mcus) its_run))
+    | inr stuck ↦ subst (λ (o : RunOf). HasNoMcu o.interval r'.place) its_run stuck
+  ]
+
   pub passed_part : (n < m → HasEnded r') → FirstMcus (run_from i from m) n ys
-  passed_part ended = record {
+  passed_part ended = record { to = r'.place; run = passed_place; none = λ lt. none_follows (ended lt) lt }
+
+  -- where they are fewer than may be, none follows: there was room for one more, or the bits can code no more
+  pub read_part : (most : ℕ) → IsLawful i.head → from.bit ≤ 8 * length i.bytes → (n < most → HasEnded r') → ((k : ℕ) (zs : List (List ℤ)) (to : Place) → IsRun (run_from i from k) zs to AllRead → k ≤ m → k ≤ most) → FirstMcus (run_from i from m) n ys
+  read_part most lawful at ended enough = record {
     to = r'.place;
     run = passed_place;
-    none = λ lt. elim (ended lt) [
-      | inl full ↦ absurd (omega (arith, full, mcu, start, lt, ap (λ (o : RunOf). o.mcus) its_run))
-      | inr stuck ↦ subst (λ (o : RunOf). HasNoMcu o.interval r'.place) its_run stuck
+    none = λ lt. elim (cases_lt n most) [
+      | inl l ↦ none_follows (ended l) lt
+      | inr g ↦
+          let p = passed_place in
+          let within : r'.place.bit ≤ 8 * length i.bytes = omega (arith, at, p.bit, ap length p.spelled, length-append p.taken (left_at i r'.place), left_is i from) in
+          no_room i from r'.place n m most ys lawful within p enough g lt
     ];
   }
 
@@ -152,12 +126,6 @@ at_start i = record {
   short = λ e. let z : Some start_of_interval ≡ None = e in cc;
 }
 
-said : (Q : Place → Type 0) (o : Option Place) → IfSome o Q → (p : Place) → o ≡ Some p → Q p
-said Q o h p e = subst (λ (x : Option Place). IfSome x Q) e h
-
-unsaid : (Q : Type 0) (o : Option Place) → IfNone o Q → o ≡ None → Q
-unsaid Q o h e = subst (λ (x : Option Place). IfNone x Q) e h
-
 -- the first MCUs of an interval, and those of the run behind them
 module _ (one : OneRun) (meet : RunsMeet) (shorter : ShorterFront) (i : IntervalValue) (lawful : IsLawful i.head) (first : ℕ) (zs : List (List ℤ)) (p : Place) (next : IsNext i first zs p) (n m : ℕ) (ys : List (List ℤ)) (here : FirstMcus (run_from i p m) n ys) (few : first + n ≤ i.mcus) where
   joined : IsRun (run_from i start_of_interval (first + n)) (zs ++ ys) here.to AllRead
@@ -177,21 +145,37 @@ module _ (one : OneRun) (meet : RunsMeet) (shorter : ShorterFront) (i : Interval
   pub going : (q : Place) → IsRun (run_from i p n) ys q AllRead → CanReadFrom i q → IsNext i (first + n) (zs ++ ys) q
   going q r can = record { run = meet i start_of_interval first n (read _ zs p AllRead next.run) (read _ ys q AllRead r) lawful refl; can = can }
 
-  pub reading : (q : Option Place) → first + m ≤ i.mcus → IfSome q (λ x. IsRun (run_from i p n) ys x AllRead) → IfSome q (CanReadFrom i) → IfNone q (n < m) → IsReading (record { interval = i; first = first + n; next = q })
-  reading q room r can none = record {
+  reading : (q : Option Place) → first + m ≤ i.mcus → ((x : Place) → q ≡ Some x → IsRun (run_from i p n) ys x AllRead) → ((x : Place) → q ≡ Some x → CanReadFrom i x) → (q ≡ None → n < m) → IsReading (record { interval = i; first = first + n; next = q })
+  reading q room there can none = record {
     blocks = zs ++ ys;
     front = front;
-    next = λ x e. going x (said _ q r x e) (said _ q can x e);
-    longest = λ e. longest (unsaid _ q none e);
-    short = λ e. let lt : n < m = unsaid _ q none e in omega (arith, lt, room);
+    next = λ x e. going x (there x e) (can x e);
+    longest = λ e. longest (none e);
+    short = λ e. let lt = none e in omega (arith, lt, room);
   }
 
   -- fewer than are asked for are read only where no further one follows
-  pub ended : (most : ℕ) → Front i first zs → m ≡ min most (i.mcus - first) → n < most → HasLongestFront i (first + n)
+  ended : (most : ℕ) → Front i first zs → m ≡ min most (i.mcus - first) → n < most → HasLongestFront i (first + n)
   ended most f asked few_read = elim (cases_lt n m) [
     | inl l ↦ (zs ++ ys, longest l)
     | inr g ↦ (zs ++ ys, whole i (first + n) (zs ++ ys) front (omega (arith, f.at_most, few, g, asked, few_read)))
   ]
+
+-- the first n MCUs of a run of those that are asked for and left
+pub moves : (one : OneRun) (meet : RunsMeet) (shorter : ShorterFront) (i : IntervalValue) (lawful : IsLawful i.head) (first : ℕ) (p : Place) → IsReading (record { interval = i; first = first; next = Some p }) → (most m n : ℕ) → m ≡ min most (i.mcus - first) → n ≤ m → i.mcus < 2 ^ 32
+    → (ys : List (List ℤ)) → FirstMcus (run_from i p m) n ys → (q : Option Place) → ((x : Place) → q ≡ Some x → IsRun (run_from i p n) ys x AllRead) → ((x : Place) → q ≡ Some x → CanReadFrom i x) → (q ≡ None → n < m) → MovesOn i first p most n ys q
+moves one meet shorter i lawful first p at most m n asked le small ys here q there can none =
+    let few : first + n ≤ i.mcus = omega (arith, asked, le, at.front.at_most) in
+    let next = at.next p refl in
+    record {
+      few = omega (arith, asked, le);
+      fits = omega (arith, few, small);
+      are = blocks one meet shorter i lawful first at.blocks p next n m ys here few;
+      to = here.to;
+      run = here.run;
+      reading = reading one meet shorter i lawful first at.blocks p next n m ys here few q (omega (arith, asked, at.front.at_most)) there can none;
+      last = ended one meet shorter i lawful first at.blocks p next n m ys here few most at.front asked;
+    }
 
 abbrev pub OneFront : Type 0
 OneFront = (i : IntervalValue) (k : ℕ) (zs ys : List (List ℤ)) → Front i k zs → Front i k ys → zs ≡ ys

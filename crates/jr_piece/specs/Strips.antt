@@ -1,5 +1,5 @@
 -- Strips: consecutive whole MCUs of an interval, as far as its bits contain them, whatever follows.
-use Rattle.std.specs.Prelude.{◌≡◌, ℕ, ◌+◌, ◌-◌, ◌*◌, ◌<◌, ◌≤◌, min, Bool, true, false, List, [], ◌∷◌, ◌++◌, map, length, take, drop, slice_get, Some, None, ℤ}
+use Rattle.std.specs.Prelude.{◌≡◌, ℕ, ◌+◌, ◌-◌, ◌*◌, ◌^◌, ◌<◌, ◌≤◌, min, Bool, true, false, List, [], ◌∷◌, ◌++◌, map, length, take, drop, slice_get, Option, Some, None, ℤ}
 use Rattle.std.specs.List.{All}
 use Rattle.std.specs.declared.sync.Arc.{Arc}
 use Rattle.std.specs.Arc.{arc_value}
@@ -91,6 +91,16 @@ pub record IsReading (r : ReadingValue) : Type 0 where
   pub next : (p : Place) → r.next ≡ Some p → IsNext r.interval r.first blocks p
   pub longest : r.next ≡ None → LongestFront r.interval r.first blocks
   pub short : r.next ≡ None → r.first < r.interval.mcus
+
+-- behind the first MCUs of an interval, of at most `most` MCUs these n are read or skipped; the reading goes on at the next place
+pub record MovesOn (i : IntervalValue) (first : ℕ) (from : Place) (most n : ℕ) (ys : List (List ℤ)) (next : Option Place) : Type 0 where
+  pub few : n ≤ most
+  pub fits : first + n < 2 ^ 32
+  pub are : AreBlocks i first n ys
+  pub to : Place
+  pub run : IsRun (run_from i from n) ys to AllRead
+  pub reading : IsReading (record { interval = i; first = first + n; next = next })
+  pub last : n < most → HasLongestFront i (first + n)
 
 -- the strips that these Arcs share
 abbrev pub shared_strips : List (Arc StripValue Global) → List StripValue

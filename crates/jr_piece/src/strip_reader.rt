@@ -2,12 +2,11 @@
 
 ghost use Rattle.std.specs.Prelude.{◌≡◌, ◌≤◌, ◌<◌, ◌+◌, ℕ, ℤ, List, Option, None, Some, false, IsTrue, IfOk, IfErr, IfSome, IfNone, OnSome};
 ghost use Rattle.std.specs.Arc.{arc_value};
-ghost use Rattle.jr_head.specs.Geometry.{IsLawful};
 ghost use Rattle.jr_scan.specs.declared.place.RunEnd.TheVariants.{AllRead};
 ghost use Rattle.jr_scan.specs.Guesses.{AreGuessesOf};
 ghost use Rattle.jr_scan.specs.Mcus.{Decodes, Front, HasNoDecoding, HasLongestFront};
 ghost use Rattle.jr_scan.specs.Run.{start_of_interval, IsRun, run_from};
-ghost use Rattle.jr_piece.specs.Strips.{CanReadFrom, FirstMcus};
+ghost use Rattle.jr_piece.specs.Strips.{CanReadFrom, IsReading, MovesOn};
 
 use crate::placed_strip::PlacedStrip;
 use crate::strip::CodedStrip;
@@ -36,36 +35,44 @@ fn most_mcus(interval: &Interval, from: Place, mcus: u32) -> u32
     coded.min(u64::from(mcus)) as u32
 }
 
-/// Reads the whole MCUs of a run, at most `mcus`, over the blocks that are there.
+/// Returns where a reader is that has read `whole` of `mcus` MCUs, unless these are fewer.
+fn place_after(reader: &McuReader<'_>, whole: u32, mcus: u32) -> Option<Place>
+    requires { whole ≤ mcus }
+    ensures place { (p : Place) → result ≡ Some p → p ≡ reader.now.place }
+    ensures can { (p : Place) → result ≡ Some p → CanReadFrom reader.now.run.interval p }
+    ensures none { result ≡ None → whole < mcus }
+{
+    if whole < mcus {
+        return None;
+    }
+    Some(reader.place())
+}
+
+/// Reads the next whole MCUs of an interval, at most `most`, over the blocks that are there. `first` of its MCUs are
+/// before the position.
 fn read_run(
     blocks: Vec<Coefficients>,
     interval: &Interval,
+    first: u32,
     from: Place,
-    mcus: u32,
+    most: u32,
 ) -> Result<Run, Memory>
-    requires { CanReadFrom interval.now from }
-    ensures lawful { IfOk result (λ _. IsLawful interval.now.head) }
-    ensures few { IfOk result (λ r. r.mcus ≤ mcus) }
-    ensures run { IfOk result (λ r. FirstMcus (run_from interval.now from mcus) r.mcus r.blocks.items) }
-    ensures next { IfOk result (λ r. IfSome r.next (λ p. IsRun (run_from interval.now from r.mcus) r.blocks.items p AllRead)) }
-    ensures can { IfOk result (λ r. IfSome r.next (CanReadFrom interval.now)) }
-    ensures none { IfOk result (λ r. IfNone r.next (r.mcus < mcus)) }
+    requires { IsReading (record { interval = interval.now; first = first; next = Some from }) }
+    ensures { IfOk result (λ r. MovesOn interval.now first from most r.mcus r.blocks.items r.next) }
 {
+    let mcus = most.min(interval.mcus() - first);
     let per_mcu = interval.head().order().len();
-    let most = most_mcus(interval, from, mcus) as usize;
+    let coded = most_mcus(interval, from, mcus) as usize;
     let mut blocks = blocks;
-    blocks.resize(most * per_mcu, Coefficients::zeros())?;
+    blocks.resize(coded * per_mcu, Coefficients::zeros())?;
     let mut reader = McuReader::at(interval.as_ref(), from, mcus);
     let read = reader.read(blocks.as_mut_slice());
     blocks.truncate(read as usize * per_mcu);
+    let next = place_after(&reader, read, mcus);
     Ok(Run {
         blocks,
         mcus: read,
-        next: if read == mcus {
-            Some(reader.place())
-        } else {
-            None
-        },
+        next,
     })
 }
 
@@ -76,26 +83,19 @@ struct Passed {
     next: Option<Place>,
 }
 
-/// Skips the whole MCUs of a run, at most `mcus`, those that the speculative reads have without reading them. Keeps
-/// none of their blocks.
-fn pass_run(interval: &Interval, from: Place, guesses: &Guesses, mcus: u32) -> Passed
-    requires can { CanReadFrom interval.now from }
+/// Skips the next whole MCUs of an interval, at most `most`, those that the speculative reads have without reading
+/// them. Keeps none of their blocks. `first` of its MCUs are before the position.
+fn pass_run(interval: &Interval, first: u32, from: Place, guesses: &Guesses, most: u32) -> Passed
+    requires at { IsReading (record { interval = interval.now; first = first; next = Some from }) }
     requires same { AreGuessesOf interval.now guesses.now }
-    ensures lawful { IsLawful interval.now.head }
-    ensures few { result.mcus ≤ mcus }
-    ensures run { (ys : List (List ℤ)) × FirstMcus (run_from interval.now from mcus) result.mcus ys × IfSome result.next (λ p. IsRun (run_from interval.now from result.mcus) ys p AllRead) }
-    ensures can { IfSome result.next (CanReadFrom interval.now) }
-    ensures none { IfNone result.next (result.mcus < mcus) }
+    ensures { (ys : List (List ℤ)) × MovesOn interval.now first from most result.mcus ys result.next }
 {
     // By its contract an interval's header is valid.
     let _lawful = interval.head();
+    let mcus = most.min(interval.mcus() - first);
     let mut reader = McuReader::at(interval.as_ref(), from, mcus);
     let passed = reader.skip_by(guesses, mcus);
-    let next = if passed == mcus {
-        Some(reader.place())
-    } else {
-        None
-    };
+    let next = place_after(&reader, passed, mcus);
     Passed { mcus: passed, next }
 }
 
@@ -184,9 +184,8 @@ impl StripReader {
             return Ok(None);
         };
         let interval = Arc::try_clone(&self.interval)?;
-        let asked = most.min(interval.mcus() - self.first);
         let blocks = self.spare.take().unwrap_or(Vec::new(alloc));
-        let Run { blocks, mcus, next } = read_run(blocks, &interval, from, asked)?;
+        let Run { blocks, mcus, next } = read_run(blocks, &interval, self.first, from, most)?;
         if mcus == 0 {
             return Ok(None);
         }
@@ -235,8 +234,7 @@ impl StripReader {
             return Ok(None);
         };
         let interval = Arc::try_clone(&self.interval)?;
-        let asked = most.min(interval.mcus() - self.first);
-        let passed = pass_run(&interval, from, guesses, asked);
+        let passed = pass_run(&interval, self.first, from, guesses, most);
         if passed.mcus == 0 {
             return Ok(None);
         }

@@ -1,100 +1,59 @@
-use Rattle.std.proofs.Common.{◌≡◌, ℕ, ◌+◌, ◌-◌, ◌≤◌, min, sym, ap, subst, ◌∙◌, arith, rules}
+use Rattle.std.proofs.Common.{◌≡◌, ℕ, ◌+◌, ◌≤◌, Option, Some, List, sym, ap, subst, arith, rules}
+use Rattle.std.specs.Prelude.{ℤ}
 use Rattle.std.specs.Arc.{arc_value}
-use Rattle.std.specs.Option.{IfSome}
-use Rattle.jr_head.specs.Geometry.{IsLawful}
 use Rattle.jr_scan.specs.declared.place.Place.{Place}
-use Rattle.jr_scan.specs.declared.place.RunEnd.TheVariants.{AllRead}
 use Rattle.jr_scan.specs.IntervalValue.{IntervalValue}
-use Rattle.jr_scan.specs.Run.{IsRun, run_from}
 use Rattle.jr_scan.specs.Mcus.{HasLongestFront}
 use Rattle.jr_piece.specs.StripValue.{CodedStripValue, ReadingValue}
-use Rattle.jr_piece.specs.Strips.{CanReadFrom, FirstMcus, HasItsBlocks}
-use Rattle.jr_piece.proofs.StripRuns.{blocks, reading, ended}
-use Rattle.jr_piece.proofs.ScanLaws.{one_run, runs_meet, shorter_front}
+use Rattle.jr_piece.specs.Strips.{HasItsBlocks, IsReading, MovesOn}
 use Rattle.jr_piece.proofs.strip_reader.StripReader.next.Goals as goal
 
 pub read_run-requires : goal.read_run-requires
 read_run-requires c =
-    let at : c.deref-2.result.now ≡ arc_value c.self.inside.interval = search rules in
-    let n = c.self.invariant.next c.in-Some.from c.in-Some.is in
-    subst (λ (i : IntervalValue). CanReadFrom i c.in-Some.from) (sym at) n.can
+    let i = arc_value c.self.inside.interval in
+    let at : c.deref.result.now ≡ i = search rules in
+    let here = subst (λ (o : Option Place). IsReading (record { interval = i; first = c.self.inside.first; next = o })) c.in-Some.is c.self.invariant in
+    subst (λ (v : IntervalValue). IsReading (record { interval = v; first = c.self.inside.first; next = Some c.in-Some.from })) (sym at) here
 
-room : (i j : IntervalValue) (first n m most mcus : ℕ) → j ≡ i → n ≤ m → m ≡ min most (mcus - first) → mcus ≡ j.mcus → first ≤ i.mcus → first + n ≤ i.mcus
-room i j first n m most mcus e few asked is le = let k : mcus ≡ i.mcus = is ∙ ap (λ (v : IntervalValue). v.mcus) e in omega (arith, few, asked, k, le)
+moved : (i j : IntervalValue) (first : ℕ) (from : Place) (most n : ℕ) (ys : List (List ℤ)) (next : Option Place) → j ≡ i → MovesOn j first from most n ys next → MovesOn i first from most n ys next
+moved i j first from most n ys next e m = subst (λ (v : IntervalValue). MovesOn v first from most n ys next) e m
 
 pub of-requires : goal.of-requires
 of-requires c =
     let i = arc_value c.self.inside.interval in
-    let at : c.deref-2.result.now ≡ i = search rules in
-    let other : c.deref.result.now ≡ i = search rules in
-    let own : arc_value c.in_ok-interval.interval ≡ i = search rules in
-    let lawful = subst (λ (v : IntervalValue). IsLawful v.head) at c.in_ok-blocks.ensures.lawful in
     let r = c.in_ok-blocks.field-0 in
-    let run : FirstMcus (run_from c.deref-2.result.now c.in-Some.from c.min-asked.result) r.mcus r.blocks.items = search (rules, c.in_ok-blocks.ensures.run) in
-    let was : FirstMcus (run_from i c.in-Some.from c.min-asked.result) r.mcus r.blocks.items = subst (λ (v : IntervalValue). FirstMcus (run_from v c.in-Some.from c.min-asked.result) r.mcus r.blocks.items) at run in
-    let least : c.min-asked.result ≡ min c.args.most (c.mcus.result - c.self.inside.first) = search (rules, c.min-asked.ensures) in
-    let few = room i c.deref.result.now c.self.inside.first r.mcus c.min-asked.result c.args.most c.mcus.result other c.in_ok-blocks.ensures.few least c.mcus.ensures c.self.invariant.front.at_most in
-    let blocks = blocks one_run runs_meet shorter_front i lawful c.self.inside.first c.self.invariant.blocks c.in-Some.from (c.self.invariant.next c.in-Some.from c.in-Some.is) r.mcus c.min-asked.result r.blocks.items was few in
-    let coded =
-    subst (λ (v : IntervalValue). HasItsBlocks (record { interval = v; first = c.self.inside.first; mcus = r.mcus; blocks = r.blocks.items })) (sym own) blocks in
-    search coded
+    let own : arc_value c.in_ok-interval.interval ≡ i = search rules in
+    let m = moved i c.deref.result.now c.self.inside.first c.in-Some.from c.args.most r.mcus r.blocks.items r.next (search rules) c.in_ok-blocks.ensures in
+    search (subst (λ (v : IntervalValue). HasItsBlocks (record { interval = v; first = c.self.inside.first; mcus = r.mcus; blocks = r.blocks.items })) (sym own) m.are)
 
 pub invariant_of-self-2 : goal.invariant_of-self-2
 invariant_of-self-2 c =
-    let i = arc_value c.self.inside.interval in
-    let at : c.deref-2.result.now ≡ i = search rules in
-    let other : c.deref.result.now ≡ i = search rules in
-    let lawful = subst (λ (v : IntervalValue). IsLawful v.head) at c.in_ok-blocks.ensures.lawful in
     let r = c.in_ok-blocks.field-0 in
-    let run : FirstMcus (run_from c.deref-2.result.now c.in-Some.from c.min-asked.result) r.mcus r.blocks.items = search (rules, c.in_ok-blocks.ensures.run) in
-    let was : FirstMcus (run_from i c.in-Some.from c.min-asked.result) r.mcus r.blocks.items = subst (λ (v : IntervalValue). FirstMcus (run_from v c.in-Some.from c.min-asked.result) r.mcus r.blocks.items) at run in
-    let least : c.min-asked.result ≡ min c.args.most (c.mcus.result - c.self.inside.first) = search (rules, c.min-asked.ensures) in
-    let few = room i c.deref.result.now c.self.inside.first r.mcus c.min-asked.result c.args.most c.mcus.result other c.in_ok-blocks.ensures.few least c.mcus.ensures c.self.invariant.front.at_most in
-    let under : c.self.inside.first + c.min-asked.result ≤ i.mcus = omega (arith, least, c.mcus.ensures, ap (λ (v : IntervalValue). v.mcus) other, c.self.invariant.front.at_most) in
-    let told = reading one_run runs_meet shorter_front i lawful c.self.inside.first c.self.invariant.blocks c.in-Some.from (c.self.invariant.next c.in-Some.from c.in-Some.is) r.mcus c.min-asked.result r.blocks.items was few
-    r.next under (subst (λ (v : IntervalValue). IfSome r.next (λ (p : Place). IsRun (run_from v c.in-Some.from r.mcus) r.blocks.items p AllRead)) at c.in_ok-blocks.ensures.next)
-    (subst (λ (v : IntervalValue). IfSome r.next (CanReadFrom v)) at c.in_ok-blocks.ensures.can) c.in_ok-blocks.ensures.none in
-    search (rules, told)
+    let m = moved (arc_value c.self.inside.interval) c.deref.result.now c.self.inside.first c.in-Some.from c.args.most r.mcus r.blocks.items r.next (search rules) c.in_ok-blocks.ensures in
+    search (rules, m.reading)
 
 pub returns-then-mcus-eq0-clause-none : goal.returns-then-mcus-eq0-clause-none
 returns-then-mcus-eq0-clause-none c = λ some.
     let i = arc_value c.self.inside.interval in
-    let at : c.deref-2.result.now ≡ i = search rules in
-    let other : c.deref.result.now ≡ i = search rules in
-    let lawful = subst (λ (v : IntervalValue). IsLawful v.head) at c.in_ok-blocks.ensures.lawful in
     let r = c.in_ok-blocks.field-0 in
-    let run : FirstMcus (run_from c.deref-2.result.now c.in-Some.from c.min-asked.result) r.mcus r.blocks.items = search (rules, c.in_ok-blocks.ensures.run) in
-    let was : FirstMcus (run_from i c.in-Some.from c.min-asked.result) r.mcus r.blocks.items = subst (λ (v : IntervalValue). FirstMcus (run_from v c.in-Some.from c.min-asked.result) r.mcus r.blocks.items) at run in
-    let least : c.min-asked.result ≡ min c.args.most (c.mcus.result - c.self.inside.first) = search (rules, c.min-asked.ensures) in
-    let few = room i c.deref.result.now c.self.inside.first r.mcus c.min-asked.result c.args.most c.mcus.result other c.in_ok-blocks.ensures.few least c.mcus.ensures c.self.invariant.front.at_most in
-    let asked = least ∙ ap (λ (k : ℕ). min c.args.most (k - c.self.inside.first)) (c.mcus.ensures ∙ ap (λ (v : IntervalValue). v.mcus) other) in
-    let last = ended one_run runs_meet shorter_front i lawful c.self.inside.first c.self.invariant.blocks c.in-Some.from (c.self.invariant.next c.in-Some.from c.in-Some.is) r.mcus c.min-asked.result r.blocks.items was few
-    c.args.most c.self.invariant.front asked (omega (arith, c.if-mcus-eq0.true, some)) in
-    let here = subst (λ (k : ℕ). HasLongestFront i k) (omega (arith, c.if-mcus-eq0.true)) last in
-    subst (λ (v : ReadingValue). HasLongestFront v.interval v.first) c.self.view_is here
+    let m = moved i c.deref.result.now c.self.inside.first c.in-Some.from c.args.most r.mcus r.blocks.items r.next (search rules) c.in_ok-blocks.ensures in
+    let last = m.last (omega (arith, c.if-mcus-eq0.true, some)) in
+    subst (λ (v : ReadingValue). HasLongestFront v.interval v.first) c.self.view_is (subst (λ (k : ℕ). HasLongestFront i k) (omega (arith, c.if-mcus-eq0.true)) last)
 
 pub returns-clause-last : goal.returns-clause-last
 returns-clause-last c = λ lt.
-    let i = arc_value c.self.inside.interval in
-    let at : c.deref-2.result.now ≡ i = search rules in
-    let other : c.deref.result.now ≡ i = search rules in
-    let lawful = subst (λ (v : IntervalValue). IsLawful v.head) at c.in_ok-blocks.ensures.lawful in
     let r = c.in_ok-blocks.field-0 in
-    let run : FirstMcus (run_from c.deref-2.result.now c.in-Some.from c.min-asked.result) r.mcus r.blocks.items = search (rules, c.in_ok-blocks.ensures.run) in
-    let was : FirstMcus (run_from i c.in-Some.from c.min-asked.result) r.mcus r.blocks.items = subst (λ (v : IntervalValue). FirstMcus (run_from v c.in-Some.from c.min-asked.result) r.mcus r.blocks.items) at run in
-    let least : c.min-asked.result ≡ min c.args.most (c.mcus.result - c.self.inside.first) = search (rules, c.min-asked.ensures) in
-    let few = room i c.deref.result.now c.self.inside.first r.mcus c.min-asked.result c.args.most c.mcus.result other c.in_ok-blocks.ensures.few least c.mcus.ensures c.self.invariant.front.at_most in
-    let asked = least ∙ ap (λ (k : ℕ). min c.args.most (k - c.self.inside.first)) (c.mcus.ensures ∙ ap (λ (v : IntervalValue). v.mcus) other) in
-    ended one_run runs_meet shorter_front i lawful c.self.inside.first c.self.invariant.blocks c.in-Some.from (c.self.invariant.next c.in-Some.from c.in-Some.is) r.mcus c.min-asked.result r.blocks.items was few
-    c.args.most c.self.invariant.front asked (omega (arith, ap (λ (s : CodedStripValue). s.mcus) c.of.ensures, lt))
+    let m = moved (arc_value c.self.inside.interval) c.deref.result.now c.self.inside.first c.in-Some.from c.args.most r.mcus r.blocks.items r.next (search rules) c.in_ok-blocks.ensures in
+    m.last (omega (arith, ap (λ (s : CodedStripValue). s.mcus) c.of.ensures, lt))
 
 pub returns-clause-within : goal.returns-clause-within
 returns-clause-within c =
-    let i = arc_value c.self.inside.interval in
-    let other : c.deref.result.now ≡ i = search rules in
-    let least : c.min-asked.result ≡ min c.args.most (c.mcus.result - c.self.inside.first) = search (rules, c.min-asked.ensures) in
-    let told = room i c.deref.result.now c.self.inside.first c.in_ok-blocks.field-0.mcus c.min-asked.result c.args.most c.mcus.result other c.in_ok-blocks.ensures.few least c.mcus.ensures c.self.invariant.front.at_most in
-    subst (λ (v : ReadingValue). c.self.inside.first + c.in_ok-blocks.field-0.mcus ≤ v.interval.mcus) c.self.view_is told
+    let r = c.in_ok-blocks.field-0 in
+    let m = moved (arc_value c.self.inside.interval) c.deref.result.now c.self.inside.first c.in-Some.from c.args.most r.mcus r.blocks.items r.next (search rules) c.in_ok-blocks.ensures in
+    subst (λ (v : ReadingValue). c.self.inside.first + r.mcus ≤ v.interval.mcus) c.self.view_is m.are.front.at_most
+
+pub returns-clause-few : goal.returns-clause-few
+returns-clause-few c = omega (arith, ap (λ (s : CodedStripValue). s.mcus) c.of.ensures, c.in_ok-blocks.ensures.few)
 
 pub returns-clause-first : goal.returns-clause-first
 returns-clause-first c = search (ap (λ (s : CodedStripValue). s.first) c.of.ensures, ap (λ (r : ReadingValue). r.first) c.self.view_is)
