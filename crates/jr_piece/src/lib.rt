@@ -20,6 +20,6 @@ pub use laws::{
 pub use piece::{OrderError, Piece};
 pub use placed_strip::PlacedStrip;
 pub use strip::{CodedStrip, Strip};
-pub use strip_reader::StripReader;
+pub use strip_reader::{StripReader, place_after};
 pub use transforming::transform_blocks;
 pub use unit_sink::UnitSink;

@@ -36,8 +36,9 @@ fn most_mcus(interval: &Interval, from: Place, mcus: u32) -> u32
 }
 
 /// Returns where a reader is that has read `whole` of `mcus` MCUs, unless these are fewer.
-fn place_after(reader: &McuReader<'_>, whole: u32, mcus: u32) -> Option<Place>
+pub fn place_after(reader: &McuReader<'_>, whole: u32, mcus: u32) -> Option<Place>
     requires { whole ≤ mcus }
+    ensures whole { (p : Place) → result ≡ Some p → whole ≡ mcus }
     ensures place { (p : Place) → result ≡ Some p → p ≡ reader.now.place }
     ensures can { (p : Place) → result ≡ Some p → CanReadFrom reader.now.run.interval p }
     ensures none { result ≡ None → whole < mcus }

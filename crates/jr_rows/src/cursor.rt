@@ -1,17 +1,18 @@
 //! A position between two MCUs of a scan, from which one can read or skip.
 
-ghost use Rattle.std.specs.Prelude.{◌≡◌, ◌+◌, ◌*◌, ◌<◌, ◌≤◌, ℕ, Some, None, [], length, slice_index_or, IfSome};
+ghost use Rattle.std.specs.Prelude.{◌≡◌, ◌+◌, ◌*◌, ◌<◌, ◌≤◌, ℕ, Some, [], length, slice_index_or, IfSome};
 ghost use Rattle.jr_head.specs.Geometry.{order_of};
 ghost use Rattle.jr_scan.specs.declared.place.Place.{Place};
 ghost use Rattle.jr_scan.specs.Guesses.{AreGuessesOf};
 ghost use Rattle.jr_piece.specs.Outcome.{IsOutcome};
 ghost use Rattle.jr_piece.specs.PieceValue.{PieceValue};
-ghost use Rattle.jr_piece.specs.Strips.{CanReadFrom, TellsSound, units_before};
+ghost use Rattle.jr_piece.specs.Strips.{TellsSound, units_before};
 ghost use Rattle.jr_piece.specs.Units.{CodesUnits, zero_block};
 ghost use Rattle.jr_rows.specs.Cursors.{IsPlaceAfter, interval_start};
 
 use jr_base::Coefficients;
 use jr_mcu::Kept;
+use jr_piece::place_after;
 use jr_scan::{Guesses, IntervalRef, McuReader, Place};
 
 /// A position between two MCUs of a scan.
@@ -34,20 +35,6 @@ pub(crate) fn zero_from(blocks: &mut [Coefficients], first: usize)
     for k in first..blocks.len() {
         blocks[k] = Coefficients::zeros();
     }
-}
-
-/// Returns where a reader is that has read `whole` of `mcus` MCUs, unless these are fewer.
-fn place_after(reader: &McuReader<'_>, whole: u32, mcus: u32) -> Option<Place>
-    requires { whole ≤ mcus }
-    ensures whole { (p : Place) → result ≡ Some p → whole ≡ mcus }
-    ensures place { (p : Place) → result ≡ Some p → p ≡ reader.now.place }
-    ensures can { (p : Place) → result ≡ Some p → CanReadFrom reader.now.run.interval p }
-    ensures none { result ≡ None → whole < mcus }
-{
-    if whole < mcus {
-        return None;
-    }
-    Some(reader.place())
 }
 
 impl Cursor {
