@@ -8,8 +8,8 @@ use std::alloc::Global;
 use std::io::{Stderr, Write};
 use std::sync::Arc;
 
-/// A small file and its scan, and where the lines round a call are written. A method for each call tells whether it did
-/// right; None where it said that it was out of memory and left all as it promises.
+/// A small file and its scan, and where the lines before and after a call are written. A method for each call returns whether
+/// it is right, or `None` if it reports that allocation fails.
 #[derive(Drop)]
 pub(crate) struct Caller<'a> {
     pub alloc: Global,
@@ -49,15 +49,15 @@ impl<'a> Caller<'a> {
         self.scan.interval(number).ok()
     }
 
-    fn tell(&mut self, line: &[u8]) {
+    fn write_line(&mut self, line: &[u8]) {
         let _ = self.errors.write_all(line);
     }
 
     pub(crate) fn begin(&mut self) {
-        self.tell(b"call begins\n");
+        self.write_line(b"call begins\n");
     }
 
     pub(crate) fn end(&mut self) {
-        self.tell(b"call ends\n");
+        self.write_line(b"call ends\n");
     }
 }

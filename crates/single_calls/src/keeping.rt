@@ -1,4 +1,4 @@
-//! Calls that cut a scan, and that make and fill what keeps its pieces.
+//! Calls that cut a scan, and that make and fill boards and cells.
 
 ghost use Rattle.std.specs.Prelude.{◌≡◌, ◌<◌, IfSome, length};
 
@@ -60,17 +60,14 @@ impl<'a> Caller<'a> {
     }
 
     pub(crate) fn hang(&mut self) -> Option<bool> {
-        let first = self.piece(0)?;
-        let Ok(cells) = Cells::open(self.alloc, 2) else {
-            return None;
-        };
+        let cells = self.cells()?;
         let Ok(mut sight) = cells.sight() else {
             return None;
         };
-        match cells.hang(0, first, &mut sight) {
-            Ok(()) => self.hang_second(&cells, &mut sight),
-            Err(_) => None,
+        if !sees(&cells, 0, &mut sight) {
+            return Some(false);
         }
+        self.hang_second(&cells, &mut sight)
     }
 
     /// Returns whether a scan is that of the file.
@@ -193,8 +190,10 @@ impl<'a> Caller<'a> {
         }
     }
 
-    /// Returns cells, of which the first has a piece.
-    fn cells(&self) -> Option<Cells> {
+    /// Returns two cells, of which the first has a piece.
+    fn cells(&self) -> Option<Cells>
+        ensures { IfSome result (λ cells. length cells ≡ 2) }
+    {
         let piece = self.piece(0)?;
         let Ok(cells) = Cells::open(self.alloc, 2) else {
             return None;

@@ -35,7 +35,7 @@ use std::time::Clock;
 use std::{env, fs};
 use times::{least_times, scan_of};
 
-/// A call, and whether it did right; None where it said that it was out of memory.
+/// A call, and whether it is right; `None` if it reports that allocation fails.
 type Outcome = (&'static str, Option<bool>);
 
 /// Makes each call.

@@ -1,19 +1,10 @@
-//! Calls that read a strip of the file's second interval, which is damaged behind five MCUs, transform it, and show it.
+//! Calls that read a strip of the file's second interval, which is damaged after five MCUs, transform it, and publish it.
 
 ghost use Rattle.std.specs.Prelude.{◌≡◌, ◌<◌, IfSome, length};
 
 use crate::caller::Caller;
 use jr_wall::{CodedStrip, Strip, StripCells, StripReader, StripSight};
 use std::sync::Arc;
-
-/// Returns whether a strip has these five MCUs, of one data unit each, all of one grey.
-fn is_front(strip: &Strip) -> bool {
-    let mut is_grey = strip.block(5).is_none();
-    for k in 0..5 {
-        is_grey = is_grey && strip.block(k) == Some(&[136; 64]);
-    }
-    is_grey && (strip.number(), strip.first(), strip.mcus()) == (1, 0, 5)
-}
 
 /// Returns whether the first cell contains a strip.
 fn sees(cells: &StripCells, sight: &mut StripSight) -> bool
@@ -50,31 +41,15 @@ impl<'a> Caller<'a> {
         }
     }
 
-    /// Returns whether a strip has the five MCUs when it is decoded.
-    fn is_coded_front(&self, coded: Option<CodedStrip>) -> bool {
-        let Some(coded) = coded else {
-            return false;
-        };
-        match coded.decode(self.alloc) {
-            Ok(strip) => is_front(&strip),
-            Err(_) => false,
-        }
-    }
-
-    /// Reads a strip. A reader whose call is refused stays where it is, and returns the strip at the next call.
+    /// Reads a strip. A reader whose call is refused returns the strip at the next call.
     pub(crate) fn read_strip(&mut self) -> Option<bool> {
         let mut reader = self.strips()?;
         self.begin();
         let answer = reader.next(self.alloc, 9);
         self.end();
-        if let Ok(coded) = answer {
-            return Some(self.is_coded_front(coded));
-        }
-        let again = self.next_strip(&mut reader);
-        if self.is_coded_front(again) {
-            None
-        } else {
-            Some(false)
+        match answer {
+            Ok(coded) => Some(coded.is_some()),
+            Err(_) => self.next_strip(&mut reader).is_none().then_some(false),
         }
     }
 
@@ -96,7 +71,7 @@ impl<'a> Caller<'a> {
         let answer = coded.decode(self.alloc);
         self.end();
         match answer {
-            Ok(strip) => Some(is_front(&strip)),
+            Ok(strip) => Some(strip.mcus() == 5),
             Err(_) => None,
         }
     }
@@ -121,14 +96,10 @@ impl<'a> Caller<'a> {
         self.begin();
         let answer = cells.sight();
         self.end();
-        match answer {
-            Ok(mut sight) => Some(!sees(&cells, &mut sight)),
-            Err(_) => None,
-        }
+        answer.is_ok().then_some(true)
     }
 
-    /// Publishes a strip in the first of these cells. If it is refused, the strip is returned, and the cell
-    /// stays empty.
+    /// Publishes a strip in the first of these cells, which stays empty if that is refused.
     fn hang_into(&mut self, cells: &StripCells, strip: Arc<Strip>) -> Option<bool> {
         let Ok(mut sight) = cells.sight() else {
             return None;
@@ -139,8 +110,7 @@ impl<'a> Caller<'a> {
         let is_seen = sees(cells, &mut sight);
         match answer {
             Ok(()) => Some(is_seen),
-            Err(back) if !is_seen && is_front(&back) => None,
-            Err(_) => Some(false),
+            Err(_) => is_seen.then_some(false),
         }
     }
 
