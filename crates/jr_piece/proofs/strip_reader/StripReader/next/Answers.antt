@@ -13,7 +13,7 @@ read_run-requires c =
     let i = arc_value c.self.inside.interval in
     let at : c.deref.result.now ≡ i = search rules in
     let here = subst (λ (o : Option Place). IsReading (record { interval = i; first = c.self.inside.first; next = o })) c.in-Some.is c.self.invariant in
-    subst (λ (v : IntervalValue). IsReading (record { interval = v; first = c.self.inside.first; next = Some c.in-Some.from })) (sym at) here
+    search (subst (λ (v : IntervalValue). IsReading (record { interval = v; first = c.self.inside.first; next = Some c.in-Some.from })) (sym at) here)
 
 moved : (i j : IntervalValue) (first : ℕ) (from : Place) (most n : ℕ) (ys : List (List ℤ)) (next : Option Place) → j ≡ i → MovesOn j first from most n ys next → MovesOn i first from most n ys next
 moved i j first from most n ys next e m = subst (λ (v : IntervalValue). MovesOn v first from most n ys next) e m
