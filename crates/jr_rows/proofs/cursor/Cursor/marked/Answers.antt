@@ -1,4 +1,4 @@
-use Rattle.std.proofs.Common.{rules, arith, sym, subst, cond, ap, ◌∙◌, ◌≡◌, ℕ, ◌<◌, length}
+use Rattle.std.proofs.Common.{rules, arith, sym, subst, cond, ap, ◌≡◌, ℕ, ◌<◌, length}
 use Rattle.std.specs.Prelude.{slice_index}
 use Rattle.jr_head.specs.Geometry.{mcus_of}
 use Rattle.jr_scan.specs.IntervalValue.{IntervalValue}
