@@ -1,7 +1,6 @@
 -- What several threads know of the rows of MCUs that they decode together: by the part of a scan that is decoded.
 use Rattle.std.specs.Prelude.{◌≡◌, ℕ, ◌%◌, ◌<◌, List, length, slice_get, Option, Some, None}
 use Rattle.jr_head.specs.Geometry.{mcus_down}
-use Rattle.jr_scan.specs.ScanValue.{ScanValue}
 use Rattle.jr_crew.specs.RowBuffer.{OfPart}
 use Rattle.jr_crew.specs.RowBufferValue.{PaintedValue}
 use Rattle.jr_rows.specs.FirstIntervalsValue.{FirstIntervalsValue}
@@ -9,11 +8,6 @@ use Rattle.jr_rows.specs.Cursors.{AreGuessesIn}
 use Rattle.jr_rows.specs.Rows.{AreRowsOf}
 use Rattle.jr_rows.specs.declared.interval_guesses.IntervalGuesses.{IntervalGuesses}
 use Rattle.jr_rows.specs.declared.rows.Rows.{Rows}
-
--- the scan of the part that a proof knows of
-abbrev pub scan_of : Option FirstIntervalsValue → Option ScanValue
-scan_of None = None
-scan_of (Some part) = Some part.scan
 
 -- these are rows of the part, and speculative reads of its scan, and there is a next row
 pub record HasNextOf (part : FirstIntervalsValue) (r : Rows) (g : IntervalGuesses) : Type 0 where

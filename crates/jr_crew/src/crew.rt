@@ -11,7 +11,6 @@ use crate::one_first_intervals::OneFirstIntervals;
 use crate::paint_room::PaintRoom;
 use crate::row_buffer::{Painted, RowBuffer, WorkBuffer};
 use crate::row_queue::{BegunRow, RowQueue, RowTask, Waiter};
-use crate::scan_of::ScanOf;
 use jr_base::Memory;
 use jr_picture::Gate;
 use jr_rows::{FirstIntervals, intervals_of_row};
@@ -52,13 +51,14 @@ impl<'a, S: OneFirstIntervals> Model for Crew<'a, S> {
 
     ghost view = { λ c. c.part };
 
-    ghost invariant = { λ c. S.part ≡ Some c.part };
+    ghost invariant = { λ c. (S.part ≡ Some c.part) × (S.scan ≡ Some c.part.scan) };
 }
 
 impl<'a, S: OneFirstIntervals> Crew<'a, S> {
     /// Returns a crew that has done nothing yet.
     pub(crate) fn of(alloc: Global, part: FirstIntervals<'a>, queue: RowQueue<S>) -> Crew<'a, S>
-        requires { S.part ≡ Some part }
+        requires part { S.part ≡ Some part }
+        requires scan { S.scan ≡ Some part.scan }
         ensures { result ≡ part.entry }
     {
         Crew {
@@ -210,7 +210,7 @@ impl<'a, S: OneFirstIntervals> Crew<'a, S> {
     }
 
     /// Makes a speculative read.
-    fn speculate<R: Wait>(&self, rt: &R, task: GuessTask<ScanOf<S>>) {
+    fn speculate<R: Wait>(&self, rt: &R, task: GuessTask<S>) {
         let made = task.make(self.part.scan());
         let waiter = self.queue.lock(rt).put_guess(made);
         self.wake(waiter);

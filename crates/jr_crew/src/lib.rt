@@ -12,7 +12,6 @@ mod paint_room;
 mod row;
 mod row_buffer;
 mod row_queue;
-mod scan_of;
 mod sending;
 mod sharing;
 

@@ -6,7 +6,6 @@ ghost use Rattle.jr_crew.specs.Crew.{HasRow};
 use crate::baton::Baton;
 use crate::one_first_intervals::OneFirstIntervals;
 use crate::row_buffer::{CodedRow, Painted, RowBuffer};
-use crate::scan_of::ScanOf;
 use jr_base::Memory;
 use jr_rows::{FirstIntervals, intervals_of_row};
 use jr_scan::Scan;
@@ -25,7 +24,7 @@ pub(crate) enum RowTask<S: OneFirstIntervals> {
     /// Paints a row that was read.
     Paint(CodedRow<S>),
     /// Makes a speculative read.
-    Speculate(GuessTask<ScanOf<S>>),
+    Speculate(GuessTask<S>),
     /// Brings a buffer for a speculative read of at most this number of MCUs.
     BringGuess(u32),
     /// Frees memory that no thread needs any more.
@@ -35,7 +34,7 @@ pub(crate) enum RowTask<S: OneFirstIntervals> {
 /// Memory that no thread needs any more.
 #[derive(Drop)]
 pub(crate) enum Spare<S: OneFirstIntervals> {
-    Guesses(GuessQueue<ScanOf<S>>),
+    Guesses(GuessQueue<S>),
     RowBuffer(RowBuffer<S>),
 }
 
@@ -69,7 +68,7 @@ pub(crate) struct RowQueue<S: OneFirstIntervals> {
     free: VecDeque<RowBuffer<S>>,
     /// Number of row buffers that no thread allocates yet.
     lacking: u32,
-    pub(crate) guesses: GuessQueue<ScanOf<S>>,
+    pub(crate) guesses: GuessQueue<S>,
     /// Whether their memory is freed.
     has_given_back: bool,
     /// Skipped rows, in their order.
@@ -90,7 +89,7 @@ impl<S: OneFirstIntervals> RowQueue<S> {
     pub(crate) fn of(
         alloc: Global,
         lacking: u32,
-        guesses: GuessQueue<ScanOf<S>>,
+        guesses: GuessQueue<S>,
         painted: Vec<Option<Painted<S>>>,
     ) -> RowQueue<S>
         requires { 0 < length painted.items }
@@ -166,7 +165,8 @@ impl<S: OneFirstIntervals> RowQueue<S> {
     /// Takes the rows that come next, with the speculative reads for the first of them, and the row buffer into which it
     /// is decoded: one that has memory for its blocks, if there is one, unless the row is skipped.
     fn begin(&mut self, part: &FirstIntervals<'_>, skips: bool) -> Option<BegunRow<S>>
-        requires { S.part ≡ Some part.now }
+        requires part { S.part ≡ Some part.now }
+        requires scan { S.scan ≡ Some part.now.scan }
     {
         let free = if skips {
             self.free.pop_front()
@@ -193,7 +193,8 @@ impl<S: OneFirstIntervals> RowQueue<S> {
 
     /// Returns the next task of a thread. `None` if it has to wait, or all is over.
     pub(crate) fn task(&mut self, part: &FirstIntervals<'_>) -> Option<RowTask<S>>
-        requires { S.part ≡ Some part.now }
+        requires part { S.part ≡ Some part.now }
+        requires scan { S.scan ≡ Some part.now.scan }
     {
         let choice = self.choice(part.scan());
         match choice {
@@ -284,7 +285,7 @@ impl<S: OneFirstIntervals> RowQueue<S> {
     }
 
     /// Keeps a speculative read at its index. Returns which thread to wake, since a row may have waited for it.
-    pub(crate) fn put_guess(&mut self, made: GuessTask<ScanOf<S>>) -> Option<Waiter> {
+    pub(crate) fn put_guess(&mut self, made: GuessTask<S>) -> Option<Waiter> {
         self.guesses.put(made);
         self.waiter()
     }

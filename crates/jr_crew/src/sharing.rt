@@ -13,7 +13,6 @@ use crate::crew_size::crew_size;
 use crate::one_first_intervals::OneFirstIntervals;
 use crate::row_buffer::Painted;
 use crate::row_queue::RowQueue;
-use crate::scan_of::ScanOf;
 use crate::sending::{Helping, Sending};
 use jr_base::{Memory, Tally, WriteFault};
 use jr_picture::{Counts, Gate, PictureError};
@@ -86,7 +85,7 @@ fn open_guesses<S: OneFirstIntervals>(
     alloc: Global,
     part: &FirstIntervals<'_>,
     guesses: u32,
-) -> Result<GuessQueue<ScanOf<S>>, Memory> {
+) -> Result<GuessQueue<S>, Memory> {
     let across = shape_of(part.scan().head()).across;
     let most = mcus_of_guess(part.scan());
     GuessQueue::open(alloc, part.scan(), part.limit(), guesses, across, most)
@@ -150,6 +149,7 @@ fn write_as<R: Threads + Wait + Sync, W: Write, G: Gate + Sync, S: OneFirstInter
     out: &mut Tally<W>,
 ) -> Result<Counts, PictureError>
     requires part { S.part ≡ Some part }
+    requires scan { S.scan ≡ Some part.scan }
     requires unfailed { has_failed out.old ≡ false }
     requires some { 1 ≤ workers }
     requires few { workers ≤ MAX_WORKERS }
