@@ -18,7 +18,7 @@ use Rattle.jr_scan.specs.McuReader.{McuReaderValue, HasRead, HasEnded}
 use Rattle.jr_mcu.proofs.McuLaws.{no_blocks}
 use Rattle.jr_scan.proofs.McuReaders.{front_of_run, left_is, no_room, run_of_front}
 use Rattle.jr_piece.specs.StripValue.{ReadingValue}
-use Rattle.jr_piece.specs.Strips.{AreBlocks, CanReadFrom, FirstMcus, IsNext, IsReading, MovesOn}
+use Rattle.jr_piece.specs.Strips.{AreBlocks, CanReadFrom, FirstMcus, IsNext, IsReading, ReadsOn}
 use Rattle.jr_piece.proofs.Strips.{ShorterFront}
 
 -- what stands in a list behind a slice of all of it was written
@@ -163,7 +163,7 @@ module _ (one : OneRun) (meet : RunsMeet) (shorter : ShorterFront) (i : Interval
 
 -- the first n MCUs of a run of those that are asked for and left
 pub moves : (one : OneRun) (meet : RunsMeet) (shorter : ShorterFront) (i : IntervalValue) (lawful : IsLawful i.head) (first : ℕ) (p : Place) → IsReading (record { interval = i; first = first; next = Some p }) → (most m n : ℕ) → m ≡ min most (i.mcus - first) → n ≤ m → i.mcus < 2 ^ 32
-    → (ys : List (List ℤ)) → FirstMcus (run_from i p m) n ys → (q : Option Place) → ((x : Place) → q ≡ Some x → IsRun (run_from i p n) ys x AllRead) → ((x : Place) → q ≡ Some x → CanReadFrom i x) → (q ≡ None → n < m) → MovesOn i first p most n ys q
+    → (ys : List (List ℤ)) → FirstMcus (run_from i p m) n ys → (q : Option Place) → ((x : Place) → q ≡ Some x → IsRun (run_from i p n) ys x AllRead) → ((x : Place) → q ≡ Some x → CanReadFrom i x) → (q ≡ None → n < m) → ReadsOn i first p most n ys q
 moves one meet shorter i lawful first p at most m n asked le small ys here q there can none =
     let few : first + n ≤ i.mcus = omega (arith, asked, le, at.front.at_most) in
     let next = at.next p refl in

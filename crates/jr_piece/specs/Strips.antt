@@ -93,7 +93,7 @@ pub record IsReading (r : ReadingValue) : Type 0 where
   pub short : r.next ≡ None → r.first < r.interval.mcus
 
 -- behind the first MCUs of an interval, of at most `most` MCUs these n are read or skipped; the reading goes on at the next place
-pub record MovesOn (i : IntervalValue) (first : ℕ) (from : Place) (most n : ℕ) (ys : List (List ℤ)) (next : Option Place) : Type 0 where
+pub record ReadsOn (i : IntervalValue) (first : ℕ) (from : Place) (most n : ℕ) (ys : List (List ℤ)) (next : Option Place) : Type 0 where
   pub few : n ≤ most
   pub fits : first + n < 2 ^ 32
   pub are : AreBlocks i first n ys

@@ -6,7 +6,7 @@ ghost use Rattle.jr_scan.specs.declared.place.RunEnd.TheVariants.{AllRead};
 ghost use Rattle.jr_scan.specs.Guesses.{AreGuessesOf};
 ghost use Rattle.jr_scan.specs.Mcus.{Decodes, Front, HasNoDecoding, HasLongestFront};
 ghost use Rattle.jr_scan.specs.Run.{start_of_interval, IsRun, run_from};
-ghost use Rattle.jr_piece.specs.Strips.{CanReadFrom, IsReading, MovesOn};
+ghost use Rattle.jr_piece.specs.Strips.{CanReadFrom, IsReading, ReadsOn};
 
 use crate::placed_strip::PlacedStrip;
 use crate::strip::CodedStrip;
@@ -59,7 +59,7 @@ fn read_run(
     most: u32,
 ) -> Result<Run, Memory>
     requires { IsReading (record { interval = interval.now; first = first; next = Some from }) }
-    ensures { IfOk result (λ r. MovesOn interval.now first from most r.mcus r.blocks.items r.next) }
+    ensures { IfOk result (λ r. ReadsOn interval.now first from most r.mcus r.blocks.items r.next) }
 {
     let mcus = most.min(interval.mcus() - first);
     let per_mcu = interval.head().order().len();
@@ -89,7 +89,7 @@ struct Passed {
 fn pass_run(interval: &Interval, first: u32, from: Place, guesses: &Guesses, most: u32) -> Passed
     requires at { IsReading (record { interval = interval.now; first = first; next = Some from }) }
     requires same { AreGuessesOf interval.now guesses.now }
-    ensures { (ys : List (List ℤ)) × MovesOn interval.now first from most result.mcus ys result.next }
+    ensures { (ys : List (List ℤ)) × ReadsOn interval.now first from most result.mcus ys result.next }
 {
     // By its contract an interval's header is valid.
     let _lawful = interval.head();

@@ -5,7 +5,7 @@ use Rattle.jr_scan.specs.declared.place.Place.{Place}
 use Rattle.jr_scan.specs.IntervalValue.{IntervalValue}
 use Rattle.jr_scan.specs.Mcus.{HasLongestFront}
 use Rattle.jr_piece.specs.StripValue.{CodedStripValue, ReadingValue}
-use Rattle.jr_piece.specs.Strips.{HasItsBlocks, IsReading, MovesOn}
+use Rattle.jr_piece.specs.Strips.{HasItsBlocks, IsReading, ReadsOn}
 use Rattle.jr_piece.proofs.strip_reader.StripReader.next.Goals as goal
 
 pub read_run-requires : goal.read_run-requires
@@ -15,8 +15,8 @@ read_run-requires c =
     let here = subst (λ (o : Option Place). IsReading (record { interval = i; first = c.self.inside.first; next = o })) c.in-Some.is c.self.invariant in
     search (subst (λ (v : IntervalValue). IsReading (record { interval = v; first = c.self.inside.first; next = Some c.in-Some.from })) (sym at) here)
 
-moved : (i j : IntervalValue) (first : ℕ) (from : Place) (most n : ℕ) (ys : List (List ℤ)) (next : Option Place) → j ≡ i → MovesOn j first from most n ys next → MovesOn i first from most n ys next
-moved i j first from most n ys next e m = subst (λ (v : IntervalValue). MovesOn v first from most n ys next) e m
+moved : (i j : IntervalValue) (first : ℕ) (from : Place) (most n : ℕ) (ys : List (List ℤ)) (next : Option Place) → j ≡ i → ReadsOn j first from most n ys next → ReadsOn i first from most n ys next
+moved i j first from most n ys next e m = subst (λ (v : IntervalValue). ReadsOn v first from most n ys next) e m
 
 pub of-requires : goal.of-requires
 of-requires c =

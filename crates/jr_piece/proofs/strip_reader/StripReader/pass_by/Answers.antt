@@ -5,7 +5,7 @@ use Rattle.jr_scan.specs.declared.place.Place.{Place}
 use Rattle.jr_scan.specs.IntervalValue.{IntervalValue}
 use Rattle.jr_scan.specs.Mcus.{HasLongestFront}
 use Rattle.jr_piece.specs.StripValue.{PlacedStripValue, ReadingValue}
-use Rattle.jr_piece.specs.Strips.{IsPlaced, IsReading, MovesOn}
+use Rattle.jr_piece.specs.Strips.{IsPlaced, IsReading, ReadsOn}
 use Rattle.jr_piece.proofs.strip_reader.StripReader.pass_by.Goals as goal
 
 pub pass_run-passed-requires-clause-at : goal.pass_run-passed-requires-clause-at
@@ -15,8 +15,8 @@ pass_run-passed-requires-clause-at c =
     let here = subst (λ (o : Option Place). IsReading (record { interval = i; first = c.self.inside.first; next = o })) c.in-Some.is c.self.invariant in
     search (subst (λ (v : IntervalValue). IsReading (record { interval = v; first = c.self.inside.first; next = Some c.in-Some.from })) (sym at) here)
 
-moved : (i j : IntervalValue) (first : ℕ) (from : Place) (most n : ℕ) (next : Option Place) → j ≡ i → (ys : List (List ℤ)) × MovesOn j first from most n ys next → (ys : List (List ℤ)) × MovesOn i first from most n ys next
-moved i j first from most n next e m = subst (λ (v : IntervalValue). (ys : List (List ℤ)) × MovesOn v first from most n ys next) e m
+moved : (i j : IntervalValue) (first : ℕ) (from : Place) (most n : ℕ) (next : Option Place) → j ≡ i → (ys : List (List ℤ)) × ReadsOn j first from most n ys next → (ys : List (List ℤ)) × ReadsOn i first from most n ys next
+moved i j first from most n next e m = subst (λ (v : IntervalValue). (ys : List (List ℤ)) × ReadsOn v first from most n ys next) e m
 
 pub of-requires : goal.of-requires
 of-requires c =
