@@ -21,11 +21,11 @@ use Rattle.jr_piece.specs.StripValue.{ReadingValue}
 use Rattle.jr_piece.specs.Strips.{AreBlocks, CanReadFrom, FirstMcus, IsNext, IsReading, ReadsOn}
 use Rattle.jr_piece.proofs.Strips.{ShorterFront}
 
--- what stands in a list behind a slice of all of it was written
+-- a list begins with the slice that was written over its first elements
 pub written : (n : ℕ) (xs ys : List (List ℤ)) → length xs ≡ n → take n (xs ++ ys) ≡ xs
 written n xs ys e = ap (λ (k : ℕ). take k (xs ++ ys)) (sym e) ∙ take-append_seam xs ys
 
--- what a reader of whole MCUs has read or skipped, which had read nothing of a run from this place on
+-- what a reader of whole MCUs has read or skipped that had read nothing of a run starting at this position
 module _ (r r' : McuReaderValue) (j i : IntervalValue) (from : Place) (m n : ℕ) (ys : List (List ℤ)) (same : j ≡ i) (run : r.run ≡ run_from j from m) (start : r.mcu ≡ 0) (run' : r'.run ≡ r.run) (mcu : r'.mcu ≡ r.mcu + n)
     (read : HasRead r' ys) where
   its_run : r'.run ≡ run_from i from m

@@ -92,7 +92,7 @@ pub record IsReading (r : ReadingValue) : Type 0 where
   pub longest : r.next ≡ None → LongestFront r.interval r.first blocks
   pub short : r.next ≡ None → r.first < r.interval.mcus
 
--- behind the first MCUs of an interval, of at most `most` MCUs these n are read or skipped; the reading goes on at the next place
+-- after the first MCUs of an interval, of at most `most` MCUs these n are read or skipped; reading continues at the next position
 pub record ReadsOn (i : IntervalValue) (first : ℕ) (from : Place) (most n : ℕ) (ys : List (List ℤ)) (next : Option Place) : Type 0 where
   pub few : n ≤ most
   pub fits : first + n < 2 ^ 32

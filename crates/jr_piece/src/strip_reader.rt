@@ -79,14 +79,14 @@ fn read_run(
 
 /// The number of whole MCUs of a run, and where the next one starts; no position if no whole one follows.
 #[derive(Clone, Copy)]
-struct Passed {
+struct Skipped {
     mcus: u32,
     next: Option<Place>,
 }
 
 /// Skips the next whole MCUs of an interval, at most `most`, those that the speculative reads have without reading
 /// them. Keeps none of their blocks. `first` of its MCUs are before the position.
-fn pass_run(interval: &Interval, first: u32, from: Place, guesses: &Guesses, most: u32) -> Passed
+fn skip_run(interval: &Interval, first: u32, from: Place, guesses: &Guesses, most: u32) -> Skipped
     requires at { IsReading (record { interval = interval.now; first = first; next = Some from }) }
     requires same { AreGuessesOf interval.now guesses.now }
     ensures { (ys : List (List ℤ)) × ReadsOn interval.now first from most result.mcus ys result.next }
@@ -95,9 +95,9 @@ fn pass_run(interval: &Interval, first: u32, from: Place, guesses: &Guesses, mos
     let _lawful = interval.head();
     let mcus = most.min(interval.mcus() - first);
     let mut reader = McuReader::at(interval.as_ref(), from, mcus);
-    let passed = reader.skip_by(guesses, mcus);
-    let next = place_after(&reader, passed, mcus);
-    Passed { mcus: passed, next }
+    let skipped = reader.skip_by(guesses, mcus);
+    let next = place_after(&reader, skipped, mcus);
+    Skipped { mcus: skipped, next }
 }
 
 /// Reads the whole MCUs of an interval, a strip at a time.
@@ -196,27 +196,10 @@ impl StripReader {
         Ok(Some(CodedStrip::of(interval, first, mcus, blocks)))
     }
 
-    /// Skips the next whole MCUs, as many as are asked for or as follow, and keeps none of their blocks. `None` if no
-    /// further one follows; then, and on `Err`, the reader is unchanged.
-    pub fn pass(&mut self, most: u32) -> Result<Option<PlacedStrip>, Memory>
-        ensures interval { self.new.interval ≡ self.old.interval }
-        ensures of { IfOk result (λ o. IfSome o (λ s. s.interval ≡ self.old.interval)) }
-        ensures first { IfOk result (λ o. IfSome o (λ s. s.first ≡ self.old.first)) }
-        ensures some { IfOk result (λ o. IfSome o (λ s. 0 < s.mcus)) }
-        ensures few { IfOk result (λ o. IfSome o (λ s. s.mcus ≤ most)) }
-        ensures from { IfOk result (λ o. IfSome o (λ s. self.old.next ≡ Some s.from)) }
-        ensures on { IfOk result (λ o. IfSome o (λ s. self.new.first ≡ s.first + s.mcus)) }
-        ensures within { IfOk result (λ o. OnSome o (self.new.first ≤ self.old.interval.mcus)) }
-        ensures last { IfOk result (λ o. IfSome o (λ s. s.mcus < most → HasLongestFront self.new.interval self.new.first)) }
-        ensures none { IfOk result (λ o. IfNone o (0 < most → HasLongestFront self.old.interval self.old.first)) }
-        ensures same { IfOk result (λ o. IfNone o (self.new ≡ self.old)) }
-        ensures err { IfErr result (λ _. self.new ≡ self.old) }
-    {
-        self.pass_by(&Guesses::none(), most)
-    }
-
-    /// Does what `pass` does, and skips what the speculative reads have without reading it.
-    pub fn pass_by(&mut self, guesses: &Guesses, most: u32) -> Result<Option<PlacedStrip>, Memory>
+    /// Skips the next whole MCUs, as many as are asked for or as follow, those that the speculative reads have without
+    /// reading them, and keeps none of their blocks. `None` if no further one follows; then, and on `Err`, the reader is
+    /// unchanged.
+    pub fn skip_by(&mut self, guesses: &Guesses, most: u32) -> Result<Option<PlacedStrip>, Memory>
         requires { AreGuessesOf self.old.interval guesses.now }
         ensures interval { self.new.interval ≡ self.old.interval }
         ensures of { IfOk result (λ o. IfSome o (λ s. s.interval ≡ self.old.interval)) }
@@ -235,14 +218,14 @@ impl StripReader {
             return Ok(None);
         };
         let interval = Arc::try_clone(&self.interval)?;
-        let passed = pass_run(&interval, self.first, from, guesses, most);
-        if passed.mcus == 0 {
+        let skipped = skip_run(&interval, self.first, from, guesses, most);
+        if skipped.mcus == 0 {
             return Ok(None);
         }
         let first = self.first;
-        self.first += passed.mcus;
-        self.next = passed.next;
-        Ok(Some(PlacedStrip::of(interval, first, passed.mcus, from)))
+        self.first += skipped.mcus;
+        self.next = skipped.next;
+        Ok(Some(PlacedStrip::of(interval, first, skipped.mcus, from)))
     }
 
     /// Returns whether all MCUs are read and fewer than eight bits are left: then what is read is the interval's

@@ -391,7 +391,7 @@ fn files_are_read_and_recorded(rt: HostRuntime) -> Result<(), Fail> {
     Ok(())
 }
 
-/// Checks `ten` with a log of so many bytes.
+/// Checks `ten` with a log of `N` bytes.
 fn run_into<R: Threads + Wait + Sync + AllocGlobal, const N: usize>(
     rt: &R,
     log: [u8; N],

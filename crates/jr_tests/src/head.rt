@@ -5,7 +5,7 @@ use std::alloc::Global;
 use std::test::Fail;
 use test_files::files::{file, put_parts};
 
-/// Returns the head of a file: a part so many times, and then the others.
+/// Returns the header of a file: a part repeated, then the other parts.
 fn head_of(alloc: Global, part: &str, times: u32, others: &str) -> Result<Head, Fail> {
     let part = file(alloc, part)?;
     let mut bytes = file(alloc, "S")?;

@@ -60,7 +60,7 @@ fn next_strip(
     ensures same { IfOk result (λ o. IfNone o (reader.new ≡ reader.old)) }
 {
     if !guesses.is_none() {
-        let Some(strip) = reader.pass_by(guesses, each)? else {
+        let Some(strip) = reader.skip_by(guesses, each)? else {
             return Ok(None);
         };
         return Ok(Some(WaitingStrip::Placed(strip, guesses.fork())));

@@ -19,7 +19,7 @@ struct Picture<'a> {
     mcus: usize,
 }
 
-/// Reads the block at a bit, its first coefficient a difference, and tells the bit behind it.
+/// Reads the block at a bit, its first coefficient a difference, and returns it with the bit after it.
 fn block(picture: &Picture<'_>, bytes: &[u8], start: usize, z: &mut Block) -> Option<usize> {
     *z = [0; 64];
     let (size, long) = word(picture.dc.0, picture.dc.1, bytes, start)?;
@@ -247,7 +247,7 @@ fn check_bytes(
     check_scan(rt, alloc, picture, &scan, segments.as_slice(), end)
 }
 
-/// Thousands of such scans behind a picture's head.
+/// Checks thousands of such scans after an image's header.
 fn check_picture(rt: &impl Abort, alloc: Global, picture: &Picture<'_>) -> Result<(), Fail> {
     let head = file(alloc, picture.words)?;
     let mut state: u64 = 7;

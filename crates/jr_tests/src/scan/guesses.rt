@@ -6,7 +6,7 @@ use std::test::Fail;
 use test_files::files::file;
 use test_files::scans::scan_of;
 
-/// Returns which MCU starts at a bit, of a speculative read from one bit up to another with room for so many MCUs.
+/// Returns which MCU starts at a bit, of a speculative read from one bit up to another with space for the given number of MCUs.
 fn found_at(
     alloc: Global,
     interval: &IntervalRef<'_>,

@@ -86,7 +86,7 @@ fn check_decoding<R: Wait + Abort>(
     Ok(())
 }
 
-/// Decodes with two workers the first intervals of a scan, as many as there are letters.
+/// Decodes the first intervals of a scan, one for each letter, with two workers.
 fn check_scan<R: Threads + Wait + Sync + Abort>(
     rt: &R,
     alloc: Global,

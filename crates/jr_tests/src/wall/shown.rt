@@ -23,7 +23,7 @@ pub(crate) fn piece(alloc: Global, scan: &Scan, number: u32) -> Result<Arc<Piece
     Ok(Arc::new(alloc, piece)?)
 }
 
-/// Returns the board of a scan's first intervals, or of all, by so many workers.
+/// Returns the board of a scan's first intervals, or of all, decoded with the given number of workers.
 pub(crate) fn decode<R: Threads + Wait + Sync + AllocGlobal>(
     rt: &R,
     scan: &Arc<Scan>,
@@ -37,7 +37,7 @@ pub(crate) fn decode<R: Threads + Wait + Sync + AllocGlobal>(
     Ok(decode_all(rt, rt.alloc(), shared, workers, first, &OpenGate)?)
 }
 
-/// Returns a decoding of a scan's first intervals, or of all, and its seats for so many workers.
+/// Returns a decoding of a scan's first intervals, or of all, and its seats for the given number of workers.
 pub(crate) fn open(
     alloc: Global,
     scan: &Arc<Scan>,

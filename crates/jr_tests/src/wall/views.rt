@@ -24,7 +24,7 @@ fn content_of(piece: &Piece) -> Option<Content> {
     Some((piece.number(), piece.is_sound(), *samples))
 }
 
-/// Looks into the cell of a number; none also where there is no such cell.
+/// Returns what the cell of a number contains; `None` also if there is no such cell.
 fn look(cells: &Cells, number: u32, sight: &mut Sight) -> Option<Content>
     requires { sight.old.cells ≡ cells.now }
     ensures { sight.new.cells ≡ sight.old.cells }

@@ -29,7 +29,7 @@ fn shows_all(alloc: Global, view: &View, scan: &Arc<Scan>) -> Result<bool, Fail>
     Ok(is_same && view.rows() == view.mcu_rows())
 }
 
-/// What a screen was told, for a gate that waits for it.
+/// What was reported to a screen, for a gate that waits for it.
 #[derive(Drop)]
 struct Counts {
     mcus: AtomicU32,
@@ -67,7 +67,7 @@ struct Told<'a> {
     view: View,
     counts: &'a Counts,
     pieces: u32,
-    /// Whether a strip came behind the piece of the one interval.
+    /// Whether a strip was shown after the piece of the one interval.
     is_late: bool,
     /// Whether it says at the first look that it is done.
     is_lazy: bool,
@@ -108,8 +108,8 @@ impl<'a> Screen for Told<'a> {
     }
 }
 
-/// What a gate waits for: that this number of intervals are claimed before one is decoded, and that the screen was told strips of
-/// this number of MCUs, and was asked this often, before a piece is shown.
+/// What a gate waits for: the number of intervals that are claimed before one is decoded, and the number of MCUs whose strips
+/// are reported to the screen, and of times that it is asked, before a piece is shown.
 #[derive(Clone, Copy)]
 struct Awaited {
     claims: u32,
@@ -142,7 +142,7 @@ impl<'a> Gate for Held<'a> {
     }
 }
 
-/// How many intervals are blank behind a decoding that is watched.
+/// Returns the number of intervals that are blank after a decoding that is watched.
 fn blank_behind<R: Threads + Wait + Clock + Sync + AllocGlobal>(
     rt: &R,
     scan: &Arc<Scan>,
@@ -153,7 +153,7 @@ fn blank_behind<R: Threads + Wait + Clock + Sync + AllocGlobal>(
     Ok(decoding.finish()?.blank())
 }
 
-/// Watches a file, and checks that the screen was told of each piece, and shows all; that it was asked at least twice.
+/// Watches a file, and checks that each piece was reported to the screen, that it shows all, and that it was asked at least twice.
 fn check_told<R: Threads + Wait + Clock + Sync + AllocGlobal + Abort>(
     rt: &R,
     words: &str,

@@ -7,7 +7,7 @@ use Rattle.jr_scan.specs.Run.{RunOf, IsRun, run_from}
 use Rattle.jr_piece.specs.Strips.{CanReadFrom}
 use Rattle.jr_piece.proofs.StripRuns.{moves, passed_part, passed_place}
 use Rattle.jr_piece.proofs.ScanLaws.{one_run, runs_meet, shorter_front}
-use Rattle.jr_piece.proofs.strip_reader.pass_run.Goals as goal
+use Rattle.jr_piece.proofs.strip_reader.skip_run.Goals as goal
 
 pub at-reader-requires-clause-within : goal.at-reader-requires-clause-within
 at-reader-requires-clause-within c = search (rules, (c.requires.at.next c.args.from refl).can.0)
@@ -19,10 +19,10 @@ pub returns : goal.returns
 returns c =
     let i = c.args.interval.now in
     let m = c.min-mcus.result in
-    let n = c.skip_by-passed.result in
+    let n = c.skip_by-skipped.result in
     let r = c.at-reader.result in
-    let r' = c.skip_by-passed.new.self in
-    let e = c.skip_by-passed.ensures in
+    let r' = c.skip_by-skipped.new.self in
+    let e = c.skip_by-skipped.ensures in
     let lawful = subst IsLawful c.head-lawful.ensures.value c.head-lawful.ensures.lawful in
     let run : r.run ≡ run_from c.as_ref.result c.args.from m = search (rules, c.at-reader.ensures.run) in
     let asked : m ≡ min c.args.most (i.mcus - c.args.first) = c.min-mcus.ensures ∙ ap (λ (k : ℕ). min c.args.most (k - c.args.first)) c.mcus.ensures in
