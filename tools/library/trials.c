@@ -5,8 +5,8 @@
  *
  * Of each file, which jri accepts, it sees that buffers with more room are left as they are behind the picture, that ones with
  * too little are not touched, that each request for memory may be refused, that the file may be resynchronised, has the same
- * image by JRI_RESYNC, and may be mended from itself and a copy without a scan, that lines decoded alone are those of the picture, and so are rows from places, of a file that
- * is there or arrives, that any place may be given, and that many threads may decode at once; and
+ * image by JRI_RESYNC, and may be mended from itself and a copy without a scan, that lines decoded alone are those of the image, and so are rows from positions, of a file that
+ * is there, arrives, or is passed by windows, that any position and window may be passed, and that many threads may decode at once; and
  * that pointers may be null where nothing is behind them. It ends with 1 where something else is seen, and says what.
  */
 #define _DEFAULT_SOURCE
@@ -359,6 +359,88 @@ static void rows_by_index(const struct trial *t) {
     }
 }
 
+/* The number of the file's first bytes that have the header. */
+static size_t header_length(const struct trial *t) {
+    struct jri_header header;
+    size_t length = 0;
+    while (jri_read_header(t->file, length, JRI_PARTIAL, &header) == JRI_NEED_MORE)
+        length++;
+    return length;
+}
+
+/* A copy of a part of the file, after whose end no byte can be read. */
+static uint8_t *part_of(const struct trial *t, size_t from, size_t length) {
+    uint8_t *part = buffer(length);
+    memcpy(part, t->file + from, length);
+    return part;
+}
+
+/* Decodes and skips two rows of a window, with one request for memory refused. Returns the status. */
+static uint32_t decode_window(const struct trial *t, size_t header, size_t from, size_t length, struct jri_position *place, long k, struct jri_rows *report) {
+    uint8_t *head = part_of(t, 0, header), *window = part_of(t, from, length);
+    uint32_t more = from + length < t->length ? JRI_PARTIAL : JRI_COMPLETE;
+    size_t room = WHOLE_ROWS * line_of(t);
+    uint8_t *pixels = buffer(room);
+    struct jri_position before = *place, skipped = *place;
+    struct jri_rows passed;
+    requests = 0;
+    refused = k;
+    uint32_t status = jri_decode_window(head, header, window, length, from, more, place, 2, pixels, room, report);
+    refused = -1;
+    size_t size = report->lines * line_of(t);
+    see(!memcmp(pixels, t->pixels + report->first_line * line_of(t), size), t, "a window, other lines");
+    see(is_filled(pixels + size, room - size), t, "a window, bytes after the lines");
+    see(status == JRI_OK || (!report->rows && !memcmp(place, &before, sizeof before)), t, "a window, a position moved without rows");
+    if (status != JRI_NO_MEMORY) {
+        see(jri_skip_window(head, header, window, length, from, more, &skipped, 2, &passed) == status, t, "a window skipped");
+        see(!memcmp(&skipped, place, sizeof skipped) && !memcmp(&passed, report, sizeof passed), t, "a position after a window skipped");
+    }
+    release(head, header);
+    release(window, length);
+    release(pixels, room);
+    return status;
+}
+
+/* Decodes a file by windows of the given size; one without a row that is final is doubled. */
+static void rows_by_window(const struct trial *t, size_t header, size_t size) {
+    struct jri_position place = {0};
+    struct jri_rows report;
+    uint32_t lines = 0, status = JRI_OK;
+    for (size_t from = 0, length = size; status == JRI_OK && lines < t->header.height; from = place.at > from ? place.at : from) {
+        size_t there = length < t->length - from ? length : t->length - from;
+        status = decode_window(t, header, from, there, &place, -1, &report);
+        see(status == JRI_OK && (!report.rows || report.first_line == lines), t, "rows of a window");
+        lines += report.lines;
+        length = report.rows ? size : 2 * length;
+    }
+    see(lines == t->header.height, t, "rows of windows, not all lines");
+}
+
+/* Windows without the position, without the header, without space, and with each request for memory refused. */
+static void try_windows(const struct trial *t) {
+    size_t header = header_length(t);
+    static const size_t SIZES[] = {1, 100, 5000};
+    for (size_t i = 0; i < sizeof SIZES / sizeof *SIZES; i++)
+        rows_by_window(t, header, SIZES[i]);
+    rows_by_window(t, header, t->length);
+    struct jri_position top = {0}, place = {0};
+    struct jri_rows report;
+    see(decode_window(t, header, header, t->length - header, &top, -1, &report) == JRI_OK && report.rows, t, "a window that begins with the scan");
+    top = place;
+    if (header < t->length)
+        see(decode_window(t, header, header + 1, t->length - header - 1, &top, -1, &report) == JRI_NOT_IN_WINDOW, t, "a window after the position");
+    see(decode_window(t, header, 0, header - 1, &top, -1, &report) == JRI_NOT_IN_WINDOW, t, "a window before the position");
+    see(decode_window(t, header, 0, header, &top, -1, &report) == JRI_OK && (header == t->length || !report.rows), t, "a window that ends at the position");
+    top = place;
+    see(jri_decode_window(t->file, header - 1, t->file, t->length, 0, JRI_PARTIAL, &top, 1, NULL, 0, &report) == JRI_OK && !report.rows, t, "a window without a header so far");
+    see(jri_decode_window(t->file, header - 1, t->file, t->length, 0, JRI_COMPLETE, &top, 1, NULL, 0, &report) == JRI_REFUSED && report.refusal == 2, t, "a window without a header");
+    see(jri_decode_window(t->file, header, t->file, t->length, 0, JRI_COMPLETE, &top, 1, NULL, 0, &report) == JRI_BUFFER_TOO_SMALL, t, "a window without space");
+    see(jri_decode_window(t->file, header, t->file, t->length, 0, JRI_COMPLETE, &top, 0, NULL, 0, &report) == JRI_NO_LINES, t, "a window, no row asked for");
+    see(!memcmp(&top, &place, sizeof top), t, "a position that windows leave");
+    for (long k = 0; decode_window(t, header, 0, t->length, &top, k, &report) == JRI_NO_MEMORY; k++, refusals++)
+        see(!report.rows && report.refusal == 19, t, "a window, a request refused");
+}
+
 /* Numbers that are no place's, by turns. */
 static uint32_t forged(uint32_t *seed) {
     static const uint32_t SOME[] = {0, 1, 7, 8, 255, 65535, 32768, 0x7FFFFFFF, 0x80000000, UINT32_MAX};
@@ -385,6 +467,11 @@ static void forge(const struct trial *t, const struct jri_position *like, uint32
     see(status == JRI_OK || status == JRI_NO_LINES, t, "a forged place");
     see(is_filled(pixels + report.lines * line_of(t), room - report.lines * line_of(t)), t, "a forged place, bytes behind the lines");
     see(jri_skip_rows(t->file, t->length, more, &passed, 2, &report) == status && !memcmp(&passed, &place, sizeof place), t, "a forged place passed over");
+    uint64_t at = forged(&seed) & 1 ? like->at + forged(&seed) : UINT64_MAX - forged(&seed);
+    memset(pixels, FILL, room);
+    status = jri_decode_window(t->file, t->length, t->file, t->length, at, more, &place, 2, pixels, room, &report);
+    see(status == JRI_OK || status == JRI_NO_LINES || status == JRI_NOT_IN_WINDOW, t, "a forged window");
+    see(is_filled(pixels + report.lines * line_of(t), room - report.lines * line_of(t)), t, "a forged window, bytes after the lines");
     release(pixels, room);
 }
 
@@ -646,6 +733,9 @@ static void try_null(void) {
     see(jri_decode_rows(NULL, 0, JRI_COMPLETE, &place, 1, NULL, 0, &rows) == JRI_REFUSED && rows.refusal == 1, &none, "rows");
     see(jri_decode_rows(NULL, 0, JRI_PARTIAL, &place, 1, NULL, 0, &rows) == JRI_OK && !rows.rows, &none, "rows of nothing yet");
     see(jri_skip_rows(NULL, 0, JRI_COMPLETE, &place, 1, &rows) == JRI_REFUSED && rows.refusal == 1, &none, "rows passed over");
+    see(jri_decode_window(NULL, 0, NULL, 0, 0, JRI_COMPLETE, &place, 1, NULL, 0, &rows) == JRI_REFUSED && rows.refusal == 1, &none, "a window");
+    see(jri_decode_window(NULL, 0, NULL, 0, 0, JRI_PARTIAL, &place, 1, NULL, 0, &rows) == JRI_OK && !rows.rows, &none, "a window of nothing yet");
+    see(jri_skip_window(NULL, 0, NULL, 0, 0, JRI_COMPLETE, &place, 1, &rows) == JRI_REFUSED && rows.refusal == 1, &none, "a window skipped");
     see(jri_refusal_text(1, 0, NULL, 0) == 0 && jri_refusal_text(0, 0, text, OF_TEXT) == 0, &none, "a text");
     see(jri_refusal_text(20, 0, text, OF_TEXT) == 0, &none, "a number past the last");
     see(jri_refusal_text(3, 18446744073709551615u, text, OF_TEXT) == 46, &none, "a long text");
@@ -697,6 +787,7 @@ static void try_file(const char *name) {
     try_resynced(&t);
     try_mend(&t);
     try_rows(&t);
+    try_windows(&t);
     work_at_once(&t);
     release(t.file, t.length);
     release(t.pixels, size);
