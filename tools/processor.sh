@@ -1,5 +1,5 @@
-# To be read by a shell: sets `processor` to the kind of processor that jri is built for here. That is what JRI_CPU names,
-# or else x86-64-v3 where this machine has AVX2 and what belongs to it, and x86-64-v2 elsewhere.
+# Read by a shell: sets `processor` to the kind of processor that jri is built for. That is what JRI_CPU names; by default
+# x86-64-v3 if this machine has AVX2 and what belongs to it, otherwise x86-64-v2.
 processor=x86-64-v2
 while read -r name values; do
     [ "$name" = flags ] || continue

@@ -1,15 +1,15 @@
-# To be read by bash: how a tool tells what it sees, one line a check. It takes `folder`, which is the tool's own, and sets
-# `wrong` to how many were wrong.
+# Read by bash: how a tool reports its checks, one line for each. `folder` is the tool's own directory; sets `wrong` to the number
+# of checks that failed.
 wrong=0
 
-# Says whether what was seen is what was wanted.
+# Reports whether a check holds.
 see() {
     local name=$1
     shift
     if "$@"; then echo "seen: $name"; else echo "WRONG: $name"; wrong=$((wrong + 1)); fi
 }
 
-# Whether a command ends with a status, within two minutes; its output is in `told`, and is shown where it ends with another.
+# Returns whether a command ends with a status within two minutes; its output is in `told`, and is printed if it does not.
 ends_with() {
     local status=$1 got=0
     shift
@@ -17,7 +17,7 @@ ends_with() {
     [ "$got" = "$status" ] || { cat "$folder/told" >&2; return 1; }
 }
 
-# Ends the tool by what it has seen.
+# Ends the tool, with status 1 if a check failed.
 conclude() {
     echo "$wrong wrong"
     [ "$wrong" = 0 ] || exit 1

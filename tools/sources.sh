@@ -1,7 +1,7 @@
-# To be read by bash, at the top of the repository: what a program or library is made of, and whether that has changed. It takes
-# `name`, the crate's, and sets `crates` to those that it stands on, each after those below it, and itself.
+# Read by bash, at the top of the repository: what a program or library is made of, and whether that has changed. `name` is the
+# crate's; sets `crates` to those that it depends on, each after those below it, and itself.
 
-# The crates of this repository that a crate stands on, each after those below it, and itself.
+# Adds the crates of this repository that a crate depends on, each after those below it, and itself.
 closure() {
     local crate=$1 below
     case " $crates " in *" $crate "*) return ;; esac
@@ -11,7 +11,7 @@ closure() {
     crates="$crates $crate"
 }
 
-# All that it is made of.
+# Prints the files and directories that it is made of.
 list_parts() {
     printf '%s\n' crates.txt HANDLES
     local crate part
@@ -22,13 +22,13 @@ list_parts() {
     done
 }
 
-# One line for all of it, and for the kit that builds it.
+# Prints one checksum of all of it, and of the toolchain that builds it.
 sum_sources() {
-    # shellcheck disable=SC2046 # a word a file or folder
+    # shellcheck disable=SC2046 # one argument for each file or directory
     { rt version; find $(list_parts) -type f -print0 | LC_ALL=C sort -z | xargs -0 sha256sum; } | sha256sum
 }
 
-# Puts the name of the toolchain that built these files in the place that crates/jr_base has for it, which keeps its length.
+# Writes the name of the toolchain that built these files over the text that crates/jr_base has for it, in the same length.
 name_toolchain() {
     local unnamed="an unnamed toolchain" built_by file
     built_by=$(rt version | cut -d " " -f 1)
