@@ -30,7 +30,10 @@ fn put_check<R: Threads + Wait + Sync>(
     map: &mut Vec<u8>,
     out: &mut Differences,
 ) {
-    let outcome = match check_file(rt, case.alloc, case.bytes, workers) {
+    let Ok(bytes) = case.bytes.to_vec(case.alloc) else {
+        return out.fail(Failure::Memory);
+    };
+    let outcome = match check_file(rt, case.alloc, bytes, workers) {
         Ok(checked) => {
             put_map(case, &checked, map, out);
             Outcome::Checked(checked)

@@ -1,16 +1,10 @@
--- What holds of a scan that is cut from bytes, and of one cut from the file that they end.
-use Rattle.std.proofs.Common.{◌≡◌, ℕ, List, Option, Result, Ok, Err, IfOk, drop, subst}
+-- The end of the image of a scan that is cut from a file.
+use Rattle.std.proofs.Common.{◌≡◌, ℕ, List, Option, drop, subst}
 use Rattle.jr_cut.specs.ImageEnd.{IsImageEndOf}
 use Rattle.jr_cut.specs.declared.scan_end.ScanEnd.{ScanEnd}
 use Rattle.jr_head.specs.HeadValue.{HeadValue}
 use Rattle.jr_scan.specs.ImageEnd.{IsImageEndIn}
 use Rattle.jr_scan.specs.ScanValue.{intervals_of, scan_of_segments}
-
--- what holds of each file with these bytes holds of one that has them
-pub of_file : {T E : Type 0} (P : List ℕ → T → Type 0) (rest : List ℕ) (at : ℕ) (file : List ℕ) (r : Result T E) → rest ≡ drop at file
-    → IfOk r (λ (t : T). (f : List ℕ) → rest ≡ drop at f → P f t) → IfOk r (P file)
-of_file P rest at file (Ok t) e h = h file e
-of_file P rest at file (Err x) e h = tt
 
 -- the image of a scan ends in a file where it ends in the file's bytes after the scan header
 pub is_image_end : (h : HeadValue) (file bytes : List ℕ) (segments : List (List ℕ)) (n at : ℕ) (end : ScanEnd) (place : Option ℕ) → n ≡ intervals_of h → at ≡ h.scan_at → bytes ≡ drop h.scan_at file

@@ -108,29 +108,53 @@ const DAMAGED_ALONE: &str = "damaged";
 
 const ALL: &str = "all";
 
+/// Adds an argument to a command, unless an earlier one could not be added.
+fn with_word<'a>(
+    command: Result<Command<'a>, AllocError>,
+    word: Arg<'a>,
+) -> Result<Command<'a>, AllocError> {
+    match command {
+        Ok(command) => command.arg(word),
+        Err(refused) => Err(refused),
+    }
+}
+
+/// Adds an argument to a command, unless it or an earlier one could not be made.
+fn with_made_word<'a>(
+    command: Result<Command<'a>, AllocError>,
+    word: Result<Arg<'a>, AllocError>,
+) -> Result<Command<'a>, AllocError> {
+    match word {
+        Ok(word) => with_word(command, word),
+        Err(refused) => Err(refused),
+    }
+}
+
 /// Adds the arguments that select what is reported.
-fn with_telling_words<'a>(alloc: Global, command: Command<'a>) -> Result<Command<'a>, AllocError> {
-    command
-        .arg(map_argument(alloc))?
-        .arg(flag(alloc, "json", "Print each line as a JSON object"))?
-        .arg(flag(alloc, "quiet", "List no sound files and print no counts").short('q'))?
-        .arg(flag(alloc, "counts", "Also print the counts as the last line"))
+fn with_line_words<'a>(
+    alloc: Global,
+    command: Result<Command<'a>, AllocError>,
+) -> Result<Command<'a>, AllocError> {
+    let json = flag(alloc, "json", "Print each line as a JSON object");
+    let quiet = flag(alloc, "quiet", "List no sound files and print no counts").short('q');
+    let counts = flag(alloc, "counts", "Also print the counts as the last line");
+    let with_map = with_word(command, map_argument(alloc));
+    let with_json = with_word(with_map, json);
+    let with_quiet = with_word(with_json, quiet);
+    with_word(with_quiet, counts)
 }
 
 /// Adds the arguments for the number of files that are checked at once, and for where further ones are found.
-fn with_finding_words<'a>(alloc: Global, command: Command<'a>) -> Result<Command<'a>, AllocError> {
-    command
-        .arg(workers_argument(alloc))?
-        .arg(recursive_argument(alloc))?
-        .arg(list_argument(alloc))?
-        .arg(resync_argument(alloc)?)?
-        .arg(state_argument(alloc))?
-        .arg(verify_argument(alloc)?)
-}
-
-/// Adds the arguments that name files.
-fn with_file_words<'a>(alloc: Global, command: Command<'a>) -> Result<Command<'a>, AllocError> {
-    command.arg(files_argument(alloc)?)
+fn with_finding_words<'a>(
+    alloc: Global,
+    command: Result<Command<'a>, AllocError>,
+) -> Result<Command<'a>, AllocError> {
+    let with_workers = with_word(command, workers_argument(alloc));
+    let with_recursive = with_word(with_workers, recursive_argument(alloc));
+    let with_list = with_word(with_recursive, list_argument(alloc));
+    let with_resync = with_made_word(with_list, resync_argument(alloc));
+    let with_state = with_word(with_resync, state_argument(alloc));
+    with_made_word(with_state, verify_argument(alloc))
 }
 
 /// The text of `--help` after the options.
@@ -155,8 +179,9 @@ fn wordless<'a>(alloc: Global) -> Command<'a> {
 
 /// `jri_check [--map[=all]] [--json] [-q] [--counts] [-j N] [-r] [--files0-from LIST] [--resync] [--state STATE [--verify]] FILE..`.
 fn command<'a>(alloc: Global) -> Result<Command<'a>, AllocError> {
-    let command = with_telling_words(alloc, wordless(alloc))?;
-    with_file_words(alloc, with_finding_words(alloc, command)?)
+    let with_lines = with_line_words(alloc, Ok(wordless(alloc)));
+    let with_finding = with_finding_words(alloc, with_lines);
+    with_made_word(with_finding, files_argument(alloc))
 }
 
 fn refusal(alloc: Global, error: &Error) -> RequestError {

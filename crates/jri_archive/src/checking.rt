@@ -24,43 +24,13 @@ pub struct Checked {
     pub verdict: Verdict,
 }
 
-/// Reads a file's header, cuts its scan, and reads each of its intervals once: a large scan with `threads` threads, of which
-/// the calling one is the first.
+/// Reads a file's header, cuts its scan in the memory of its bytes, and reads each of its intervals once: a large scan with
+/// `workers` threads, of which the calling one is the first.
 ///
 /// # Errors
 ///
 /// The file's first fault; `Memory` if allocation fails, which says nothing of the file.
 pub fn check_file<R: Threads + Wait + Sync>(
-    rt: &R,
-    alloc: Global,
-    file: &[u8],
-    workers: u32,
-) -> Result<Checked, Refusal>
-    ensures size { IfOk result (λ c. c.size ≡ length file.now) }
-    ensures scan { IfOk result (λ c. IsFileScan file.now c.scan) }
-    ensures image_end { IfOk result (λ c. IsImageEndIn file.now c.scan c.image_end) }
-    ensures verdict { IfOk result (λ c. IsVerdictOf c.scan (length c.scan.intervals) c.verdict) }
-    ensures refused { IfErr result (λ fault. fault ≢ refusal.Memory → RefusalOf file.now fault) }
-{
-    let head = read_head(alloc, file)?;
-    let Ok(CutScan { scan, image_end }) = CutScan::cut(alloc, head, file) else {
-        return Err(Refusal::Memory);
-    };
-    let verdict = check_scan_by(rt, alloc, &scan, workers);
-    Ok(Checked {
-        size: file.len() as u64,
-        scan,
-        image_end,
-        verdict,
-    })
-}
-
-/// Checks a file as `check_file` does, and reuses the memory of its bytes.
-///
-/// # Errors
-///
-/// As `check_file`.
-pub fn check_file_in_place<R: Threads + Wait + Sync>(
     rt: &R,
     alloc: Global,
     file: Vec<u8>,

@@ -1,6 +1,6 @@
 //! The verdict of one file by its bytes and its record.
 
-ghost use Rattle.std.specs.Prelude.{◌≡◌, ◌≢◌, ◌⊎◌, ◌↔◌, ℕ, List, Some, None, IsTrue, IfOk, IfErr, IfSome};
+ghost use Rattle.std.specs.Prelude.{◌≡◌, ◌≢◌, ◌⊎◌, ◌↔◌, ℕ, List, Some, None, Ok, IsTrue, IfOk, IfErr, IfSome};
 ghost use Rattle.jr_segments.specs.declared.refusal.Refusal.TheVariants as refusal;
 ghost use Rattle.jri_archive.specs.Outcomes.{IsOutcomeOf, plain_outcome, state_of};
 ghost use Rattle.jri_archive.specs.Records.{file_state};
@@ -8,17 +8,32 @@ ghost use Rattle.jri_archive.specs.Told.{IsOtherSeal, IsSealed};
 
 use crate::checking::Checked;
 use crate::file_queue::CheckedFile;
-use crate::outcome::{Outcome, outcome_in_place, outcome_of};
+use crate::outcome::{Outcome, outcome_of};
 use crate::reading::ReadError;
 use crate::source::Seal;
 use crate::state_record::{FileRecord, RecordedState};
 use jr_head::Refusal;
 use jr_mend::Break;
-use std::alloc::Global;
+use std::alloc::{AllocError, Global};
 use std::sync::Wait;
 use std::thread::Threads;
 
-/// Checks a file, for a map or for its line alone, which uses half the memory.
+/// Returns a copy of a file's bytes if `has_map` is set; otherwise none.
+fn kept_bytes(
+    alloc: Global,
+    file: &Result<Vec<u8>, ReadError>,
+    has_map: bool,
+) -> Result<Option<Vec<u8>>, AllocError>
+    ensures kept { IfOk result (λ o. IfSome o (λ kept. IfOk file.now (λ b. kept.items ≡ b.items))) }
+    ensures none { IfErr file.now (λ _. result ≡ Ok None) }
+{
+    match file {
+        Ok(bytes) if has_map => Ok(Some(bytes.as_slice().to_vec(alloc)?)),
+        _ => Ok(None),
+    }
+}
+
+/// Checks a file. Its bytes are kept if `has_map` is set, which doubles the memory.
 pub(crate) fn checked_file<R: Threads + Wait + Sync>(
     rt: &R,
     alloc: Global,
@@ -31,29 +46,15 @@ pub(crate) fn checked_file<R: Threads + Wait + Sync>(
     ensures bytes { IfOk file (λ b. IsOutcomeOf b.items result.outcome) }
     ensures error { IfErr file (λ e. result.outcome ≡ Outcome.Unread e) }
 {
-    if !has_map {
-        let outcome = outcome_in_place(rt, alloc, file, workers);
-        return CheckedFile {
-            outcome,
-            bytes: None,
-            breaks,
-            entry: None,
-        };
-    }
-    let outcome = outcome_of(rt, alloc, &file, workers);
-    match file {
-        Ok(bytes) => CheckedFile {
-            outcome,
-            bytes: Some(bytes),
-            breaks,
-            entry: None,
-        },
-        Err(_) => CheckedFile {
-            outcome,
-            bytes: None,
-            breaks,
-            entry: None,
-        },
+    let (bytes, outcome) = match kept_bytes(alloc, &file, has_map) {
+        Ok(bytes) => (bytes, outcome_of(rt, alloc, file, workers)),
+        Err(_) => (None, Outcome::Refused(Refusal::Memory)),
+    };
+    CheckedFile {
+        outcome,
+        bytes,
+        breaks,
+        entry: None,
     }
 }
 

@@ -6,7 +6,7 @@ ghost use Rattle.jr_segments.specs.declared.refusal.Refusal.TheVariants as refus
 ghost use Rattle.jr_damage.specs.Verdicts.{IsFileScan};
 ghost use Rattle.jri_archive.specs.Outcomes.{IsOutcomeOf, plain_outcome, state_of};
 
-use crate::checking::{Checked, check_file, check_file_in_place};
+use crate::checking::{Checked, check_file};
 use crate::counts::FileState;
 use crate::reading::ReadError;
 use crate::state_record::RecordedState;
@@ -35,27 +35,8 @@ pub enum Outcome {
     ChangedRefused(Refusal),
 }
 
-/// Checks a file, or returns why its bytes are not there. A large file is checked with `threads` threads.
+/// Checks a file, or returns why its bytes are not there. A large file is checked with `workers` threads.
 pub fn outcome_of<R: Threads + Wait + Sync>(
-    rt: &R,
-    alloc: Global,
-    file: &Result<Vec<u8>, ReadError>,
-    workers: u32,
-) -> Outcome
-    ensures bytes { IfOk file.now (λ bytes. IsOutcomeOf bytes.items result) }
-    ensures error { IfErr file.now (λ error. result ≡ Outcome.Unread error) }
-{
-    match file {
-        Ok(bytes) => match check_file(rt, alloc, bytes.as_slice(), workers) {
-            Ok(checked) => Outcome::Checked(checked),
-            Err(refusal) => Outcome::Refused(refusal),
-        },
-        Err(error) => Outcome::Unread(*error),
-    }
-}
-
-/// Checks a file as `outcome_of` does, and reuses the memory of its bytes.
-pub fn outcome_in_place<R: Threads + Wait + Sync>(
     rt: &R,
     alloc: Global,
     file: Result<Vec<u8>, ReadError>,
@@ -65,7 +46,7 @@ pub fn outcome_in_place<R: Threads + Wait + Sync>(
     ensures error { IfErr file (λ error. result ≡ Outcome.Unread error) }
 {
     match file {
-        Ok(bytes) => match check_file_in_place(rt, alloc, bytes, workers) {
+        Ok(bytes) => match check_file(rt, alloc, bytes, workers) {
             Ok(checked) => Outcome::Checked(checked),
             Err(fault) => Outcome::Refused(fault),
         },
