@@ -150,7 +150,7 @@ impl<S: OneFirstIntervals> RowQueue<S> {
     fn choice(&self, scan: &Scan) -> Choice {
         let steps = Steps {
             can_begin: self.baton.is_some() && !self.free.is_empty(),
-            has_unfinished: !self.skipped.is_empty() || !self.coded.is_empty(),
+            has_unfinished: !self.is_over && !(self.skipped.is_empty() && self.coded.is_empty()),
             is_over: self.is_over,
             brings_buffers: true,
         };
@@ -246,9 +246,17 @@ impl<S: OneFirstIntervals> RowQueue<S> {
     }
 
     /// Keeps the rows after those that are begun. Returns which thread to wake, since something can be done now.
-    fn go_on(&mut self, part: &FirstIntervals<'_>, behind: Option<Baton<S>>) -> Option<Waiter>
+    pub(crate) fn put_behind(
+        &mut self,
+        part: &FirstIntervals<'_>,
+        behind: Option<Baton<S>>,
+    ) -> Option<Waiter>
         requires { S.part ≡ Some part.now }
     {
+        if self.is_over {
+            drop(behind);
+            return None;
+        }
         let (number, bit) = match &behind {
             Some(baton) => baton.next_start(part),
             None => (u32::MAX, 0),
@@ -276,12 +284,8 @@ impl<S: OneFirstIntervals> RowQueue<S> {
     ) -> Option<Waiter>
         requires { S.part ≡ Some part.now }
     {
-        if self.is_over {
-            drop((skipped, behind));
-            return None;
-        }
         drop(self.skipped.push_back(skipped));
-        self.go_on(part, behind)
+        self.put_behind(part, behind)
     }
 
     /// Keeps a speculative read at its index. Returns which thread to wake, since a row may have waited for it.
@@ -299,27 +303,8 @@ impl<S: OneFirstIntervals> RowQueue<S> {
     ) -> Option<Waiter>
         requires { S.part ≡ Some part.now }
     {
-        if self.is_over {
-            drop((coded, behind));
-            return None;
-        }
         drop(self.coded.push_back(coded));
-        self.go_on(part, behind)
-    }
-
-    /// Keeps the rows after one that is read and painted. Returns which thread to wake.
-    pub(crate) fn put_behind(
-        &mut self,
-        part: &FirstIntervals<'_>,
-        behind: Option<Baton<S>>,
-    ) -> Option<Waiter>
-        requires { S.part ≡ Some part.now }
-    {
-        if self.is_over {
-            drop(behind);
-            return None;
-        }
-        self.go_on(part, behind)
+        self.put_behind(part, behind)
     }
 
     /// Returns whether a row is painted.
@@ -365,8 +350,5 @@ impl<S: OneFirstIntervals> RowQueue<S> {
     pub(crate) fn end(&mut self) {
         self.is_over = true;
         self.is_begun = true;
-        self.start(None);
-        self.skipped.clear();
-        self.coded.clear();
     }
 }
