@@ -70,32 +70,23 @@ impl<'a, S: OneFirstIntervals> Crew<'a, S> {
         }
     }
 
-    /// Allocates what the calling thread works with, and `buffers` row buffers; then the first row may begin.
+    /// Allocates `buffers` row buffers, and what the calling thread works with; then the first row may begin.
     pub(crate) fn begin<R: Wait>(&self, rt: &R, buffers: u32) -> Result<CallerRoom<S>, Memory>
         ensures lines { IfOk result (λ r. 8 * vertical_max self.now.scan.head * line_size self.now.scan.head ≤ length r.pixels.items) }
         ensures header { IfOk result (λ r. HEADER_ROOM ≤ length r.pixels.items) }
     {
-        let Ok(room) = CallerRoom::open(self.alloc, &self.part) else {
-            return Err(Memory);
-        };
-        if self.bring_buffers(rt, buffers).is_err() {
-            drop(room);
-            return Err(Memory);
-        }
-        self.queue.lock(rt).start(Baton::of(&self.part));
-        self.has_task.notify_all();
-        Ok(room)
-    }
-
-    /// Allocates `buffers` row buffers and adds them to the queue.
-    fn bring_buffers<R: Wait>(&self, rt: &R, buffers: u32) -> Result<(), Memory> {
         for _ in 0..buffers {
             let Ok(buffer) = RowBuffer::open(self.alloc, &self.part) else {
                 return Err(Memory);
             };
             self.give_back(rt, buffer);
         }
-        Ok(())
+        let Ok(room) = CallerRoom::open(self.alloc, &self.part) else {
+            return Err(Memory);
+        };
+        self.queue.lock(rt).start(Baton::of(&self.part));
+        self.has_task.notify_all();
+        Ok(room)
     }
 
     /// Returns the part of the scan that is decoded.
@@ -223,14 +214,6 @@ impl<'a, S: OneFirstIntervals> Crew<'a, S> {
         }
     }
 
-    /// Allocates a row buffer if one is lacking.
-    fn bring_buffer<R: Wait>(&self, rt: &R) {
-        let is_lacking = self.queue.lock(rt).lacks_buffer();
-        if is_lacking && let Ok(buffer) = RowBuffer::open(self.alloc, &self.part) {
-            self.give_back(rt, buffer);
-        }
-    }
-
     /// Brings a buffer for a speculative read of at most `most` MCUs. If allocation fails there are fewer speculative
     /// reads.
     fn bring_guess<R: Wait>(&self, rt: &R, most: u32) {
@@ -247,8 +230,8 @@ impl<'a, S: OneFirstIntervals> Crew<'a, S> {
         }
     }
 
-    /// Allocates what a helping thread works with, and its row buffers. Before it brings one it brings a buffer for
-    /// speculative reads and makes one, if any are made, so that the reader has them early.
+    /// Allocates what a helping thread works with, and row buffers if some are lacking. Before it brings one it brings a
+    /// buffer for speculative reads and makes one, if any are made, so that the reader has them early.
     pub(crate) fn prepare<R: Wait, G: Gate>(&self, rt: &R, gate: &G) -> Result<PaintRoom<S>, Memory> {
         let Ok(mut room) = PaintRoom::open(self.alloc, &self.part) else {
             return Err(Memory);
@@ -256,7 +239,10 @@ impl<'a, S: OneFirstIntervals> Crew<'a, S> {
         for _ in 0..ROW_BUFFERS_OF_WORKER {
             self.do_ready(rt, gate, &mut room);
             self.do_ready(rt, gate, &mut room);
-            self.bring_buffer(rt);
+            let is_lacking = self.queue.lock(rt).lacks_buffer();
+            if is_lacking && let Ok(buffer) = RowBuffer::open(self.alloc, &self.part) {
+                self.give_back(rt, buffer);
+            }
         }
         Ok(room)
     }

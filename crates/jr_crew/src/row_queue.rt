@@ -85,16 +85,18 @@ pub(crate) struct RowQueue<S: OneFirstIntervals> {
 }
 
 impl<S: OneFirstIntervals> RowQueue<S> {
-    /// Returns a queue in which no row can begin yet. Helper threads allocate `lacking` row buffers, besides those of the caller.
-    pub(crate) fn of(
+    /// Opens a queue for `count` row buffers, in which no row can begin yet. Helper threads allocate `lacking` of them.
+    pub(crate) fn open(
         alloc: Global,
+        count: u32,
         lacking: u32,
         guesses: GuessQueue<S>,
         painted: Vec<Option<Painted<S>>>,
-    ) -> RowQueue<S>
+    ) -> Result<RowQueue<S>, Memory>
         requires { 0 < length painted.items }
     {
-        RowQueue {
+        let count = count as usize;
+        let mut queue = RowQueue {
             baton: None,
             is_begun: false,
             is_over: false,
@@ -107,19 +109,15 @@ impl<S: OneFirstIntervals> RowQueue<S> {
             painted,
             waiting: 0,
             awaited: None,
-        }
-    }
-
-    /// Allocates space for `count` row buffers, and for as many skipped and read rows.
-    pub(crate) fn reserve(&mut self, count: u32) -> Result<(), Memory> {
-        let count = count as usize;
-        if self.free.reserve_exact(count).is_err()
-            || self.skipped.reserve_exact(count).is_err()
-            || self.coded.reserve_exact(count).is_err()
+        };
+        if queue.free.reserve_exact(count).is_err()
+            || queue.skipped.reserve_exact(count).is_err()
+            || queue.coded.reserve_exact(count).is_err()
         {
+            drop(queue);
             return Err(Memory);
         }
-        Ok(())
+        Ok(queue)
     }
 
     /// The first of these rows may begin, in the place of others.

@@ -102,12 +102,7 @@ fn open_queue<S: OneFirstIntervals>(
     let Ok(guesses) = open_guesses(alloc, part, guesses_of(part, count)) else {
         return Err(Memory);
     };
-    let mut queue = RowQueue::of(alloc, count.saturating_sub(own), guesses, painted);
-    if queue.reserve(count).is_err() {
-        drop(queue);
-        return Err(Memory);
-    }
-    Ok(queue)
+    RowQueue::open(alloc, count, count.saturating_sub(own), guesses, painted)
 }
 
 /// Does what `write_scan_by` does, with a type for the part that is decoded, so that what the threads share under locks
