@@ -135,8 +135,8 @@ impl<S: OneFirstIntervals> Baton<S> {
         announce(part.scan(), part.limit(), self.rows.row(), gate);
     }
 
-    /// Reads the next row, whose intervals were reported to the gate; if there is no memory for its blocks, paints it.
-    /// Returns it with those after it.
+    /// Reads the next row, whose intervals were reported to the gate; if memory for its blocks
+    /// cannot be allocated, paints it. Returns it with those after it.
     pub(crate) fn read(
         self,
         alloc: Global,

@@ -70,7 +70,8 @@ impl<'a, S: OneFirstIntervals> Crew<'a, S> {
         }
     }
 
-    /// Allocates `buffers` row buffers, and what the calling thread works with; then the first row may begin.
+    /// Allocates `buffers` row buffers, and what the calling thread works with; then the first row
+    /// may begin.
     pub(crate) fn begin<R: Wait>(&self, rt: &R, buffers: u32) -> Result<CallerRoom<S>, Memory>
         ensures lines { IfOk result (λ r. 8 * vertical_max self.now.scan.head * line_size self.now.scan.head ≤ length r.pixels.items) }
         ensures header { IfOk result (λ r. HEADER_ROOM ≤ length r.pixels.items) }
@@ -140,8 +141,8 @@ impl<'a, S: OneFirstIntervals> Crew<'a, S> {
         }
     }
 
-    /// Reads a row, and paints it if rows are whole intervals or there is no memory for its blocks; otherwise it waits for
-    /// a free thread.
+    /// Reads a row, and paints it if rows are whole intervals or memory for its blocks cannot be
+    /// allocated; otherwise it waits for a free thread.
     fn read<R: Wait, G: Gate>(&self, rt: &R, gate: &G, row: BegunRow<S>, room: &mut PaintRoom<S>) {
         row.baton.announce(&self.part, gate);
         if intervals_of_row(self.part.scan().head()).is_some() {
@@ -230,9 +231,14 @@ impl<'a, S: OneFirstIntervals> Crew<'a, S> {
         }
     }
 
-    /// Allocates what a helping thread works with, and row buffers if some are lacking. Before it brings one it brings a
-    /// buffer for speculative reads and makes one, if any are made, so that the reader has them early.
-    pub(crate) fn prepare<R: Wait, G: Gate>(&self, rt: &R, gate: &G) -> Result<PaintRoom<S>, Memory> {
+    /// Allocates what a helping thread works with, and row buffers if some are lacking. Before it
+    /// brings one it brings a buffer for speculative reads and makes one, if any are made, so that
+    /// the reader has them early.
+    pub(crate) fn prepare<R: Wait, G: Gate>(
+        &self,
+        rt: &R,
+        gate: &G,
+    ) -> Result<PaintRoom<S>, Memory> {
         let Ok(mut room) = PaintRoom::open(self.alloc, &self.part) else {
             return Err(Memory);
         };

@@ -31,7 +31,8 @@ impl Model for Row {
 }
 
 impl Row {
-    /// Returns the memory that is kept for a row of an image with this header; allocates it if none is.
+    /// Returns the memory that is kept for a row of an image with this header; allocates it if none
+    /// is.
     pub(crate) fn open(alloc: Global, head: &Head, kept: Option<Row>) -> Result<Row, Memory>
         requires { IfSome kept (HasRowRoom head.now) }
         ensures { IfOk result (HasRowRoom head.now) }

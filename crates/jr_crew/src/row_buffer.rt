@@ -112,7 +112,8 @@ impl<S: OneFirstIntervals> RowBuffer<S> {
         }
     }
 
-    /// Reads the next row of the scan; if memory for its blocks cannot be allocated, decodes and paints it.
+    /// Reads the next row of the scan; if memory for its blocks cannot be allocated, decodes and
+    /// paints it.
     pub fn read(
         self,
         alloc: Global,

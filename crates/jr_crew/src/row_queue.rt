@@ -85,7 +85,8 @@ pub(crate) struct RowQueue<S: OneFirstIntervals> {
 }
 
 impl<S: OneFirstIntervals> RowQueue<S> {
-    /// Opens a queue for `count` row buffers, in which no row can begin yet. Helper threads allocate `lacking` of them.
+    /// Opens a queue for `count` row buffers, in which no row can begin yet. Helper threads allocate
+    /// `lacking` of them.
     pub(crate) fn open(
         alloc: Global,
         count: u32,
@@ -243,7 +244,8 @@ impl<S: OneFirstIntervals> RowQueue<S> {
         Some(Spare::RowBuffer(buffer))
     }
 
-    /// Keeps the rows after those that are begun. Returns which thread to wake, since something can be done now.
+    /// Keeps the rows after those that are begun. Returns which thread to wake, since something can
+    /// be done now.
     pub(crate) fn put_behind(
         &mut self,
         part: &FirstIntervals<'_>,

@@ -51,8 +51,8 @@ pub(crate) struct Helping<'s, 'a, R: Wait, G: Gate, S: OneFirstIntervals> {
 }
 
 impl<'s, 'a, R: Wait, G: Gate, S: OneFirstIntervals> Help for Helping<'s, 'a, R, G, S> {
-    /// Allocates memory of its own, then reads and paints rows until none is left. If allocation fails, the others work
-    /// without this thread.
+    /// Allocates memory of its own, then reads and paints rows until none is left. If allocation
+    /// fails, the others work without this thread.
     fn help(&self) {
         let (crew, rt, gate) = (self.crew, self.rt, self.gate);
         let Ok(mut room) = crew.prepare(rt, gate) else {

@@ -7,7 +7,7 @@ use Rattle.jr_scan.specs.ScanValue.{ScanValue}
 use Rattle.jr_piece.proofs.ScanLaws.{outcome}
 use Rattle.jr_rows.specs.FirstIntervalsValue.{FirstIntervalsValue}
 use Rattle.jr_rows.specs.declared.marked.Marked.{Marked}
-use Rattle.jr_rows.specs.Stream.{IsSentBy, SendsPicture, HasCounts}
+use Rattle.jr_rows.specs.Stream.{HasCounts, IsSentBy}
 use Rattle.jr_rows.proofs.Sendings.{painted_picture, begun_picture}
 use Rattle.jr_crew.proofs.sharing.write_as.Goals as goal
 
