@@ -8,11 +8,6 @@ pub record RowBufferValue : Type 0 where
   pub work : Option RowValue
   pub pixels : List ℕ
 
--- buffers for its blocks and samples, and for its lines
-pub record WorkBufferValue : Type 0 where
-  pub work : RowValue
-  pub pixels : List ℕ
-
 -- its number, the marks of the intervals that end in it, and its blocks
 pub record CodedRowValue : Type 0 where
   pub row : ℕ

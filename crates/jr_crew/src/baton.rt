@@ -7,10 +7,11 @@ ghost use Rattle.jr_rows.specs.Rows.{AreRowsOf};
 
 use crate::one_first_intervals::OneFirstIntervals;
 use crate::paint_room::PaintRoom;
-use crate::row_buffer::{CodedRow, Painted, RowBuffer, WorkBuffer};
+use crate::row_buffer::{CodedRow, Painted, RowBuffer};
 use jr_picture::Gate;
 use jr_rows::{FirstIntervals, IntervalGuesses, Rows, announce, intervals_of_row, shape_of};
 use jr_scan::Guesses;
+use std::alloc::Global;
 use std::marker::{Model, PhantomData};
 
 /// The remaining rows of a scan, which one thread at a time reads, and the speculative reads that it uses.
@@ -134,30 +135,19 @@ impl<S: OneFirstIntervals> Baton<S> {
         announce(part.scan(), part.limit(), self.rows.row(), gate);
     }
 
-    /// Reads the next row, whose intervals were reported to the gate. Returns it with those after it.
+    /// Reads the next row, whose intervals were reported to the gate; if memory for its blocks
+    /// cannot be allocated, paints it. Returns it with those after it.
     pub(crate) fn read(
         self,
-        part: &FirstIntervals<'_>,
-        buffer: WorkBuffer<S>,
-    ) -> (CodedRow<S>, Option<Baton<S>>)
-        requires { S.part ≡ Some part.now }
-    {
-        let mut rows = self.rows;
-        let coded = buffer.read(part, &mut rows, Some(&self.guesses));
-        (coded, baton_over(part, rows))
-    }
-
-    /// Decodes and paints the next row, whose intervals were reported to the gate. Returns it with those after it.
-    pub(crate) fn decode(
-        self,
+        alloc: Global,
         part: &FirstIntervals<'_>,
         buffer: RowBuffer<S>,
         room: &mut PaintRoom<S>,
-    ) -> (Painted<S>, Option<Baton<S>>)
+    ) -> (Result<CodedRow<S>, Painted<S>>, Option<Baton<S>>)
         requires { S.part ≡ Some part.now }
     {
         let mut rows = self.rows;
-        let painted = buffer.decode(part, &mut rows, Some(&self.guesses), room);
-        (painted, baton_over(part, rows))
+        let read = buffer.read(alloc, part, &mut rows, Some(&self.guesses), room);
+        (read, baton_over(part, rows))
     }
 }

@@ -9,12 +9,12 @@ use crate::baton::Baton;
 use crate::caller_room::CallerRoom;
 use crate::one_first_intervals::OneFirstIntervals;
 use crate::paint_room::PaintRoom;
-use crate::row_buffer::{Painted, RowBuffer, WorkBuffer};
+use crate::row_buffer::{Painted, RowBuffer};
 use crate::row_queue::{BegunRow, RowQueue, RowTask, Waiter};
 use jr_base::Memory;
 use jr_picture::Gate;
 use jr_rows::{FirstIntervals, intervals_of_row};
-use jr_work::tuning::{MAX_TASKS, ROW_BUFFERS_OF_WORKER};
+use jr_work::tuning::ROW_BUFFERS_OF_WORKER;
 use jr_work::{GuessTask, ScanGuess};
 use std::alloc::Global;
 use std::marker::Model;
@@ -70,32 +70,24 @@ impl<'a, S: OneFirstIntervals> Crew<'a, S> {
         }
     }
 
-    /// Allocates what the calling thread works with, and `buffers` row buffers; then the first row may begin.
+    /// Allocates `buffers` row buffers, and what the calling thread works with; then the first row
+    /// may begin.
     pub(crate) fn begin<R: Wait>(&self, rt: &R, buffers: u32) -> Result<CallerRoom<S>, Memory>
         ensures lines { IfOk result (λ r. 8 * vertical_max self.now.scan.head * line_size self.now.scan.head ≤ length r.pixels.items) }
         ensures header { IfOk result (λ r. HEADER_ROOM ≤ length r.pixels.items) }
     {
-        let Ok(room) = CallerRoom::open(self.alloc, &self.part) else {
-            return Err(Memory);
-        };
-        if self.bring_buffers(rt, buffers).is_err() {
-            drop(room);
-            return Err(Memory);
-        }
-        self.queue.lock(rt).start(Baton::of(&self.part));
-        self.has_task.notify_all();
-        Ok(room)
-    }
-
-    /// Allocates `buffers` row buffers and adds them to the queue.
-    fn bring_buffers<R: Wait>(&self, rt: &R, buffers: u32) -> Result<(), Memory> {
         for _ in 0..buffers {
             let Ok(buffer) = RowBuffer::open(self.alloc, &self.part) else {
                 return Err(Memory);
             };
             self.give_back(rt, buffer);
         }
-        Ok(())
+        let Ok(room) = CallerRoom::open(self.alloc, &self.part) else {
+            return Err(Memory);
+        };
+        self.queue.lock(rt).start(Baton::of(&self.part));
+        self.has_task.notify_all();
+        Ok(room)
     }
 
     /// Returns the part of the scan that is decoded.
@@ -107,7 +99,7 @@ impl<'a, S: OneFirstIntervals> Crew<'a, S> {
     }
 
     /// Waits for something to do and returns it; frees memory if nothing else is to be done. `None` if nothing is left.
-    fn task<R: Wait>(&self, rt: &R) -> Option<RowTask<S>> {
+    pub(crate) fn task<R: Wait>(&self, rt: &R) -> Option<RowTask<S>> {
         let scan = self.part.scan();
         let mut queue = self.queue.lock(rt);
         queue.waiting = queue.waiting.saturating_add(1);
@@ -149,16 +141,25 @@ impl<'a, S: OneFirstIntervals> Crew<'a, S> {
         }
     }
 
-    /// Reads a row, and paints it if rows are whole intervals; otherwise it waits for a free thread.
+    /// Reads a row, and paints it if rows are whole intervals or memory for its blocks cannot be
+    /// allocated; otherwise it waits for a free thread.
     fn read<R: Wait, G: Gate>(&self, rt: &R, gate: &G, row: BegunRow<S>, room: &mut PaintRoom<S>) {
         row.baton.announce(&self.part, gate);
         if intervals_of_row(self.part.scan().head()).is_some() {
             return self.finish(rt, row, room);
         }
         let BegunRow { baton, buffer } = row;
-        match buffer.with_work(self.alloc, &self.part) {
-            Ok(buffer) => self.read_on(rt, baton, buffer),
-            Err(buffer) => self.decode_on(rt, baton, buffer, room),
+        let (read, behind) = baton.read(self.alloc, &self.part, buffer, room);
+        match read {
+            Ok(coded) => {
+                let waiter = self.queue.lock(rt).put_coded(&self.part, coded, behind);
+                self.wake(waiter);
+            }
+            Err(painted) => {
+                let waiter = self.queue.lock(rt).put_behind(&self.part, behind);
+                self.wake(waiter);
+                self.put_painted(rt, painted);
+            }
         }
     }
 
@@ -166,27 +167,6 @@ impl<'a, S: OneFirstIntervals> Crew<'a, S> {
     fn finish<R: Wait>(&self, rt: &R, row: BegunRow<S>, room: &mut PaintRoom<S>) {
         let BegunRow { baton, buffer } = row;
         self.put_painted(rt, baton.finish(&self.part, buffer, room));
-    }
-
-    /// Reads a row, which then waits for a free thread.
-    fn read_on<R: Wait>(&self, rt: &R, baton: Baton<S>, buffer: WorkBuffer<S>) {
-        let (coded, behind) = baton.read(&self.part, buffer);
-        let waiter = self.queue.lock(rt).put_coded(&self.part, coded, behind);
-        self.wake(waiter);
-    }
-
-    /// Decodes and paints a row, where there is no memory for its blocks, before the next one is read.
-    fn decode_on<R: Wait>(
-        &self,
-        rt: &R,
-        baton: Baton<S>,
-        buffer: RowBuffer<S>,
-        room: &mut PaintRoom<S>,
-    ) {
-        let (painted, behind) = baton.decode(&self.part, buffer, room);
-        let waiter = self.queue.lock(rt).put_behind(&self.part, behind);
-        self.wake(waiter);
-        self.put_painted(rt, painted);
     }
 
     /// Wakes who waits for something to do.
@@ -235,14 +215,6 @@ impl<'a, S: OneFirstIntervals> Crew<'a, S> {
         }
     }
 
-    /// Allocates a row buffer if one is lacking.
-    fn bring_buffer<R: Wait>(&self, rt: &R) {
-        let is_lacking = self.queue.lock(rt).lacks_buffer();
-        if is_lacking && let Ok(buffer) = RowBuffer::open(self.alloc, &self.part) {
-            self.give_back(rt, buffer);
-        }
-    }
-
     /// Brings a buffer for a speculative read of at most `most` MCUs. If allocation fails there are fewer speculative
     /// reads.
     fn bring_guess<R: Wait>(&self, rt: &R, most: u32) {
@@ -259,29 +231,26 @@ impl<'a, S: OneFirstIntervals> Crew<'a, S> {
         }
     }
 
-    /// Allocates memory of its own, then reads and paints rows until none is left. If allocation fails, the others work
-    /// without this thread. Before it brings a row buffer it brings a buffer for speculative reads and makes one, if any are
-    /// made, so that the reader has them early.
-    pub(crate) fn work<R: Wait, G: Gate>(&self, rt: &R, gate: &G) {
+    /// Allocates what a helping thread works with, and row buffers if some are lacking. Before it
+    /// brings one it brings a buffer for speculative reads and makes one, if any are made, so that
+    /// the reader has them early.
+    pub(crate) fn prepare<R: Wait, G: Gate>(
+        &self,
+        rt: &R,
+        gate: &G,
+    ) -> Result<PaintRoom<S>, Memory> {
         let Ok(mut room) = PaintRoom::open(self.alloc, &self.part) else {
-            return;
+            return Err(Memory);
         };
         for _ in 0..ROW_BUFFERS_OF_WORKER {
             self.do_ready(rt, gate, &mut room);
             self.do_ready(rt, gate, &mut room);
-            self.bring_buffer(rt);
+            let is_lacking = self.queue.lock(rt).lacks_buffer();
+            if is_lacking && let Ok(buffer) = RowBuffer::open(self.alloc, &self.part) {
+                self.give_back(rt, buffer);
+            }
         }
-        self.do_tasks(rt, gate, &mut room);
-    }
-
-    /// Reads and paints rows until no one is left.
-    fn do_tasks<R: Wait, G: Gate>(&self, rt: &R, gate: &G, room: &mut PaintRoom<S>) {
-        for _ in 0..MAX_TASKS {
-            let Some(task) = self.task(rt) else {
-                return;
-            };
-            self.run(rt, gate, task, room);
-        }
+        Ok(room)
     }
 
     /// Waits until a row is painted, and returns it.

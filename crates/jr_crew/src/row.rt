@@ -1,19 +1,16 @@
 //! A row of MCUs in work: its blocks and their samples.
 
-ghost use Rattle.std.specs.Prelude.{◌≡◌, ◌+◌, ◌*◌, ◌<◌, ◌≤◌, length, IfOk, IfSome};
-ghost use Rattle.jr_head.specs.Geometry.{mcus_across, mcus_down};
+ghost use Rattle.std.specs.Prelude.{◌≡◌, ◌*◌, ◌<◌, ◌≤◌, length, take, IfOk, IfSome};
+ghost use Rattle.jr_head.specs.Geometry.{mcus_across, mcus_down, vertical_max};
 ghost use Rattle.jr_paint.specs.Lines.{line_room, line_size};
 ghost use Rattle.jr_picture.specs.BoardValue.{BoardValue};
 ghost use Rattle.jr_rows.specs.Bands.{ShowsMcus};
-ghost use Rattle.jr_rows.specs.Cursors.{AreGuessesIn};
 ghost use Rattle.jr_rows.specs.Groups.{units_in};
-ghost use Rattle.jr_rows.specs.Rows.{HasFirst, HasRowRoom, AreRead, AreRowsOf, CountsRow, ShowsLines, line_count};
+ghost use Rattle.jr_rows.specs.Rows.{HasFirst, HasRowRoom, AreRead, ShowsLines, line_count};
 
 use jr_base::{Coefficients, Memory};
 use jr_head::Head;
-use jr_rows::{
-    FirstIntervals, IntervalGuesses, Marked, RowLines, Rows, coded_of_row, paint_row, shape_of,
-};
+use jr_rows::{FirstIntervals, RowLines, coded_of_row, lines_of, paint_row, shape_of};
 use jr_scan::Scan;
 use std::alloc::Global;
 use std::marker::Model;
@@ -21,7 +18,7 @@ use std::marker::Model;
 /// Memory for the blocks and the samples of a row of MCUs, used again for row after row.
 #[derive(Drop)]
 pub(crate) struct Row {
-    blocks: Vec<Coefficients>,
+    pub(crate) blocks: Vec<Coefficients>,
     lines: RowLines,
 }
 
@@ -34,10 +31,15 @@ impl Model for Row {
 }
 
 impl Row {
-    /// Allocates memory for a row of an image with this header.
-    pub(crate) fn open(alloc: Global, head: &Head) -> Result<Row, Memory>
+    /// Returns the memory that is kept for a row of an image with this header; allocates it if none
+    /// is.
+    pub(crate) fn open(alloc: Global, head: &Head, kept: Option<Row>) -> Result<Row, Memory>
+        requires { IfSome kept (HasRowRoom head.now) }
         ensures { IfOk result (HasRowRoom head.now) }
     {
+        if let Some(row) = kept {
+            return Ok(row);
+        }
         let count = shape_of(head).across as usize * head.order().len();
         let Ok(blocks) = vec![in alloc; Coefficients::zeros(); count] else {
             return Err(Memory);
@@ -46,26 +48,6 @@ impl Row {
             return Err(Memory);
         };
         Ok(Row { blocks, lines })
-    }
-
-    /// Reads the next row. Returns the marks of the intervals that end in it.
-    pub(crate) fn read(
-        &mut self,
-        part: &FirstIntervals<'_>,
-        rows: &mut Rows,
-        guesses: Option<&IntervalGuesses>,
-    ) -> Marked
-        requires rows { AreRowsOf part.now rows.old }
-        requires same { IfSome guesses (λ g. AreGuessesIn part.now.scan g.now) }
-        requires row { rows.old.row < mcus_down part.now.scan.head }
-        requires room { HasRowRoom part.now.scan.head self.old }
-        ensures room { HasRowRoom part.now.scan.head self.new }
-        ensures rows { AreRowsOf part.now rows.new }
-        ensures row { rows.new.row ≡ rows.old.row + 1 }
-        ensures read { AreRead part.now.scan part.now.limit rows.old.row self.new.blocks }
-        ensures counts { CountsRow part.now.scan part.now.limit rows.old.row result }
-    {
-        rows.read(part, guesses, &mut self.blocks)
     }
 
     /// Transforms the decoded MCUs of the row that is read; the others are blank.
@@ -84,24 +66,27 @@ impl Row {
         self.lines.decode(head, coded, &self.blocks);
     }
 
-    /// Paints the lines of the row that is read, of a scan whose first `limit` intervals are decoded.
+    /// Transforms and paints the row that is read, at the beginning of `pixels`.
     pub(crate) fn paint(
         &mut self,
-        scan: &Scan,
-        limit: u32,
+        part: &FirstIntervals<'_>,
         row: u32,
         room: &mut [u8],
         pixels: &mut [u8],
     )
-        requires lines { line_room scan.now.head ≤ length room.old }
-        requires row { row < mcus_down scan.now.head }
-        requires room { HasRowRoom scan.now.head self.old }
-        requires read { AreRead scan.now limit row self.old.blocks }
-        requires pixels { length pixels.old ≡ line_count scan.now.head row * line_size scan.now.head }
-        ensures room { HasRowRoom scan.now.head self.new }
-        ensures lines { ShowsLines scan.now limit row pixels.new }
+        requires lines { line_room part.now.scan.head ≤ length room.old }
+        requires row { row < mcus_down part.now.scan.head }
+        requires room { HasRowRoom part.now.scan.head self.old }
+        requires read { AreRead part.now.scan part.now.limit row self.old.blocks }
+        requires pixels { 8 * vertical_max part.now.scan.head * line_size part.now.scan.head ≤ length pixels.old }
+        ensures room { HasRowRoom part.now.scan.head self.new }
+        ensures lines { ShowsLines part.now.scan part.now.limit row (take (line_count part.now.scan.head row * line_size part.now.scan.head) pixels.new) }
     {
+        let (scan, limit) = (part.scan(), part.limit());
+        let head = scan.head();
+        let (_y, count) = lines_of(head, row);
+        let size = count as usize * shape_of(head).line;
         self.transform(scan, limit, row);
-        paint_row(scan.head(), &self.lines, row, room, pixels);
+        paint_row(head, &self.lines, row, room, &mut pixels[..size]);
     }
 }

@@ -1,10 +1,10 @@
 //! Memory for a row of MCUs of a scan: empty, read, or painted.
 
-ghost use Rattle.std.specs.Prelude.{◌≡◌, ◌+◌, ◌-◌, ◌*◌, ◌<◌, ◌≤◌, Some, length, take, drop, IfSome};
+ghost use Rattle.std.specs.Prelude.{◌≡◌, ◌+◌, ◌-◌, ◌*◌, ◌<◌, ◌≤◌, Some, length, take, drop, IfOk, IfSome};
 ghost use Rattle.jr_head.specs.Geometry.{mcus_down, vertical_max};
-ghost use Rattle.jr_paint.specs.Lines.{line_room, line_size};
+ghost use Rattle.jr_paint.specs.Lines.{line_size};
 ghost use Rattle.jr_rows.specs.Cursors.{AreGuessesIn};
-ghost use Rattle.jr_rows.specs.Rows.{AreRead, AreRowsOf, CountsRow, HasRowRoom, HasSampleRoom, ShowsLines, line_count};
+ghost use Rattle.jr_rows.specs.Rows.{AreRowsOf, CountsRow, HasSampleRoom, ShowsLines, line_count};
 
 use crate::one_first_intervals::OneFirstIntervals;
 use crate::paint_room::PaintRoom;
@@ -16,28 +16,6 @@ use jr_rows::{
 use std::alloc::Global;
 use std::marker::{Model, PhantomData};
 use std::mem;
-
-/// Paints the row that is read at the beginning of `pixels`.
-fn paint_first(
-    work: &mut Row,
-    part: &FirstIntervals<'_>,
-    row: u32,
-    room: &mut [u8],
-    pixels: &mut [u8],
-)
-    requires lines { line_room part.now.scan.head ≤ length room.old }
-    requires row { row < mcus_down part.now.scan.head }
-    requires room { HasRowRoom part.now.scan.head work.old }
-    requires read { AreRead part.now.scan part.now.limit row work.old.blocks }
-    requires pixels { 8 * vertical_max part.now.scan.head * line_size part.now.scan.head ≤ length pixels.old }
-    ensures room { HasRowRoom part.now.scan.head work.new }
-    ensures lines { ShowsLines part.now.scan part.now.limit row (take (line_count part.now.scan.head row * line_size part.now.scan.head) pixels.new) }
-{
-    let (scan, limit) = (part.scan(), part.limit());
-    let (_y, count) = lines_of(scan.head(), row);
-    let size = count as usize * shape_of(scan.head()).line;
-    work.paint(scan, limit, row, room, &mut pixels[..size]);
-}
 
 /// Decodes the next row and paints it at the beginning of `pixels`. Returns the marks of the intervals that end in it.
 fn decode_first(
@@ -134,74 +112,42 @@ impl<S: OneFirstIntervals> RowBuffer<S> {
         }
     }
 
-    /// Allocates memory for a row's blocks and samples. If allocation fails, returns the row buffer unchanged.
-    pub fn with_work(
+    /// Reads the next row of the scan; if memory for its blocks cannot be allocated, decodes and
+    /// paints it.
+    pub fn read(
         self,
         alloc: Global,
         part: &FirstIntervals<'_>,
-    ) -> Result<WorkBuffer<S>, RowBuffer<S>>
-        requires { S.part ≡ Some part.now }
-    {
-        let pixels = self.pixels;
-        let of = PhantomData;
-        if let Some(work) = self.work {
-            return Ok(WorkBuffer { work, pixels, of });
-        }
-        match Row::open(alloc, part.scan().head()) {
-            Ok(work) => Ok(WorkBuffer { work, pixels, of }),
-            Err(_) => Err(RowBuffer {
-                work: None,
-                pixels,
-                of,
-            }),
-        }
-    }
-}
-
-/// Memory for the blocks, the samples and the lines of a row of MCUs of the scan.
-#[derive(Drop)]
-pub struct WorkBuffer<S: OneFirstIntervals> {
-    work: Row,
-    pixels: Vec<u8>,
-    of: PhantomData<S>,
-}
-
-impl<S: OneFirstIntervals> Model for WorkBuffer<S> {
-    ghost use Rattle.jr_crew.specs.RowBufferValue.{WorkBufferValue};
-    ghost use Rattle.jr_crew.specs.RowBuffer.{HasRoom, HasWork};
-
-    ghost Value = { WorkBufferValue };
-
-    ghost view = { λ b. record { work = b.work; pixels = b.pixels.items } };
-
-    ghost invariant = { λ b. HasWork S.part b.work × HasRoom S.part b.pixels.items };
-}
-
-impl<S: OneFirstIntervals> WorkBuffer<S> {
-    /// Reads the next row of the scan.
-    pub fn read(
-        self,
-        part: &FirstIntervals<'_>,
         rows: &mut Rows,
         guesses: Option<&IntervalGuesses>,
-    ) -> CodedRow<S>
+        room: &mut PaintRoom<S>,
+    ) -> Result<CodedRow<S>, Painted<S>>
         requires part { S.part ≡ Some part.now }
         requires rows { AreRowsOf part.now rows.old }
         requires same { IfSome guesses (λ g. AreGuessesIn part.now.scan g.now) }
         requires row { rows.old.row < mcus_down part.now.scan.head }
-        ensures row { result.row ≡ rows.old.row }
+        ensures row { IfOk result (λ c. c.row ≡ rows.old.row) }
         ensures rows { AreRowsOf part.now rows.new }
     {
+        let pixels = self.pixels;
+        let of = PhantomData;
+        let Ok(mut work) = Row::open(alloc, part.scan().head(), self.work) else {
+            let buffer = RowBuffer {
+                work: None,
+                pixels,
+                of,
+            };
+            return Err(buffer.decode(part, rows, guesses, room));
+        };
         let row = rows.row();
-        let mut work = self.work;
-        let marked = work.read(part, rows, guesses);
-        CodedRow {
+        let marked = rows.read(part, guesses, &mut work.blocks);
+        Ok(CodedRow {
             row,
             marked,
             work,
-            pixels: self.pixels,
-            of: PhantomData,
-        }
+            pixels,
+            of,
+        })
     }
 }
 
@@ -234,7 +180,7 @@ impl<S: OneFirstIntervals> CodedRow<S> {
         ensures { result.row ≡ self.row }
     {
         let (mut work, mut pixels) = (self.work, self.pixels);
-        paint_first(&mut work, part, self.row, &mut room.bytes, &mut pixels);
+        work.paint(part, self.row, &mut room.bytes, &mut pixels);
         Painted {
             row: self.row,
             marked: self.marked,

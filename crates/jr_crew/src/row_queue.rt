@@ -85,16 +85,19 @@ pub(crate) struct RowQueue<S: OneFirstIntervals> {
 }
 
 impl<S: OneFirstIntervals> RowQueue<S> {
-    /// Returns a queue in which no row can begin yet. Helper threads allocate `lacking` row buffers, besides those of the caller.
-    pub(crate) fn of(
+    /// Opens a queue for `count` row buffers, in which no row can begin yet. Helper threads allocate
+    /// `lacking` of them.
+    pub(crate) fn open(
         alloc: Global,
+        count: u32,
         lacking: u32,
         guesses: GuessQueue<S>,
         painted: Vec<Option<Painted<S>>>,
-    ) -> RowQueue<S>
+    ) -> Result<RowQueue<S>, Memory>
         requires { 0 < length painted.items }
     {
-        RowQueue {
+        let count = count as usize;
+        let mut queue = RowQueue {
             baton: None,
             is_begun: false,
             is_over: false,
@@ -107,19 +110,15 @@ impl<S: OneFirstIntervals> RowQueue<S> {
             painted,
             waiting: 0,
             awaited: None,
-        }
-    }
-
-    /// Allocates space for `count` row buffers, and for as many skipped and read rows.
-    pub(crate) fn reserve(&mut self, count: u32) -> Result<(), Memory> {
-        let count = count as usize;
-        if self.free.reserve_exact(count).is_err()
-            || self.skipped.reserve_exact(count).is_err()
-            || self.coded.reserve_exact(count).is_err()
+        };
+        if queue.free.reserve_exact(count).is_err()
+            || queue.skipped.reserve_exact(count).is_err()
+            || queue.coded.reserve_exact(count).is_err()
         {
+            drop(queue);
             return Err(Memory);
         }
-        Ok(())
+        Ok(queue)
     }
 
     /// The first of these rows may begin, in the place of others.
@@ -150,7 +149,7 @@ impl<S: OneFirstIntervals> RowQueue<S> {
     fn choice(&self, scan: &Scan) -> Choice {
         let steps = Steps {
             can_begin: self.baton.is_some() && !self.free.is_empty(),
-            has_unfinished: !self.skipped.is_empty() || !self.coded.is_empty(),
+            has_unfinished: !self.is_over && !(self.skipped.is_empty() && self.coded.is_empty()),
             is_over: self.is_over,
             brings_buffers: true,
         };
@@ -245,10 +244,19 @@ impl<S: OneFirstIntervals> RowQueue<S> {
         Some(Spare::RowBuffer(buffer))
     }
 
-    /// Keeps the rows after those that are begun. Returns which thread to wake, since something can be done now.
-    fn go_on(&mut self, part: &FirstIntervals<'_>, behind: Option<Baton<S>>) -> Option<Waiter>
+    /// Keeps the rows after those that are begun. Returns which thread to wake, since something can
+    /// be done now.
+    pub(crate) fn put_behind(
+        &mut self,
+        part: &FirstIntervals<'_>,
+        behind: Option<Baton<S>>,
+    ) -> Option<Waiter>
         requires { S.part ≡ Some part.now }
     {
+        if self.is_over {
+            drop(behind);
+            return None;
+        }
         let (number, bit) = match &behind {
             Some(baton) => baton.next_start(part),
             None => (u32::MAX, 0),
@@ -276,12 +284,8 @@ impl<S: OneFirstIntervals> RowQueue<S> {
     ) -> Option<Waiter>
         requires { S.part ≡ Some part.now }
     {
-        if self.is_over {
-            drop((skipped, behind));
-            return None;
-        }
         drop(self.skipped.push_back(skipped));
-        self.go_on(part, behind)
+        self.put_behind(part, behind)
     }
 
     /// Keeps a speculative read at its index. Returns which thread to wake, since a row may have waited for it.
@@ -299,27 +303,8 @@ impl<S: OneFirstIntervals> RowQueue<S> {
     ) -> Option<Waiter>
         requires { S.part ≡ Some part.now }
     {
-        if self.is_over {
-            drop((coded, behind));
-            return None;
-        }
         drop(self.coded.push_back(coded));
-        self.go_on(part, behind)
-    }
-
-    /// Keeps the rows after one that is read and painted. Returns which thread to wake.
-    pub(crate) fn put_behind(
-        &mut self,
-        part: &FirstIntervals<'_>,
-        behind: Option<Baton<S>>,
-    ) -> Option<Waiter>
-        requires { S.part ≡ Some part.now }
-    {
-        if self.is_over {
-            drop(behind);
-            return None;
-        }
-        self.go_on(part, behind)
+        self.put_behind(part, behind)
     }
 
     /// Returns whether a row is painted.
@@ -365,8 +350,5 @@ impl<S: OneFirstIntervals> RowQueue<S> {
     pub(crate) fn end(&mut self) {
         self.is_over = true;
         self.is_begun = true;
-        self.start(None);
-        self.skipped.clear();
-        self.coded.clear();
     }
 }

@@ -14,6 +14,7 @@ use crate::one_first_intervals::OneFirstIntervals;
 use jr_base::{Tally, WriteFault};
 use jr_picture::Gate;
 use jr_rows::{Marked, write_rows};
+use jr_work::tuning::MAX_TASKS;
 use jr_work::{Beside, Help};
 use std::io::Write;
 use std::sync::Wait;
@@ -50,8 +51,19 @@ pub(crate) struct Helping<'s, 'a, R: Wait, G: Gate, S: OneFirstIntervals> {
 }
 
 impl<'s, 'a, R: Wait, G: Gate, S: OneFirstIntervals> Help for Helping<'s, 'a, R, G, S> {
+    /// Allocates memory of its own, then reads and paints rows until none is left. If allocation
+    /// fails, the others work without this thread.
     fn help(&self) {
-        self.crew.work(self.rt, self.gate);
+        let (crew, rt, gate) = (self.crew, self.rt, self.gate);
+        let Ok(mut room) = crew.prepare(rt, gate) else {
+            return;
+        };
+        for _ in 0..MAX_TASKS {
+            let Some(task) = crew.task(rt) else {
+                return;
+            };
+            crew.run(rt, gate, task, &mut room);
+        }
     }
 }
 

@@ -1,22 +1,20 @@
 //! A scan's image, decoded and painted by several threads, and written in one pass.
 
-ghost use Rattle.std.specs.Prelude.{◌≡◌, ◌<◌, ◌≤◌, Some, IfOk, IfSome, IfNone, OnOk, length, true, false};
+ghost use Rattle.std.specs.Prelude.{◌≡◌, ◌<◌, ◌≤◌, Some, IfOk, OnOk, length, true, false};
 ghost use Rattle.jr_base.specs.Tally.{has_failed};
 ghost use Rattle.jr_base.specs.declared.limits.TheConstants.{MAX_WORKERS};
 ghost use Rattle.jr_picture.specs.Headline.{least};
 ghost use Rattle.jr_picture.specs.Writing.{WritesPicture, BeginsPicture};
-ghost use Rattle.jr_rows.specs.Stream.{IsSentBy};
 
-use crate::baton::Baton;
 use crate::crew::Crew;
 use crate::crew_size::crew_size;
 use crate::one_first_intervals::OneFirstIntervals;
 use crate::row_buffer::Painted;
 use crate::row_queue::RowQueue;
 use crate::sending::{Helping, Sending};
-use jr_base::{Memory, Tally, WriteFault};
+use jr_base::{Memory, Tally};
 use jr_picture::{Counts, Gate, PictureError};
-use jr_rows::{FirstIntervals, Marked, counts_of, intervals_of_row, shape_of, write_scan};
+use jr_rows::{FirstIntervals, counts_of, intervals_of_row, shape_of, write_scan};
 use jr_scan::Scan;
 use jr_work::tuning::{
     MAX_COUNTED, MIN_MCUS_OF_BUFFER, MIN_READERS, MIN_READS, READS_OF_ROW_WORKER,
@@ -104,38 +102,7 @@ fn open_queue<S: OneFirstIntervals>(
     let Ok(guesses) = open_guesses(alloc, part, guesses_of(part, count)) else {
         return Err(Memory);
     };
-    let mut queue = RowQueue::of(alloc, count.saturating_sub(own), guesses, painted);
-    if queue.reserve(count).is_err() {
-        drop(queue);
-        return Err(Memory);
-    }
-    Ok(queue)
-}
-
-/// Writes what the worker pool paints: the calling thread, which brings some row buffers, and the other threads. `None` if
-/// allocation fails in the calling thread.
-fn write_by_crew<R: Threads + Wait + Sync, W: Write, G: Gate + Sync, S: OneFirstIntervals + Send>(
-    crew: &Crew<'_, S>,
-    rt: &R,
-    gate: &G,
-    helpers: u32,
-    buffers: u32,
-    out: &mut Tally<W>,
-) -> Option<Result<Marked, WriteFault>>
-    requires unfailed { has_failed out.old ≡ false }
-    ensures some { IfSome result (IsSentBy W.contents crew.now out.old out.new) }
-    ensures none { IfNone result (out.new ≡ out.old) }
-{
-    let sending = Sending {
-        crew,
-        rt,
-        gate,
-        buffers,
-        out,
-    };
-    let helping = Helping { crew, rt, gate };
-    let (sent, _out) = run_beside(rt, helpers, &helping, sending);
-    sent
+    RowQueue::open(alloc, count, count.saturating_sub(own), guesses, painted)
 }
 
 /// Does what `write_scan_by` does, with a type for the part that is decoded, so that what the threads share under locks
@@ -167,8 +134,17 @@ fn write_as<R: Threads + Wait + Sync, W: Write, G: Gate + Sync, S: OneFirstInter
     let Ok(queue) = open_queue::<S>(alloc, &part, buffers, own) else {
         return Err(PictureError::Memory);
     };
-    let crew = Crew::of(alloc, part, queue);
-    match write_by_crew(&crew, rt, gate, workers - 1, own, out) {
+    let crew = &Crew::of(alloc, part, queue);
+    let helping = Helping { crew, rt, gate };
+    let sending = Sending {
+        crew,
+        rt,
+        gate,
+        buffers: own,
+        out,
+    };
+    let (sent, _out) = run_beside(rt, workers - 1, &helping, sending);
+    match sent {
         Some(Ok(marked)) => Ok(counts_of(scan, limit, marked)),
         Some(Err(_)) => Err(PictureError::Write),
         None => Err(PictureError::Memory),

@@ -10,48 +10,48 @@ pub invariant_of-result : goal.invariant_of-result
 invariant_of-result g c =
     let t = c.args.part.now.scan in
     let old = c.self.inside.pixels in
-    let new = c.paint_first.new.pixels in
-    let work = c.paint_first.new.work in
+    let new = c.paint.new.pixels in
+    let work = c.paint.new.self in
     let row = c.self.inside.row in
     let marked = c.self.inside.marked in
-    let same : length new ≡ length old.items = search (rules, c.paint_first.auto.pixels) in
-    let long : old.len ≡ length new = search (rules, c.paint_first.auto.pixels) in
+    let same : length new ≡ length old.items = search (rules, c.paint.auto.pixels) in
+    let long : old.len ≡ length new = search (rules, c.paint.auto.pixels) in
     let is = all_back old.len new old.items long in
     let room : 8 * vertical_max t.head * line_size t.head ≤ length old.items = subst (λ (k : Option FirstIntervalsValue). HasRoom k old.items) c.requires c.self.invariant.1 in
     let read = subst (λ (k : Option FirstIntervalsValue). IsRead k (record { row = row; marked = marked; work = c.self.inside.work })) c.requires c.self.invariant.2 in
     subst (λ (ps : List ℕ). HasWork g.S.OneFirstIntervals.part work × HasRoom g.S.OneFirstIntervals.part ps × IsPainted g.S.OneFirstIntervals.part (record { row = row; marked = marked; pixels = ps })) (sym is)
     (subst (λ (k : Option FirstIntervalsValue). HasWork k work × HasRoom k new × IsPainted k (record { row = row; marked = marked; pixels = new })) (sym c.requires)
-    (c.paint_first.ensures.room, omega (arith, room, same), record { row = read.row; lines = c.paint_first.ensures.lines; counts = read.counts }))
+    (c.paint.ensures.room, omega (arith, room, same), record { row = read.row; lines = c.paint.ensures.lines; counts = read.counts }))
 
 pub invariant_of-room : goal.invariant_of-room
 invariant_of-room g c =
     let old = c.room.inside.bytes in
-    let new = c.paint_first.new.room in
-    let same : length new ≡ length old.items = search (rules, c.paint_first.auto.room) in
-    let long : old.len ≡ length new = search (rules, c.paint_first.auto.room) in
+    let new = c.paint.new.room in
+    let same : length new ≡ length old.items = search (rules, c.paint.auto.room) in
+    let long : old.len ≡ length new = search (rules, c.paint.auto.room) in
     let is = all_back old.len new old.items long in
     subst (λ (bs : List ℕ). HasLineRoom g.S.OneFirstIntervals.part (length bs) × HasSamples g.S.OneFirstIntervals.part c.room.inside.work) (sym is)
     (subst (HasLineRoom g.S.OneFirstIntervals.part) (sym same) c.room.invariant.0, c.room.invariant.1)
 
-pub paint_first-requires-clause-lines : goal.paint_first-requires-clause-lines
-paint_first-requires-clause-lines g c =
+pub paint-requires-clause-lines : goal.paint-requires-clause-lines
+paint-requires-clause-lines g c =
     let room = subst (λ (k : Option FirstIntervalsValue). HasLineRoom k (length c.room.inside.bytes.items)) c.requires c.room.invariant.0 in
     subst (λ (bs : List ℕ). line_room c.args.part.now.scan.head ≤ length bs) (sym c.deref_mut.ensures.value) room
 
-pub paint_first-requires-clause-row : goal.paint_first-requires-clause-row
-paint_first-requires-clause-row g c =
+pub paint-requires-clause-row : goal.paint-requires-clause-row
+paint-requires-clause-row g c =
     let read = subst (λ (k : Option FirstIntervalsValue). IsRead k (record { row = c.self.inside.row; marked = c.self.inside.marked; work = c.self.inside.work })) c.requires c.self.invariant.2 in
     omega (arith, read.row)
 
-pub paint_first-requires-clause-room : goal.paint_first-requires-clause-room
-paint_first-requires-clause-room g c = subst (λ (k : Option FirstIntervalsValue). HasWork k c.self.inside.work) c.requires c.self.invariant.0
+pub paint-requires-clause-room : goal.paint-requires-clause-room
+paint-requires-clause-room g c = subst (λ (k : Option FirstIntervalsValue). HasWork k c.self.inside.work) c.requires c.self.invariant.0
 
-pub paint_first-requires-clause-read : goal.paint_first-requires-clause-read
-paint_first-requires-clause-read g c =
+pub paint-requires-clause-read : goal.paint-requires-clause-read
+paint-requires-clause-read g c =
     let read = subst (λ (k : Option FirstIntervalsValue). IsRead k (record { row = c.self.inside.row; marked = c.self.inside.marked; work = c.self.inside.work })) c.requires c.self.invariant.2 in
     search read
 
-pub paint_first-requires-clause-pixels : goal.paint_first-requires-clause-pixels
-paint_first-requires-clause-pixels g c =
+pub paint-requires-clause-pixels : goal.paint-requires-clause-pixels
+paint-requires-clause-pixels g c =
     let room = subst (λ (k : Option FirstIntervalsValue). HasRoom k c.self.inside.pixels.items) c.requires c.self.invariant.1 in
     subst (λ (ps : List ℕ). 8 * vertical_max c.args.part.now.scan.head * line_size c.args.part.now.scan.head ≤ length ps) (sym c.deref_mut-2.ensures.value) room
