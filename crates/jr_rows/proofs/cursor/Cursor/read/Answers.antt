@@ -86,3 +86,9 @@ returns-clause-blocks c =
     c.zero_from-2.ensures.kept k (omega (arith, lt, first)) ∙ sym (get_or-take (n * per_mcu c.at-reader.result) new k [] (omega (arith, lt, ap (λ (m : ℕ). n * m) (per_is c)))) in
     codes c.args.interval (lawful c) c.args.self.now.mcu c.args.mcus n c.in-Some.place c.args.self.now.place c.requires.at c.in-Some.is c.requires.few (most c) c.at-reader.result c.match-guesses.reader (blocks c) (on c)
     us all kept (λ k le lt. c.zero_from-2.ensures.zeros k (omega (arith, le, first)) lt)
+
+pub at-reader-requires-clause-within : goal.at-reader-requires-clause-within
+at-reader-requires-clause-within c = (c.requires.at.next c.in-Some.place c.in-Some.is).1.can.0
+
+pub at-reader-requires-clause-in_range : goal.at-reader-requires-clause-in_range
+at-reader-requires-clause-in_range c = (c.requires.at.next c.in-Some.place c.in-Some.is).1.can.1

@@ -26,3 +26,9 @@ returns-clause-at c =
     moved c.args.interval lawful c.args.self.now.mcu most n c.in-Some.place c.args.self.now.place c.requires.at c.in-Some.is c.requires.few skipped.few r r' passed.0
     (record { run = c.at-reader.ensures.run; start = c.at-reader.ensures.mcu; run' = skipped.run; mcu = skipped.mcus; read = passed.1; ended = skipped.ended })
     c.place_after-self.result c.place_after-self.ensures.whole c.place_after-self.ensures.place c.place_after-self.ensures.can c.place_after-self.ensures.none
+
+pub at-reader-requires-clause-within : goal.at-reader-requires-clause-within
+at-reader-requires-clause-within c = (c.requires.at.next c.in-Some.place c.in-Some.is).1.can.0
+
+pub at-reader-requires-clause-in_range : goal.at-reader-requires-clause-in_range
+at-reader-requires-clause-in_range c = (c.requires.at.next c.in-Some.place c.in-Some.is).1.can.1
