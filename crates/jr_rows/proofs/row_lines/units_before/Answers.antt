@@ -1,4 +1,4 @@
-use Rattle.std.proofs.Common.{◌≡◌, ℕ, ◌+◌, ◌*◌, ◌/◌, ◌%◌, ◌<◌, ◌∙◌, ap, arith, zero-mul, mul-pos}
+use Rattle.std.proofs.Common.{◌≡◌, ℕ, ◌+◌, ◌*◌, ◌/◌, ◌%◌, ◌<◌, ◌∙◌, ap, arith, mod-eq_of_lt, mul-pos}
 use Rattle.jr_head.specs.Geometry.{horizontal_max, horizontal_of, vertical_max, vertical_of}
 use Rattle.jr_paint.specs.declared.geometry.Spot.{Spot}
 use Rattle.jr_paint.proofs.Factors.{sampled_at}
@@ -7,7 +7,10 @@ use Rattle.jr_rows.proofs.row_lines.units_before.Goals as goal
 
 -- the first sample of a component is in its first data unit
 first : (before across down : ℕ) → 0 < across → 0 < down → before + 0 % (8 * down) / 8 * across + 0 % (8 * across) / 8 ≡ before
-first before across down a d = omega (arith, a, d)
+first before across down a d =
+    let line : 0 % (8 * down) ≡ 0 = mod-eq_of_lt (omega (arith, d)) in
+    let column : 0 % (8 * across) ≡ 0 = mod-eq_of_lt (omega (arith, a)) in
+    omega (arith, ap (λ (n : ℕ). n / 8 * across) line, ap (λ (n : ℕ). n / 8) column)
 
 pub place-requires-clause-column : goal.place-requires-clause-column
 place-requires-clause-column c =
@@ -27,4 +30,4 @@ pub returns : goal.returns
 returns c =
     let h = c.args.head.now in
     let s = sampled_at h c.args.c c.requires.lawful c.requires.component in
-    ap (λ (p : Spot). p.block) c.place.ensures.closed ∙ first _ (horizontal_of h c.args.c) (vertical_of h c.args.c) s.across s.down
+    record { value = ap (λ (p : Spot). p.block) c.place.ensures.closed ∙ first _ (horizontal_of h c.args.c) (vertical_of h c.args.c) s.across s.down }

@@ -1,6 +1,9 @@
 use Rattle.std.proofs.Common.{refl, sym, subst, ap, rules, arith, ◌≡◌, ℕ, ◌+◌, ◌*◌, ◌-◌, ◌<◌, ◌≤◌, ◌++◌, ◌^◌, ◌∙◌, List, min, length, take, drop, take-add, Ok}
 use Rattle.std.proofs.Math.Seq.{take-append_seam}
+use Rattle.std.proofs.lemmas.List.{length-take-le}
 use Rattle.std.proofs.lemmas.Nat.{mul-le}
+use mir.Syntax.{w64}
+use mir.Val.{Fits}
 use Rattle.jr_base.specs.Tally.{Writes, WritesBeginning}
 use Rattle.jr_base.proofs.Appending.{on_err, front_first}
 use Rattle.jr_head.specs.HeadValue.{HeadValue}
@@ -25,11 +28,11 @@ use Rattle.jr_rows.proofs.writing.write_rows.Goals as goal
 lines_of_deep : (count most deep : ℕ) → count ≤ most → deep ≡ most → deep ≤ 32 → count ≤ 32
 lines_of_deep count most deep few e low = omega (arith, few, e, low)
 
-size_fits : (count line : ℕ) → count ≤ 32 → line ≤ 196605 → count * line < 2 ^ 64
+size_fits : (count line : ℕ) → count ≤ 32 → line ≤ 196605 → Fits w64 (count * line)
 size_fits count line few short = let all = mul-le count line 32 196605 few short in omega (arith, all)
 
-marks_fit : (a b at to all : ℕ) → a ≤ at → at + b ≤ to → to ≤ all → all < 2 ^ 32 → a + b < 2 ^ 32
-marks_fit a b at to all before here few fits = omega (arith, before, here, few, fits)
+marks_fit : (from a b at to all : ℕ) → from + a ≤ at → at + b ≤ to → to ≤ all → all < 2 ^ 32 → a + b < 2 ^ 32
+marks_fit from a b at to all before here few fits = omega (arith, before, here, few, fits)
 
 falls : (row down : ℕ) → row < down → down - (row + 1) < down - row
 falls row down lt = omega (arith, lt)
@@ -204,10 +207,11 @@ with-marked-requires g c =
     let marks : CountsRow at.scan at.limit row c.paint-more.result = subst (λ (r : RowsValue). CountsRow r.scan r.limit r.row c.paint-more.result) c.rows.invariant.at_row c.paint-more.ensures.counts in
     let few = ends_few at.scan.head (coded_before at.scan.head at.limit (row + 1)) in
     let room : intervals_of at.scan.head < 2 ^ 32 = subst (λ (k : HeadValue). intervals_of k < 2 ^ 32) c.requires.head c.requires.intervals in
-    marks_fit _ _ _ _ _ c.rows.invariant.counts.few marks.few few room
+    marks_fit _ (c.rows.marked.sound + c.rows.marked.damaged) (c.paint-more.result.sound + c.paint-more.result.damaged) _ _ _ c.rows.invariant.counts.few marks.few few room
 
 pub slice_bounds-write_all-end : goal.slice_bounds-write_all-end
-slice_bounds-write_all-end g c = subst (λ (ps : List ℕ). c.rows.filled ≤ length ps) (sym c.deref-2.ensures.value) c.rows.invariant.filled
+slice_bounds-write_all-end g c =
+    sym (length-take-le c.rows.filled c.deref-2.result.now (subst (λ (ps : List ℕ). c.rows.filled ≤ length ps) (sym c.deref-2.ensures.value) c.rows.invariant.filled))
 
 pub write_all-requires : goal.write_all-requires
 write_all-requires g c = c.rows.invariant.unfailed
