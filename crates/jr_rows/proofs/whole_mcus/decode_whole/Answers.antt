@@ -1,4 +1,4 @@
-use Rattle.std.proofs.Common.{◌≡◌, ℕ, ◌+◌, ◌-◌, ◌*◌, ◌<◌, ◌≤◌, ◌++◌, ◌∙◌, List, [], min, length, take, drop, ap, sym, subst, arith, le_of_lt, le_trans, length-append, slice_index_or}
+use Rattle.std.proofs.Common.{◌≡◌, ℕ, ◌+◌, ◌-◌, ◌*◌, ◌<◌, ◌≤◌, ◌++◌, ◌∙◌, List, [], min, length, take, drop, ap, sym, subst, arith, rules, le_of_lt, le_trans, length-append, slice_index_or}
 use Rattle.std.specs.Prelude.{ℤ}
 use Rattle.std.proofs.lemmas.List.{length-take-le, take-append-le}
 use Rattle.std.proofs.Math.Nat.{add-mul, mul-le-mul_right}
@@ -83,7 +83,7 @@ pub returns-clause-few : goal.returns-clause-few
 returns-clause-few c = fits _ _ _ _ _ _ c.read_whole-whole.ensures.few c.min-most.ensures c.shape_of.ensures.across c.requires.within
 
 pub returns-clause-kept : goal.returns-clause-kept
-returns-clause-kept c = c.transform_blocks.ensures.kept
+returns-clause-kept c = search (rules, c.transform_blocks.ensures.kept)
 
 pub returns-clause-none : goal.returns-clause-none
 returns-clause-none c = c.read_whole-whole.ensures.none

@@ -34,9 +34,6 @@ size_fits count line few short = let all = mul-le count line 32 196605 few short
 marks_fit : (from a b at to all : ℕ) → from + a ≤ at → at + b ≤ to → to ≤ all → all < 2 ^ 32 → a + b < 2 ^ 32
 marks_fit from a b at to all before here few fits = omega (arith, before, here, few, fits)
 
-falls : (row down : ℕ) → row < down → down - (row + 1) < down - row
-falls row down lt = omega (arith, lt)
-
 pub rows-init : goal.rows-init
 rows-init g c =
     let at = g.P.RowPainter.at c.args.painter.now in
@@ -219,4 +216,5 @@ write_all-requires g c = c.rows.invariant.unfailed
 pub rows-smaller : goal.rows-smaller
 rows-smaller g c =
     let down = c.shape_of-shape.ensures.down ∙ ap (λ (k : HeadValue). mcus_down k) c.requires.head in
-    falls c.rows.row _ (subst (λ (n : ℕ). c.rows.row < n) down c.rows-test.true)
+    let lt = subst (λ (n : ℕ). c.rows.row < n) down c.rows-test.true in
+    omega (arith, lt)

@@ -233,7 +233,8 @@ read-requires-clause-room c =
     let room : length old ≡ c.args.mcus * per = c.intervals.invariant.long ∙ c.requires.room ∙ ap (λ (k : ℕ). c.args.mcus * k) (sym per_is) in
     let fits : end ≤ length old = omega (arith, c.units_to-end.ensures.within, room) in
     let order : order_of c.fork.result.head ≡ c.order-per_mcu.result.now = ap (λ (i : IntervalValue). order_of i.head) (c.fork.ensures ∙ c.interval_ref-interval.ensures) ∙ ap (λ (x : HeadValue). order_of x) (sym c.head.ensures.value) ∙ sym c.order-per_mcu.ensures.value in
-    mid_len start end old fits ∙ part_size start end c.intervals.done mcus per c.units_to-from.ensures.value c.units_to-end.ensures.value ∙ ap (λ z. mcus * length z) (sym order)
+    let at : start ≡ c.intervals.done * per = omega (arith, c.units_to-from.ensures.value) in
+    mid_len start end old fits ∙ part_size start end c.intervals.done mcus per at c.units_to-end.ensures.value ∙ ap (λ z. mcus * length z) (sym order)
 
 pub slice_bounds-read-end : goal.slice_bounds-read-end
 slice_bounds-read-end c =

@@ -1,7 +1,9 @@
 use Rattle.std.proofs.Common.{sym, subst, []}
 use Rattle.jr_head.specs.Geometry.{IsLawful}
+use Rattle.jr_scan.specs.Guesses.{AreGuessesOf}
 use Rattle.jr_scan.specs.McuReader.{McuReaderValue}
-use Rattle.jr_rows.proofs.CursorSteps.{HasSkipped, moved}
+use Rattle.jr_scan.specs.Run.{RunOf}
+use Rattle.jr_rows.proofs.CursorSteps.{HasSkipped, grey_on, moved}
 use Rattle.jr_rows.proofs.cursor.Cursor.skip.Goals as goal
 use Rattle.jr_rows.proofs.cursor.Cursor.skip.Goals.{in-Some-guesses, in-None}
 
@@ -32,3 +34,11 @@ at-reader-requires-clause-within c = (c.requires.at.next c.in-Some.place c.in-So
 
 pub at-reader-requires-clause-in_range : goal.at-reader-requires-clause-in_range
 at-reader-requires-clause-in_range c = (c.requires.at.next c.in-Some.place c.in-Some.is).1.can.1
+
+pub skip_by-whole-requires : goal.skip_by-whole-requires
+skip_by-whole-requires c =
+    let own = rw c.in-Some-guesses.is at c.requires.same in
+    record { same = subst (λ (o : RunOf). AreGuessesOf o.interval c.in-Some-guesses.guesses.now) (sym c.at-reader.ensures.run) own }
+
+pub returns-in_default-clause-at : goal.returns-in_default-clause-at
+returns-in_default-clause-at c = grey_on c.args.interval c.args.self.now.mcu c.args.self.now.place c.requires.at c.in_default.is c.args.mcus c.requires.few
