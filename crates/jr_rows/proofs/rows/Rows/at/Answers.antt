@@ -44,8 +44,9 @@ returns-clause-rows c =
     let within : c.interval_with-number.result.1 ≡ within_interval h (c.args.row * mcus_across h) = c.interval_with-number.ensures.within ∙ ap (λ (x : HeadValue). within_interval x (c.args.row * c.shape_of-across.result.across)) (c.head-3.ensures.value ∙ ap (λ (s : ScanValue). s.head) c.scan-scan.ensures) ∙ ap (λ (n : ℕ). within_interval h (c.args.row * n)) (c.shape_of-across.ensures.across ∙ ap (λ (x : HeadValue). mcus_across x) (c.head-2.ensures.value ∙ ap (λ (s : ScanValue). s.head) c.scan-scan.ensures)) in
     let count : length t.intervals ≡ intervals_of h = subst (λ (s : ScanValue). length s.intervals ≡ intervals_of s.head) c.scan-scan.ensures (sym c.intervals.ensures.value ∙ c.intervals.ensures.count) in
     let to = start_to h (interval_number h (c.args.row * mcus_across h)) start (c.at_start-cursor.ensures ∙ ap interval_start number) in
-    let moved = subst (λ (s : ScanValue). mcus_to s.head next ≡ mcus_to s.head start + c.interval_with-number.result.1) c.scan-scan.ensures c.skip_mcus.ensures.moved in
-    let at : mcus_to h next ≡ c.args.row * mcus_across h = omega (arith, moved, to, within, whole) in
+    let before = ap (λ (s : ScanValue). mcus_to s.head start) c.scan-scan.ensures in
+    let behind = ap (λ (s : ScanValue). mcus_to s.head next) c.scan-scan.ensures in
+    let at : mcus_to h next ≡ c.args.row * mcus_across h = omega (arith, c.skip_mcus.ensures.moved, before, behind, to, within, whole) in
     record {
       stands = subst (λ (s : ScanValue). IsCursorOf s next) c.scan-scan.ensures c.skip_mcus.ensures.stands;
       at = at ∙ sym (all_before h c.args.row some c.requires.row) ∙ ap (λ (n : ℕ). coded_before h n c.args.row) (sym (c.requires.all ∙ count));

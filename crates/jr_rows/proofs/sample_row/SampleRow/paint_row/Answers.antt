@@ -1,6 +1,7 @@
 use Rattle.std.proofs.Common.{sym, subst, ap, ◌∙◌, ◌≡◌, ℕ, ◌≤◌, List, length, le_of_eq}
 use Rattle.jr_paint.specs.Lines.{line_room}
-use Rattle.jr_rows.specs.Rows.{HasSampleRoom}
+use Rattle.jr_rows.specs.Rows.{HasSampleRoom, PaintsRowLines}
+use Rattle.jr_rows.specs.RowsValue.{SampleRowValue}
 use Rattle.jr_rows.proofs.Lent.{all_back}
 use Rattle.jr_rows.proofs.sample_row.SampleRow.paint_row.Goals as goal
 
@@ -25,3 +26,12 @@ returns-clause-room c =
       lines = had.lines;
       room = ap length (all_back held.len room held.items (held.ok.0 ∙ sym same)) ∙ same ∙ had.room;
     }
+
+pub paint_row-requires-clause-row : goal.paint_row-requires-clause-row
+paint_row-requires-clause-row c = c.requires.row
+
+pub paint_row-requires-clause-pixels : goal.paint_row-requires-clause-pixels
+paint_row-requires-clause-pixels c = c.requires.pixels
+
+pub returns-clause-lines : goal.returns-clause-lines
+returns-clause-lines c = subst (λ (r : SampleRowValue). PaintsRowLines c.args.head.now c.args.row r.lines.groups c.paint_row.new.pixels) c.self.view_is c.paint_row.ensures
