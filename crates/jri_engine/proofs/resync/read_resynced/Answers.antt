@@ -1,4 +1,4 @@
-use Rattle.std.proofs.Common.{Err, refl, sym, ap, ◌∙◌}
+use Rattle.std.proofs.Common.{Err, refl, ap, ◌∙◌}
 use Rattle.std.specs.Arc.{arc_value}
 use Rattle.jr_base.specs.Tally.{known_in}
 use Rattle.jr_picture.specs.declared.report.Fault.TheVariants as fault

@@ -1,5 +1,4 @@
-use Rattle.std.proofs.Common.{sym, subst, ap, ◌∙◌, ◌≡◌, ℕ, ◌≤◌, List, length, le_of_eq}
-use Rattle.jr_paint.specs.Lines.{line_room}
+use Rattle.std.proofs.Common.{sym, subst, ap, ◌∙◌, ◌≡◌, ℕ, List, length, le_of_eq}
 use Rattle.jr_rows.specs.Rows.{HasSampleRoom, PaintsRowLines}
 use Rattle.jr_rows.specs.RowsValue.{SampleRowValue}
 use Rattle.jr_rows.proofs.Lent.{all_back}
