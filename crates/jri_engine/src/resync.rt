@@ -121,8 +121,10 @@ fn read_resynced<R: Read>(alloc: Global, input: &mut Tally<R>) -> Result<Resynce
     ensures failed { result ≡ Err Fault.Read → has_failed input.new ≡ true }
     ensures unfailed { result ≢ Err Fault.Read → has_failed input.new ≡ false }
 {
-    let (file, head) = read_file(alloc, input)?;
-    resynced_scan(alloc, head, file)
+    match read_file(alloc, input) {
+        Ok((file, head)) => resynced_scan(alloc, head, file),
+        Err(fault) => Err(fault),
+    }
 }
 
 /// Does what `run` does for the file with its restart markers in step, and returns the markers that are out of step. A

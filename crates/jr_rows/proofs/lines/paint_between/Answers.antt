@@ -1,9 +1,9 @@
-use Rattle.std.proofs.Common.{rules, arith, refl, sym, subst, ap, ◌∙◌, ◌≡◌, ℕ, ◌+◌, ◌-◌, ◌*◌, ◌<◌, ◌≤◌, ◌++◌, ◌^◌, take_all, min, max, length, take}
+use Rattle.std.proofs.Common.{rules, arith, refl, sym, subst, ap, ◌∙◌, ◌≡◌, ℕ, ◌+◌, ◌-◌, ◌*◌, ◌<◌, ◌≤◌, ◌++◌, ◌^◌, take_all, le_of_lt, min, max, length, take}
 use Rattle.std.proofs.Math.Nat.{add-mul}
 use Rattle.std.proofs.lemmas.Slice.{take-put_mid}
 use borrow.Rule.Slice.PartMut.{mid_len, put_mid, same_len_mid}
 use Rattle.jr_head.specs.HeadValue.{HeadValue}
-use Rattle.jr_head.specs.Geometry.{IsLawful, mcus_across, vertical_max}
+use Rattle.jr_head.specs.Geometry.{IsLawful, mcus_across, mcus_down, vertical_max}
 use Rattle.jr_paint.specs.Lines.{line_size, next_lines_of}
 use Rattle.jr_paint.proofs.PixelLaws.{next_lines_more}
 use Rattle.jr_scan.specs.ScanValue.{ScanValue, intervals_of}
@@ -21,6 +21,25 @@ use Rattle.jr_rows.proofs.PutMarks.{puts_both, puts_none}
 use Rattle.jr_rows.proofs.ReadRows.{counts_none, counts_both}
 use Rattle.jr_rows.proofs.SomeLines.{done_lines, next_done}
 use Rattle.jr_rows.proofs.lines.paint_between.Goals as goal
+
+-- orders of plain numbers, for goals with many facts
+below : (a b n : ℕ) → a < b → b ≤ n → a < n
+below a b n lt le = omega (arith, lt, le)
+
+from_first : (y first at : ℕ) → y ≡ max first at → first ≤ y
+from_first y first at e = omega (arith, e)
+
+to_first : (first end y count at : ℕ) → y + count ≡ min end at → y - first ≤ end - first
+to_first first end y count at e = omega (arith, e)
+
+to_end : (first end y count a b : ℕ) → first < end → y ≡ max first a → y + count ≡ min end b → y - first + count ≤ end - first
+to_end first end y count a b some at to = omega (arith, some, at, to)
+
+few_lines : (first end height : ℕ) → end ≤ height → height < 65536 → end - first < 65536
+few_lines first end height le low = omega (arith, le, low)
+
+falls : (row next end : ℕ) → row < end → next ≡ row + 1 → end - next < end - row
+falls row next end lt e = omega (arith, lt, e)
 
 pub rows-init : goal.rows-init
 rows-init c =
@@ -188,3 +207,70 @@ slice_bounds-paint_some-end c =
     let line : c.shape_of-line.result.line ≡ line_size c.args.scan.now.head = c.shape_of-line.ensures.line ∙ ap (λ (g : HeadValue). line_size g) c.head-head.ensures.value in
     let room = c.rows.invariant.long ∙ c.requires.pixels ∙ ap (λ (k : ℕ). (c.args.end - c.args.first) * k) (sym line) in
     omega (arith, c.bytes_to-to.ensures.within, room)
+
+pub rows_of-row-requires-clause-inside : goal.rows_of-row-requires-clause-inside
+rows_of-row-requires-clause-inside c = subst (λ (g : HeadValue). c.args.end ≤ g.height) (sym c.head-head.ensures.value) c.requires.inside
+
+pub at-rows-requires-clause-all : goal.at-rows-requires-clause-all
+at-rows-requires-clause-all c = subst (λ (p : FirstIntervalsValue). p.limit ≡ length p.scan.intervals) (sym c.of-part.ensures) refl
+
+pub at-rows-requires-clause-row : goal.at-rows-requires-clause-row
+at-rows-requires-clause-row c =
+    let few = subst (λ (g : HeadValue). c.rows_of-row.result.1 ≤ mcus_down g) c.head-head.ensures.value c.rows_of-row.ensures.few in
+    subst (λ (p : FirstIntervalsValue). c.rows_of-row.result.0 < mcus_down p.scan.head) (sym c.of-part.ensures) (below _ _ _ c.rows_of-row.ensures.some few)
+
+pub decode-more-requires-clause-rows : goal.decode-more-requires-clause-rows
+decode-more-requires-clause-rows c = c.rows.invariant.rows
+
+pub decode-more-requires-clause-row : goal.decode-more-requires-clause-row
+decode-more-requires-clause-row c =
+    let few = subst (λ (g : HeadValue). c.rows_of-row.result.1 ≤ mcus_down g) c.head-head.ensures.value c.rows_of-row.ensures.few in
+    let row : c.rows.rows.row < c.rows_of-row.result.1 = subst (λ (k : ℕ). k < c.rows_of-row.result.1) c.row.ensures c.rows-test.true in
+    subst (λ (p : FirstIntervalsValue). c.rows.rows.row < mcus_down p.scan.head) (sym c.of-part.ensures) (below _ _ _ row few)
+
+pub lines_in-y-requires-clause-row : goal.lines_in-y-requires-clause-row
+lines_in-y-requires-clause-row c =
+    let row : c.row-row.result < c.rows_of-row.result.1 = subst (λ (k : ℕ). k < c.rows_of-row.result.1) (c.row.ensures ∙ sym c.row-row.ensures) c.rows-test.true in
+    below _ _ _ row c.rows_of-row.ensures.few
+
+pub lines_in-y-requires-clause-reaches : goal.lines_in-y-requires-clause-reaches
+lines_in-y-requires-clause-reaches c =
+    let there = subst (λ (g : HeadValue). c.args.first < (c.rows.rows.row + 1) * (8 * vertical_max g)) (sym c.head-head.ensures.value) c.rows.invariant.reaches in
+    subst (λ (k : ℕ). c.args.first < (k + 1) * (8 * vertical_max c.head-head.result.now)) (sym c.row-row.ensures) there
+
+pub lines_in-y-requires-clause-some : goal.lines_in-y-requires-clause-some
+lines_in-y-requires-clause-some c = c.requires.some
+
+pub lines_in-y-requires-clause-inside : goal.lines_in-y-requires-clause-inside
+lines_in-y-requires-clause-inside c = subst (λ (g : HeadValue). c.args.end ≤ g.height) (sym c.head-head.ensures.value) c.requires.inside
+
+pub overflow_sub-y : goal.overflow_sub-y
+overflow_sub-y c = from_first _ _ _ c.lines_in-y.ensures.first
+
+pub overflow_sub-y-in-rows : goal.overflow_sub-y-in-rows
+overflow_sub-y-in-rows c = from_first _ _ _ c.lines_in-y.ensures.first
+
+pub overflow_sub-end : goal.overflow_sub-end
+overflow_sub-end c = le_of_lt c.requires.some
+
+pub overflow_sub-end-in-rows : goal.overflow_sub-end-in-rows
+overflow_sub-end-in-rows c = le_of_lt c.requires.some
+
+pub bytes_to-from-requires-clause-within : goal.bytes_to-from-requires-clause-within
+bytes_to-from-requires-clause-within c = to_first c.args.first c.args.end c.lines_in-y.result.0 c.lines_in-y.result.1 _ c.lines_in-y.ensures.end
+
+pub bytes_to-to-requires-clause-within : goal.bytes_to-to-requires-clause-within
+bytes_to-to-requires-clause-within c = to_end c.args.first c.args.end c.lines_in-y.result.0 c.lines_in-y.result.1 _ _ c.requires.some c.lines_in-y.ensures.first c.lines_in-y.ensures.end
+
+pub bytes_to-from-requires-clause-few : goal.bytes_to-from-requires-clause-few
+bytes_to-from-requires-clause-few c =
+    let low = subst (λ (g : HeadValue). g.height < 65536) c.head-head.ensures.value c.head-head.ensures.lawful.low in
+    few_lines c.args.first c.args.end _ c.requires.inside low
+
+pub bytes_to-to-requires-clause-few : goal.bytes_to-to-requires-clause-few
+bytes_to-to-requires-clause-few c =
+    let low = subst (λ (g : HeadValue). g.height < 65536) c.head-head.ensures.value c.head-head.ensures.lawful.low in
+    few_lines c.args.first c.args.end _ c.requires.inside low
+
+pub rows-smaller : goal.rows-smaller
+rows-smaller c = falls c.rows.rows.row c.decode-more.new.self.row c.rows_of-row.result.1 (subst (λ (k : ℕ). k < c.rows_of-row.result.1) c.row.ensures c.rows-test.true) c.decode-more.ensures.row

@@ -1,5 +1,9 @@
-use Rattle.std.proofs.Common.{refl, sym, subst, ap, rules, arith, ◌≡◌, ℕ, ◌+◌, ◌*◌, ◌-◌, ◌≤◌, ◌++◌, ◌∙◌, List, min, length, take, drop, take-add, Ok}
+use Rattle.std.proofs.Common.{refl, sym, subst, ap, rules, arith, ◌≡◌, ℕ, ◌+◌, ◌*◌, ◌-◌, ◌<◌, ◌≤◌, ◌++◌, ◌^◌, ◌∙◌, List, min, length, take, drop, take-add, Ok}
 use Rattle.std.proofs.Math.Seq.{take-append_seam}
+use Rattle.std.proofs.lemmas.List.{length-take-le}
+use Rattle.std.proofs.lemmas.Nat.{mul-le}
+use mir.Syntax.{w64}
+use mir.Val.{Fits}
 use Rattle.jr_base.specs.Tally.{Writes, WritesBeginning}
 use Rattle.jr_base.proofs.Appending.{on_err, front_first}
 use Rattle.jr_head.specs.HeadValue.{HeadValue}
@@ -10,13 +14,25 @@ use Rattle.jr_paint.specs.Written.{WritesUpTo}
 use Rattle.jr_paint.proofs.Held.{nothing_written, written_on, held_more, begun, rest_sent}
 use Rattle.jr_paint.proofs.PixelLaws.{text_none, text_more, text_begins, text_is}
 use Rattle.jr_picture.specs.Samples.{samples_of}
+use Rattle.jr_scan.specs.ScanValue.{intervals_of}
 use Rattle.jr_rows.specs.Rows.{CountsMcus, CountsRow, ShowsLines, coded_before, first_line, line_count}
 use Rattle.jr_rows.specs.RowsValue.{RowsValue}
 use Rattle.jr_rows.proofs.Lent.{all_back}
+use Rattle.jr_rows.proofs.IntervalPlaces.{ends_few}
 use Rattle.jr_rows.proofs.SomeLines.{lines_fit}
 use Rattle.jr_rows.proofs.PictureRows.{no_lines, all_lines}
 use Rattle.jr_rows.proofs.ReadRows.{counts_none, counts_both}
 use Rattle.jr_rows.proofs.writing.write_rows.Goals as goal
+
+-- sizes and counts as plain numbers, for goals with many facts
+lines_of_deep : (count most deep : ℕ) → count ≤ most → deep ≡ most → deep ≤ 32 → count ≤ 32
+lines_of_deep count most deep few e low = omega (arith, few, e, low)
+
+size_fits : (count line : ℕ) → count ≤ 32 → line ≤ 196605 → Fits w64 (count * line)
+size_fits count line few short = let all = mul-le count line 32 196605 few short in omega (arith, all)
+
+marks_fit : (from a b at to all : ℕ) → from + a ≤ at → at + b ≤ to → to ≤ all → all < 2 ^ 32 → a + b < 2 ^ 32
+marks_fit from a b at to all before here few fits = omega (arith, before, here, few, fits)
 
 pub rows-init : goal.rows-init
 rows-init g c =
@@ -143,3 +159,62 @@ make_room-requires-clause-fits g c =
     let start = ap (λ (l : List ℕ). length l) (all_back held.len new held.items wide) ∙ sym wide ∙ same in
     let long = ap (λ (l : List ℕ). length l) c.deref.ensures.value ∙ c.rows.invariant.pixels ∙ start in
     subst (λ (n : ℕ). c.lines_of-y.result.1 * c.shape_of-shape.result.line ≤ n) (sym long) fit
+
+pub lines_of-y-requires : goal.lines_of-y-requires
+lines_of-y-requires g c = subst (λ (n : ℕ). c.rows.row < n) c.shape_of-shape.ensures.down c.rows-test.true
+
+pub make_room-requires-clause-unfailed : goal.make_room-requires-clause-unfailed
+make_room-requires-clause-unfailed g c = c.rows.invariant.unfailed
+
+pub make_room-requires-clause-filled : goal.make_room-requires-clause-filled
+make_room-requires-clause-filled g c = subst (λ (ps : List ℕ). c.rows.filled ≤ length ps) (sym c.deref.ensures.value) c.rows.invariant.filled
+
+pub overflow_mul-size : goal.overflow_mul-size
+overflow_mul-size g c =
+    let few = lines_of_deep c.lines_of-y.result.1 _ c.shape_of-shape.result.deep c.lines_of-y.ensures.few c.shape_of-shape.ensures.deep c.shape_of-shape.ensures.low in
+    size_fits c.lines_of-y.result.1 c.shape_of-shape.result.line few c.shape_of-shape.ensures.short
+
+pub paint-more-requires-clause-row : goal.paint-more-requires-clause-row
+paint-more-requires-clause-row g c =
+    let h = (g.P.RowPainter.at c.args.painter.now).scan.head in
+    let down : c.shape_of-shape.result.down ≡ mcus_down h = c.shape_of-shape.ensures.down ∙ ap (λ (k : HeadValue). mcus_down k) c.requires.head in
+    subst (λ (r : RowsValue). r.row < mcus_down r.scan.head) (sym c.rows.invariant.at_row) (subst (λ (n : ℕ). c.rows.row < n) down c.rows-test.true)
+
+pub paint-more-requires-clause-within : goal.paint-more-requires-clause-within
+paint-more-requires-clause-within g c =
+    let end = c.in_ok-filled.filled + c.lines_of-y.result.1 * c.shape_of-shape.result.line in
+    subst (λ (ps : List ℕ). end ≤ length ps) c.deref.ensures.value c.in_ok-filled.ensures.room
+
+pub paint-more-requires-clause-room : goal.paint-more-requires-clause-room
+paint-more-requires-clause-room g c =
+    let h = (g.P.RowPainter.at c.args.painter.now).scan.head in
+    let row = c.rows.row in
+    let filled = c.in_ok-filled.filled in
+    let count = c.lines_of-y.result.1 in
+    let line = c.shape_of-shape.result.line in
+    let count_is : count ≡ line_count h row = c.lines_of-y.ensures.count ∙ ap (λ (k : HeadValue). line_count k row) c.requires.head in
+    let line_is : line ≡ line_size h = c.shape_of-shape.ensures.line ∙ ap (λ (k : HeadValue). line_size k) c.requires.head in
+    let size : filled + count * line ≡ filled + line_count h row * line_size h = ap (λ (n : ℕ). filled + n * line) count_is ∙ ap (λ (n : ℕ). filled + line_count h row * n) line_is in
+    subst (λ (r : RowsValue). filled + count * line ≡ filled + line_count r.scan.head r.row * line_size r.scan.head) (sym c.rows.invariant.at_row) size
+
+pub with-marked-requires : goal.with-marked-requires
+with-marked-requires g c =
+    let at = g.P.RowPainter.at c.args.painter.now in
+    let row = c.rows.row in
+    let marks : CountsRow at.scan at.limit row c.paint-more.result = subst (λ (r : RowsValue). CountsRow r.scan r.limit r.row c.paint-more.result) c.rows.invariant.at_row c.paint-more.ensures.counts in
+    let few = ends_few at.scan.head (coded_before at.scan.head at.limit (row + 1)) in
+    let room : intervals_of at.scan.head < 2 ^ 32 = subst (λ (k : HeadValue). intervals_of k < 2 ^ 32) c.requires.head c.requires.intervals in
+    marks_fit _ (c.rows.marked.sound + c.rows.marked.damaged) (c.paint-more.result.sound + c.paint-more.result.damaged) _ _ _ c.rows.invariant.counts.few marks.few few room
+
+pub slice_bounds-write_all-end : goal.slice_bounds-write_all-end
+slice_bounds-write_all-end g c =
+    sym (length-take-le c.rows.filled c.deref-2.result.now (subst (λ (ps : List ℕ). c.rows.filled ≤ length ps) (sym c.deref-2.ensures.value) c.rows.invariant.filled))
+
+pub write_all-requires : goal.write_all-requires
+write_all-requires g c = c.rows.invariant.unfailed
+
+pub rows-smaller : goal.rows-smaller
+rows-smaller g c =
+    let down = c.shape_of-shape.ensures.down ∙ ap (λ (k : HeadValue). mcus_down k) c.requires.head in
+    let lt = subst (λ (n : ℕ). c.rows.row < n) down c.rows-test.true in
+    omega (arith, lt)

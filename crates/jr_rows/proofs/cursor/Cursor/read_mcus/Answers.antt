@@ -1,9 +1,11 @@
-use Rattle.std.proofs.Common.{rules, arith, sym, subst, ap, ◌∙◌, ◌≡◌, ℕ, ◌+◌, ◌-◌, ◌*◌, ◌<◌, ◌≤◌, ◌^◌, min, [], length, slice_index_or}
+use Rattle.std.proofs.Common.{rules, arith, refl, sym, subst, ap, add-zero, ◌∙◌, ◌≡◌, ℕ, ◌+◌, ◌-◌, ◌*◌, ◌<◌, ◌≤◌, ◌^◌, min, [], length, slice_index_or}
 use Rattle.std.specs.Option.{IfSome}
 use Rattle.std.proofs.Math.Nat.{add-mul}
 use borrow.Rule.Slice.PartMut.{mid_len, put_mid, same_len_mid}
+use mir.Syntax.{w32}
+use mir.Val.{Fits}
 use Rattle.jr_head.specs.HeadValue.{HeadValue}
-use Rattle.jr_head.specs.Geometry.{blocks_of, mcus_of, quantiser_of}
+use Rattle.jr_head.specs.Geometry.{blocks_of, mcus_of, order_of, quantiser_of}
 use Rattle.jr_idct.specs.Transform.{samples}
 use Rattle.jr_mcu.specs.Mcus.{component}
 use Rattle.jr_scan.specs.Guesses.{AreGuessesOf}
@@ -15,14 +17,39 @@ use Rattle.jr_piece.specs.Strips.{units_before}
 use Rattle.jr_piece.specs.Units.{CodesUnits}
 use Rattle.jr_piece.proofs.Parts.{kept_before, put_there}
 use Rattle.jr_rows.specs.Bands.{unit_shown}
-use Rattle.jr_rows.specs.Cursors.{IsPlaceAfter, mcus_to}
+use Rattle.jr_rows.specs.Cursors.{IsCursorOf, IsPlaceAfter, mcus_to}
 use Rattle.jr_rows.specs.MarkBytes.{PutsMarks}
 use Rattle.jr_rows.specs.Rows.{CountsMarks, GivesBehind, GivesMcus, intervals_before}
 use Rattle.jr_rows.proofs.CursorSteps.{IsReady, decoded, ended}
 use Rattle.jr_rows.proofs.IntervalPlaces.{ends_few, first_few}
-use Rattle.jr_rows.proofs.PutMarks.{puts_both}
-use Rattle.jr_rows.proofs.ReadRows.{counts_both, gives_there, shown_more}
+use Rattle.jr_rows.proofs.PutMarks.{puts_both, puts_none}
+use Rattle.jr_rows.proofs.ReadRows.{counts_both, counts_none, gives_there, shown_more}
 use Rattle.jr_rows.proofs.cursor.Cursor.read_mcus.Goals as goal
+
+-- some MCUs, as many as an interval has left and at most those that are still to be read
+some_within : (some left mcus done : ℕ) → some ≡ min left (mcus - done) → done ≤ mcus → done + some ≤ mcus
+some_within some left mcus done e le = omega (arith, e, le)
+
+some_left : (at some left rest all : ℕ) → some ≡ min left rest → at + left ≡ all → at + some ≤ all
+some_left at some left rest all e is = omega (arith, e, is)
+
+some_read : (some left mcus done : ℕ) → some ≡ min left (mcus - done) → 0 < left → done < mcus → 0 < some
+some_read some left mcus done e more lt = omega (arith, e, more, lt)
+
+falls : (some left mcus done : ℕ) → some ≡ min left (mcus - done) → 0 < left → done < mcus → mcus - (done + some) < mcus - done
+falls some left mcus done e more lt = omega (arith, e, more, lt)
+
+fits_all : (done some mcus : ℕ) → done + some ≤ mcus → Fits w32 mcus → Fits w32 (done + some)
+fits_all done some mcus le lt = omega (arith, le, lt)
+
+behind_it : (at mcu some : ℕ) → at ≡ mcu + some → 0 < some → 0 < at
+behind_it at mcu some e more = omega (arith, e, more)
+
+all_read : (done mcus : ℕ) → done ≤ mcus → mcus ≤ done → done ≡ mcus
+all_read done mcus le ge = omega (arith, le, ge)
+
+part_size : (start end done some per : ℕ) → start ≡ done * per → end ≡ (done + some) * per → end - start ≡ some * per
+part_size start end done some per at to = let sum = add-mul done some per in omega (arith, at, to, sum)
 
 pub ready-requires-clause-more : goal.ready-requires-clause-more
 ready-requires-clause-more c =
@@ -138,3 +165,105 @@ marked-more-requires-clause-stands c =
       number = omega (arith, c.ready.ensures.stands.number, ap (λ (s : ScanValue). length s.intervals) c.scan-scan.ensures, c.read.ensures.number);
       at = subst (λ (k : ℕ). IsPlaceAfter (interval_of t k) next.mcu next.place) (sym c.read.ensures.number) (subst (λ (i : IntervalValue). IsPlaceAfter i next.mcu next.place) interval c.read.ensures.at);
     }
+
+pub intervals-init : goal.intervals-init
+intervals-init c =
+    let t = c.args.part.now.scan in
+    let n = c.args.part.now.limit in
+    record {
+      within = omega arith;
+      long = refl;
+      stands = c.requires.stands;
+      moved = sym (add-zero _);
+      gives = λ b _ k lt. absurd (omega (arith, lt));
+      counts = counts_none t n _ _ c.none-marked.result c.none-marked.ensures.sound c.none-marked.ensures.damaged refl;
+      places = c.requires.places;
+      puts = puts_none t n _ _ c.args.marks.now refl;
+    }
+
+pub intervals-smaller : goal.intervals-smaller
+intervals-smaller c = falls c.min-some.result c.ready.result c.args.mcus c.intervals.done c.min-some.ensures c.ready.ensures.some c.intervals-test.true
+
+pub ready-requires-clause-stands : goal.ready-requires-clause-stands
+ready-requires-clause-stands c = subst (λ (s : ScanValue). IsCursorOf s c.intervals.self) (sym c.scan-scan.ensures) c.intervals.invariant.stands
+
+pub overflow_sub-mcus : goal.overflow_sub-mcus
+overflow_sub-mcus c = c.intervals.invariant.within
+
+pub units_to-from-requires-clause-few : goal.units_to-from-requires-clause-few
+units_to-from-requires-clause-few c = c.intervals.invariant.within
+
+pub units_to-from-requires-clause-short : goal.units_to-from-requires-clause-short
+units_to-from-requires-clause-short c = c.order-per_mcu.ensures.few
+
+pub overflow_add-done : goal.overflow_add-done
+overflow_add-done c = fits_all c.intervals.done c.min-some.result c.args.mcus (some_within c.min-some.result c.ready.result c.args.mcus c.intervals.done c.min-some.ensures c.intervals.invariant.within) c.ranges.mcus
+
+pub overflow_add-done-in-intervals : goal.overflow_add-done-in-intervals
+overflow_add-done-in-intervals c = fits_all c.intervals.done c.min-some.result c.args.mcus (some_within c.min-some.result c.ready.result c.args.mcus c.intervals.done c.min-some.ensures c.intervals.invariant.within) c.ranges.mcus
+
+pub units_to-end-requires-clause-few : goal.units_to-end-requires-clause-few
+units_to-end-requires-clause-few c = some_within c.min-some.result c.ready.result c.args.mcus c.intervals.done c.min-some.ensures c.intervals.invariant.within
+
+pub units_to-end-requires-clause-short : goal.units_to-end-requires-clause-short
+units_to-end-requires-clause-short c = c.order-per_mcu.ensures.few
+
+pub read-requires-clause-at : goal.read-requires-clause-at
+read-requires-clause-at c =
+    let r = c.ready.new.self in
+    subst (λ (i : IntervalValue). IsPlaceAfter i r.mcu r.place) (sym (c.fork.ensures ∙ c.interval_ref-interval.ensures)) c.ready.ensures.stands.at
+
+pub read-requires-clause-few : goal.read-requires-clause-few
+read-requires-clause-few c =
+    let r = c.ready.new.self in
+    let few = some_left r.mcu c.min-some.result c.ready.result _ _ c.min-some.ensures c.ready.ensures.left in
+    subst (λ (i : IntervalValue). r.mcu + c.min-some.result ≤ i.mcus) (sym (c.fork.ensures ∙ c.interval_ref-interval.ensures)) few
+
+pub read-requires-clause-room : goal.read-requires-clause-room
+read-requires-clause-room c =
+    let t = c.args.part.now.scan in
+    let n = blocks_of t.head in
+    let start = c.units_to-from.result in
+    let end = c.units_to-end.result in
+    let per = length c.order-per_mcu.result.now in
+    let mcus = c.min-some.result in
+    let old = c.intervals.blocks in
+    let head = c.head.ensures.value ∙ ap (λ (s : ScanValue). s.head) c.scan-scan.ensures in
+    let per_is : per ≡ n = c.order-per_mcu.ensures.count ∙ ap (λ (x : HeadValue). blocks_of x) head in
+    let room : length old ≡ c.args.mcus * per = c.intervals.invariant.long ∙ c.requires.room ∙ ap (λ (k : ℕ). c.args.mcus * k) (sym per_is) in
+    let fits : end ≤ length old = omega (arith, c.units_to-end.ensures.within, room) in
+    let order : order_of c.fork.result.head ≡ c.order-per_mcu.result.now = ap (λ (i : IntervalValue). order_of i.head) (c.fork.ensures ∙ c.interval_ref-interval.ensures) ∙ ap (λ (x : HeadValue). order_of x) (sym c.head.ensures.value) ∙ sym c.order-per_mcu.ensures.value in
+    let at : start ≡ c.intervals.done * per = omega (arith, c.units_to-from.ensures.value) in
+    mid_len start end old fits ∙ part_size start end c.intervals.done mcus per at c.units_to-end.ensures.value ∙ ap (λ z. mcus * length z) (sym order)
+
+pub slice_bounds-read-end : goal.slice_bounds-read-end
+slice_bounds-read-end c =
+    let head = c.head.ensures.value ∙ ap (λ (s : ScanValue). s.head) c.scan-scan.ensures in
+    let per_is = c.order-per_mcu.ensures.count ∙ ap (λ (x : HeadValue). blocks_of x) head in
+    let room = c.intervals.invariant.long ∙ c.requires.room ∙ ap (λ (k : ℕ). c.args.mcus * k) (sym per_is) in
+    omega (arith, c.units_to-end.ensures.within, room)
+
+pub marked-more-requires-clause-interval : goal.marked-more-requires-clause-interval
+marked-more-requires-clause-interval c =
+    let t = c.args.part.now.scan in
+    c.interval_ref-interval.ensures ∙ ap (λ (s : ScanValue). interval_of s c.ready.new.self.number) c.scan-scan.ensures ∙ ap (λ (k : ℕ). interval_of t k) (sym c.read.ensures.number)
+
+pub marked-more-requires-clause-some : goal.marked-more-requires-clause-some
+marked-more-requires-clause-some c =
+    let some = some_read c.min-some.result c.ready.result c.args.mcus c.intervals.done c.min-some.ensures c.ready.ensures.some c.intervals-test.true in
+    behind_it c.read.new.self.mcu c.ready.new.self.mcu c.min-some.result c.read.ensures.mcu some
+
+pub marked-more-requires-clause-places : goal.marked-more-requires-clause-places
+marked-more-requires-clause-places c = c.intervals.invariant.places
+
+pub returns-clause-stands : goal.returns-clause-stands
+returns-clause-stands c = c.intervals.invariant.stands
+
+pub returns-clause-moved : goal.returns-clause-moved
+returns-clause-moved c = c.intervals.invariant.moved ∙ ap (λ (n : ℕ). mcus_to c.args.part.now.scan.head c.args.self.now + n) (all_read _ _ c.intervals.invariant.within c.intervals-test.false)
+
+pub returns-clause-counts : goal.returns-clause-counts
+returns-clause-counts c = c.intervals.invariant.counts
+
+pub returns-clause-puts : goal.returns-clause-puts
+returns-clause-puts c = c.intervals.invariant.puts

@@ -1,4 +1,4 @@
-use Rattle.std.proofs.Common.{rules, arith, ap, ◌∙◌, ◌≡◌, ◌+◌, ◌<◌, length}
+use Rattle.std.proofs.Common.{rules, arith, ap, zero-add, ◌∙◌, ◌≡◌, ℕ, ◌+◌, ◌-◌, ◌<◌, length}
 use Rattle.jr_head.specs.HeadValue.{HeadValue}
 use Rattle.jr_scan.specs.ScanValue.{intervals_of, mcus_in}
 use Rattle.jr_rows.specs.declared.cursor.Cursor.{Cursor}
@@ -46,3 +46,27 @@ returns-clause-to c =
     let ended : r.mcu ≡ mcus_in h r.number = omega (arith, left, c.requires.stands.at.few, c.if-left-gt0.false) in
     let there = next_there h r.number r.mcu number ended c.requires.more in
     omega (arith, start_to h (r.number + 1) c.at_start.result c.at_start.ensures, there.1)
+
+-- what is left of an interval that is not read to its end
+left_of : (at all left : ℕ) → all ≡ left → 0 < all - at → at + (all - at) ≡ left
+left_of at all left e more = omega (arith, e, more)
+
+within : (number all own most : ℕ) → number < own → all ≡ own → all ≡ most → number < most
+within number all own most lt e is = omega (arith, lt, e, is)
+
+pub returns-then-left-gt0-clause-left : goal.returns-then-left-gt0-clause-left
+returns-then-left-gt0-clause-left c =
+    let left = c.mcus_in.ensures.value ∙ ap (λ (x : HeadValue). mcus_in x c.args.self.now.number) c.head-2.ensures.value in
+    left_of c.args.self.now.mcu c.mcus_in.result _ left c.if-left-gt0.true
+
+pub returns-then-left-gt0-clause-number : goal.returns-then-left-gt0-clause-number
+returns-then-left-gt0-clause-number c = within c.args.self.now.number c.intervals.result _ _ c.requires.stands.number c.intervals.ensures.value c.intervals.ensures.count
+
+pub returns-then-left-gt0-clause-stands : goal.returns-then-left-gt0-clause-stands
+returns-then-left-gt0-clause-stands c = c.requires.stands
+
+pub returns-clause-left : goal.returns-clause-left
+returns-clause-left c =
+    let left = c.mcus_in-2.ensures.value ∙ ap (λ (x : HeadValue). mcus_in x c.at_start.result.number) c.head-3.ensures.value in
+    let none = ap (λ (k : Cursor). k.mcu) c.at_start.ensures in
+    ap (λ (n : ℕ). n + c.mcus_in-2.result) none ∙ zero-add _ ∙ left

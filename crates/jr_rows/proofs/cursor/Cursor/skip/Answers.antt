@@ -1,7 +1,9 @@
 use Rattle.std.proofs.Common.{sym, subst, []}
 use Rattle.jr_head.specs.Geometry.{IsLawful}
+use Rattle.jr_scan.specs.Guesses.{AreGuessesOf}
 use Rattle.jr_scan.specs.McuReader.{McuReaderValue}
-use Rattle.jr_rows.proofs.CursorSteps.{HasSkipped, moved}
+use Rattle.jr_scan.specs.Run.{RunOf}
+use Rattle.jr_rows.proofs.CursorSteps.{HasSkipped, grey_on, moved}
 use Rattle.jr_rows.proofs.cursor.Cursor.skip.Goals as goal
 use Rattle.jr_rows.proofs.cursor.Cursor.skip.Goals.{in-Some-guesses, in-None}
 
@@ -26,3 +28,17 @@ returns-clause-at c =
     moved c.args.interval lawful c.args.self.now.mcu most n c.in-Some.place c.args.self.now.place c.requires.at c.in-Some.is c.requires.few skipped.few r r' passed.0
     (record { run = c.at-reader.ensures.run; start = c.at-reader.ensures.mcu; run' = skipped.run; mcu = skipped.mcus; read = passed.1; ended = skipped.ended })
     c.place_after-self.result c.place_after-self.ensures.whole c.place_after-self.ensures.place c.place_after-self.ensures.can c.place_after-self.ensures.none
+
+pub at-reader-requires-clause-within : goal.at-reader-requires-clause-within
+at-reader-requires-clause-within c = (c.requires.at.next c.in-Some.place c.in-Some.is).1.can.0
+
+pub at-reader-requires-clause-in_range : goal.at-reader-requires-clause-in_range
+at-reader-requires-clause-in_range c = (c.requires.at.next c.in-Some.place c.in-Some.is).1.can.1
+
+pub skip_by-whole-requires : goal.skip_by-whole-requires
+skip_by-whole-requires c =
+    let own = rw c.in-Some-guesses.is at c.requires.same in
+    record { same = subst (λ (o : RunOf). AreGuessesOf o.interval c.in-Some-guesses.guesses.now) (sym c.at-reader.ensures.run) own }
+
+pub returns-in_default-clause-at : goal.returns-in_default-clause-at
+returns-in_default-clause-at c = grey_on c.args.interval c.args.self.now.mcu c.args.self.now.place c.requires.at c.in_default.is c.args.mcus c.requires.few

@@ -1,15 +1,17 @@
-use Rattle.std.proofs.Common.{rules, arith, refl, sym, subst, ap, ◌∙◌, ◌≡◌, ℕ, ◌+◌, ◌*◌, ◌%◌, ◌<◌, ◌≤◌, ◌^◌, [], None, length, drop, slice_index_or, length-append, length-drop}
+use Rattle.std.proofs.Common.{arith, refl, sym, subst, ap, ◌∙◌, ◌≡◌, ℕ, ◌+◌, ◌-◌, ◌*◌, ◌%◌, ◌<◌, ◌≤◌, ◌^◌, min, [], None, length, drop, slice_index_or, length-append, length-drop}
 use Rattle.std.proofs.Math.Nat.{add-mul, mul-le-mul_right}
 use Rattle.std.proofs.lemmas.List.{length-take-le}
+use mir.Syntax.{w32}
+use mir.Val.{Fits}
 use Rattle.jr_head.specs.HeadValue.{HeadValue}
-use Rattle.jr_head.specs.Geometry.{blocks_of, mcus_across}
+use Rattle.jr_head.specs.Geometry.{blocks_of, mcus_across, mcus_down}
 use Rattle.jr_scan.specs.ScanValue.{ScanValue, intervals_of}
 use Rattle.jr_piece.specs.Outcome.{unit_of}
 use Rattle.jr_rows.specs.Bands.{unit_shown, unit_shown_of}
 use Rattle.jr_rows.specs.Cursors.{mcus_to}
 use Rattle.jr_rows.specs.Groups.{units_in}
 use Rattle.jr_rows.specs.MarkBytes.{PutsMarks}
-use Rattle.jr_rows.specs.RowLines.{HasLines}
+use Rattle.jr_rows.specs.RowLines.{HasLines, mcus_at_once}
 use Rattle.jr_rows.specs.Rows.{CountsMarks, ShowsBehind, ShowsFirstUnits, coded_before, coded_in, intervals_before, mcus_before}
 use Rattle.jr_rows.proofs.GroupLists.{units_long}
 use Rattle.jr_rows.proofs.IntervalPlaces.{ends_few}
@@ -20,6 +22,19 @@ use Rattle.jr_rows.proofs.ReadRows.{counts_both, counts_none, shown_more}
 use Rattle.jr_rows.proofs.ShownUnits.{row_shown}
 use Rattle.jr_rows.proofs.rows.Rows.decode.Goals as goal
 
+-- the blocks that are lent
+fits : (units at_once per most blocks long : ℕ) → units ≤ at_once * per → at_once ≡ most → per ≡ blocks → long ≡ most * blocks → units ≤ long
+fits units at_once per most blocks long within e is all = let whole = ap (λ (n : ℕ). n * per) e ∙ ap (λ (n : ℕ). most * n) is in omega (arith, within, whole, all)
+
+few_at_once : (some at_once rest : ℕ) → some ≡ min at_once rest → some ≤ at_once
+few_at_once some at_once rest e = omega (arith, e)
+
+falls : (some at_once coded done : ℕ) → some ≡ min at_once (coded - done) → 0 < at_once → done < coded → coded - (done + some) < coded - done
+falls some at_once coded done e more lt = omega (arith, e, more, lt)
+
+done_fits : (some at_once coded done : ℕ) → some ≡ min at_once (coded - done) → done ≤ coded → coded < 2 ^ 32 → Fits w32 (done + some)
+done_fits some at_once coded done e le lt = omega (arith, e, le, lt)
+
 pub transform_blocks-requires-clause-inside : goal.transform_blocks-requires-clause-inside
 transform_blocks-requires-clause-inside c =
     let h = c.args.part.now.scan.head in
@@ -27,7 +42,7 @@ transform_blocks-requires-clause-inside c =
     let here : hd ≡ h = c.head-head.ensures.value ∙ ap (λ (s : ScanValue). s.head) c.scan.ensures in
     let some = c.min-some.result in
     let per_is : length c.order-per_mcu.result.now ≡ blocks_of h = c.order-per_mcu.ensures.count ∙ ap (λ (x : HeadValue). blocks_of x) here in
-    let inside : c.units_to.result ≤ length c.parts.blocks = search rules in
+    let inside : c.units_to.result ≤ length c.parts.blocks = fits _ _ _ _ _ _ c.units_to.ensures.within (c.mcus_at_once-at_once.ensures.value ∙ ap (λ (x : HeadValue). mcus_at_once x) here) per_is (c.parts.invariant.near ∙ ap (λ z. length z) c.as_mut_slice-blocks.ensures.value ∙ ap (λ (r : SampleRowValue). length r.blocks) c.work.view_is ∙ c.requires.room.blocks) in
     let done = c.parts.done in
     let per : done * blocks_of hd ≡ done * blocks_of h = ap (λ (x : HeadValue). done * blocks_of x) here in
     let long : length c.read_mcus-more.new.blocks ≡ some * blocks_of h = c.read_mcus-more.auto.blocks ∙ length-take-le c.units_to.result c.parts.blocks inside ∙ c.units_to.ensures.value ∙ ap (λ (k : ℕ). some * k) per_is in
@@ -41,7 +56,7 @@ pub with-marked-requires : goal.with-marked-requires
 with-marked-requires c =
     let t = c.args.part.now.scan in
     let few = ends_few t.head (mcus_to t.head c.read_mcus-more.new.self) in
-    let room : intervals_of t.head < 2 ^ 32 = search (rules, arith) in
+    let room : intervals_of t.head < 2 ^ 32 = subst (λ (s : ScanValue). intervals_of s.head < 2 ^ 32) c.scan-2.ensures (subst (λ (n : ℕ). n < 2 ^ 32) c.intervals.ensures.count c.intervals.type_inv) in
     omega (arith, c.parts.invariant.counts.few, c.read_mcus-more.ensures.counts.few, few, room)
 
 pub parts-preserved : goal.parts-preserved
@@ -58,7 +73,7 @@ parts-preserved c =
     let hd = c.head-head.result.now in
     let here : hd ≡ h = c.head-head.ensures.value ∙ ap (λ (s : ScanValue). s.head) c.scan.ensures in
     let per_is : length c.order-per_mcu.result.now ≡ blocks_of h = c.order-per_mcu.ensures.count ∙ ap (λ (x : HeadValue). blocks_of x) here in
-    let inside : c.units_to.result ≤ length c.parts.blocks = search rules in
+    let inside : c.units_to.result ≤ length c.parts.blocks = fits _ _ _ _ _ _ c.units_to.ensures.within (c.mcus_at_once-at_once.ensures.value ∙ ap (λ (x : HeadValue). mcus_at_once x) here) per_is (c.parts.invariant.near ∙ ap (λ z. length z) c.as_mut_slice-blocks.ensures.value ∙ ap (λ (r : SampleRowValue). length r.blocks) c.work.view_is ∙ c.requires.room.blocks) in
     let new = c.transform_blocks.new.units in
     let old = c.parts.lines in
     let positive : 0 < n = omega (arith, c.order-per_mcu.ensures.some, per_is) in
@@ -141,9 +156,10 @@ returns-clause-room c =
     let h = c.args.part.now.scan.head in
     let head : c.head-head.result.now ≡ h = c.head-head.ensures.value ∙ ap (λ (s : ScanValue). s.head) c.scan.ensures in
     let blocks = c.parts.blocks in
-    let long : c.work.inside.blocks.len ≡ length blocks = search (rules, arith, c.parts.invariant.near) in
+    let held = c.work.inside.blocks.ok.0 in
+    let long : c.work.inside.blocks.len ≡ length blocks = held ∙ sym (c.parts.invariant.near ∙ ap (λ z. length z) c.as_mut_slice-blocks.ensures.value) in
     record {
-      blocks = ap length (all_back c.work.inside.blocks.len blocks c.work.inside.blocks.items long) ∙ sym long ∙ search (rules, arith);
+      blocks = ap length (all_back c.work.inside.blocks.len blocks c.work.inside.blocks.items long) ∙ sym long ∙ held ∙ ap (λ (r : SampleRowValue). length r.blocks) c.work.view_is ∙ c.requires.room.blocks;
       lines = subst (λ (x : HeadValue). HasLines x c.fill_blank.new.self) head c.fill_blank.ensures.room;
       room = ap (λ (r : SampleRowValue). r.room) c.work.view_is ∙ c.requires.room.room;
     }
@@ -185,7 +201,7 @@ read_mcus-more-requires-clause-room c =
     let h = c.args.part.now.scan.head in
     let here : c.head-head.result.now ≡ h = c.head-head.ensures.value ∙ ap (λ (s : ScanValue). s.head) c.scan.ensures in
     let per_is : length c.order-per_mcu.result.now ≡ blocks_of h = c.order-per_mcu.ensures.count ∙ ap (λ (x : HeadValue). blocks_of x) here in
-    let inside : c.units_to.result ≤ length c.parts.blocks = search rules in
+    let inside : c.units_to.result ≤ length c.parts.blocks = fits _ _ _ _ _ _ c.units_to.ensures.within (c.mcus_at_once-at_once.ensures.value ∙ ap (λ (x : HeadValue). mcus_at_once x) here) per_is (c.parts.invariant.near ∙ ap (λ z. length z) c.as_mut_slice-blocks.ensures.value ∙ ap (λ (r : SampleRowValue). length r.blocks) c.work.view_is ∙ c.requires.room.blocks) in
     length-take-le c.units_to.result c.parts.blocks inside ∙ c.units_to.ensures.value ∙ ap (λ (k : ℕ). c.min-some.result * k) per_is
 
 pub read_mcus-more-requires-clause-places : goal.read_mcus-more-requires-clause-places
@@ -206,3 +222,41 @@ returns-clause-rows c =
     let moved = subst (λ (k : ℕ). coded_before h k row + coded ≡ coded_before h k (row + 1)) c.limit.ensures.value near in
     let to : mcus_to h c.parts.self.cursor ≡ coded_before h n (row + 1) = omega (arith, moved, c.requires.rows.at, c.parts.invariant.moved, c.parts.invariant.within, c.parts-test.false) in
     record { stands = c.parts.invariant.stands; at = to ∙ ap (λ (k : ℕ). coded_before h n (k + 1)) (sym c.parts.invariant.row) }
+
+pub coded_of_row-coded-requires : goal.coded_of_row-coded-requires
+coded_of_row-coded-requires c = subst (λ (s : ScanValue). c.args.self.now.row < mcus_down s.head) (sym c.scan-3.ensures) c.requires.row
+
+pub overflow_sub-coded : goal.overflow_sub-coded
+overflow_sub-coded c = c.parts.invariant.within
+
+pub units_to-requires-clause-few : goal.units_to-requires-clause-few
+units_to-requires-clause-few c = few_at_once c.min-some.result c.mcus_at_once-at_once.result _ c.min-some.ensures
+
+pub units_to-requires-clause-short : goal.units_to-requires-clause-short
+units_to-requires-clause-short c = c.order-per_mcu.ensures.few
+
+pub slice_bounds-near-end : goal.slice_bounds-near-end
+slice_bounds-near-end c =
+    let here = c.head-head.ensures.value ∙ ap (λ (s : ScanValue). s.head) c.scan.ensures in
+    let per_is = c.order-per_mcu.ensures.count ∙ ap (λ (x : HeadValue). blocks_of x) here in
+    fits _ _ _ _ _ _ c.units_to.ensures.within (c.mcus_at_once-at_once.ensures.value ∙ ap (λ (x : HeadValue). mcus_at_once x) here) per_is
+    (c.parts.invariant.near ∙ ap (λ z. length z) c.as_mut_slice-blocks.ensures.value ∙ ap (λ (r : SampleRowValue). length r.blocks) c.work.view_is ∙ c.requires.room.blocks)
+
+pub slice_bounds-near-end-in-parts : goal.slice_bounds-near-end-in-parts
+slice_bounds-near-end-in-parts c =
+    let here = c.head-head.ensures.value ∙ ap (λ (s : ScanValue). s.head) c.scan.ensures in
+    let per_is = c.order-per_mcu.ensures.count ∙ ap (λ (x : HeadValue). blocks_of x) here in
+    let inside = fits _ _ _ _ _ _ c.units_to.ensures.within (c.mcus_at_once-at_once.ensures.value ∙ ap (λ (x : HeadValue). mcus_at_once x) here) per_is
+    (c.parts.invariant.near ∙ ap (λ z. length z) c.as_mut_slice-blocks.ensures.value ∙ ap (λ (r : SampleRowValue). length r.blocks) c.work.view_is ∙ c.requires.room.blocks) in
+    sym (length-take-le c.units_to.result c.parts.blocks inside)
+
+pub fill_blank-requires : goal.fill_blank-requires
+fill_blank-requires c =
+    let here = c.head-head.ensures.value ∙ ap (λ (s : ScanValue). s.head) c.scan.ensures in
+    record { room = subst (λ (x : HeadValue). HasLines x c.parts.lines) (sym here) c.parts.invariant.room }
+
+pub overflow_add-done : goal.overflow_add-done
+overflow_add-done c = done_fits c.min-some.result c.mcus_at_once-at_once.result c.coded_of_row-coded.result c.parts.done c.min-some.ensures c.parts.invariant.within c.coded_of_row-coded.type_inv
+
+pub parts-smaller : goal.parts-smaller
+parts-smaller c = falls c.min-some.result c.mcus_at_once-at_once.result c.coded_of_row-coded.result c.parts.done c.min-some.ensures c.mcus_at_once-at_once.ensures.some c.parts-test.true

@@ -1,4 +1,5 @@
-use Rattle.std.proofs.Common.{rules, arith, subst, sym, ap, ◌≡◌, ℕ, ◌+◌, ◌<◌}
+use Rattle.std.proofs.Common.{rules, arith, subst, sym, ap, ◌∙◌, ◌≡◌, ℕ, ◌+◌, ◌<◌}
+use Rattle.jr_head.specs.HeadValue.{HeadValue}
 use Rattle.jr_head.specs.Geometry.{mcus_of}
 use Rattle.jr_rows.proofs.IntervalPlaces.{first_few}
 use Rattle.std.specs.Option.{IfSome}
@@ -10,7 +11,7 @@ use Rattle.jr_rows.proofs.rows.Rows.skip.Goals as goal
 pub skip_mcus-requires-clause-few : goal.skip_mcus-requires-clause-few
 skip_mcus-requires-clause-few c =
     let h = c.args.part.now.scan.head in
-    let some : 0 < mcus_of h = search (rules, arith) in
+    let some : 0 < mcus_of h = subst (λ (n : ℕ). 0 < n) (c.mcus.ensures.value ∙ ap (λ (x : HeadValue). mcus_of x) (c.head.ensures.value ∙ ap (λ (s : ScanValue). s.head) c.scan-scan.ensures)) c.mcus.ensures.some in
     let few = first_few h c.args.part.now.limit some in
     search (rules, arith, few, c.requires.rows.at)
 

@@ -1,15 +1,35 @@
-use Rattle.std.proofs.Common.{rules, arith, sym, subst, ap, ◌∙◌, ◌≡◌, length}
+use Rattle.std.proofs.Common.{sym, subst, ap, ◌∙◌, ◌≡◌, ℕ, ◌*◌, ◌<◌, [], length, slice_index_or}
+use Rattle.jr_head.specs.Geometry.{blocks_of}
+use Rattle.jr_rows.specs.Groups.{units_in}
 use Rattle.jr_rows.specs.Rows.{HasSampleRoom}
+use Rattle.jr_rows.specs.RowsValue.{SampleRowValue}
 use Rattle.jr_rows.proofs.Lent.{all_back}
 use Rattle.jr_rows.proofs.sample_row.SampleRow.put_grey.Goals as goal
+
+pub put_grey-requires-clause-near : goal.put_grey-requires-clause-near
+put_grey-requires-clause-near c =
+    let had = subst (HasSampleRoom c.args.head.now) (sym c.self.view_is) c.requires.room in
+    ap (λ z. length z) c.deref_mut.ensures.value ∙ had.blocks
+
+pub put_grey-requires-clause-room : goal.put_grey-requires-clause-room
+put_grey-requires-clause-room c =
+    let had = subst (HasSampleRoom c.args.head.now) (sym c.self.view_is) c.requires.room in
+    had.lines
 
 pub returns-clause-room : goal.returns-clause-room
 returns-clause-room c =
     let had = subst (HasSampleRoom c.args.head.now) (sym c.self.view_is) c.requires.room in
+    let held = c.self.inside.blocks in
     let blocks = c.put_grey.new.blocks in
-    let long : c.self.inside.blocks.len ≡ length blocks = search (rules, arith, c.put_grey.auto.blocks) in
+    let same : length blocks ≡ length held.items = c.put_grey.auto.blocks ∙ ap (λ z. length z) c.deref_mut.ensures.value in
     record {
-      blocks = ap length (all_back c.self.inside.blocks.len blocks c.self.inside.blocks.items long) ∙ c.put_grey.auto.blocks ∙ ap length c.deref_mut.ensures.value ∙ had.blocks;
+      blocks = ap length (all_back held.len blocks held.items (held.ok.0 ∙ sym same)) ∙ same ∙ had.blocks;
       lines = c.put_grey.ensures.room;
       room = had.room;
     }
+
+pub returns-clause-kept : goal.returns-clause-kept
+returns-clause-kept c =
+    let h = c.args.head.now in
+    let new = c.put_grey.new.lines.groups in
+    subst (λ (r : SampleRowValue). (k : ℕ) → k < c.args.done * blocks_of h → slice_index_or (units_in h new) k [] ≡ slice_index_or (units_in h r.lines.groups) k []) c.self.view_is c.put_grey.ensures.kept

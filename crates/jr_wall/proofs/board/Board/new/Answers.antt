@@ -1,4 +1,5 @@
-use Rattle.std.proofs.Common.{◌≡◌, ℕ, List, Option, None, length, map, replicate, sym, ap, ◌∙◌, subst, arith}
+use Rattle.std.proofs.Common.{◌≡◌, ℕ, List, [], ◌∷◌, ◌++◌, Option, None, length, map, replicate, sym, ap, ◌∙◌, subst, arith}
+use Rattle.std.proofs.lemmas.Grind.{replicate_next}
 use Rattle.std.specs.declared.sync.Arc.{Arc}
 use Rattle.std.specs.declared.alloc.Global.{Global}
 use Rattle.std.specs.Arc.{arc_value}
@@ -18,3 +19,9 @@ pub returns-clause-blank : goal.returns-clause-blank
 returns-clause-blank c =
     let n : c.loop.counter ≡ length (arc_value c.args.scan).intervals = omega (arith, c.intervals-n.ensures.value, ap (λ (s : ScanValue). length s.intervals) c.deref.ensures) in
     ap (map shared_piece) c.loop.invariant ∙ none_held c.loop.counter ∙ ap (λ (m : ℕ). replicate {A = Option PieceValue} m None) n
+
+pub loop-preserved : goal.loop-preserved
+loop-preserved c = c.in_ok-push.ensures.items ∙ ap (λ (l : List (Option (Arc PieceValue Global))). l ++ None ∷ []) c.loop.invariant ∙ sym (replicate_next c.loop.counter None)
+
+pub loop-init : goal.loop-init
+loop-init c = c.in_ok-pieces.ensures.items
