@@ -45,7 +45,7 @@ returns-clause-to c =
     let left : c.mcus_in.result ≡ mcus_in h r.number = c.mcus_in.ensures.value ∙ ap (λ (x : HeadValue). mcus_in x r.number) c.head-2.ensures.value in
     let ended : r.mcu ≡ mcus_in h r.number = omega (arith, left, c.requires.stands.at.few, c.if-left-gt0.false) in
     let there = next_there h r.number r.mcu number ended c.requires.more in
-    omega (arith, start_to h (r.number + 1) c.at_start.result c.at_start.ensures, there.1)
+    omega (arith, start_to h _ c.at_start.result c.at_start.ensures, there.1)
 
 -- what is left of an interval that is not read to its end
 left_of : (at all left : ℕ) → all ≡ left → 0 < all - at → at + (all - at) ≡ left
