@@ -128,10 +128,18 @@ pub record IsInPart (x : Part) (h : HeadValue) (p : RowPlace) : Type 0 where
   pub from : x.from ≤ offset_in h p
   pub to : offset_in h p ≤ x.from + length x.bytes
 
--- it is in no such place of the file with this header
-pub record LiesOutside (header : List ℕ) (x : Part) (p : RowPlace) : Type 0 where
+-- the image of this header has a row of MCUs at the position, which is at such a byte
+pub record LiesInside (header : List ℕ) (x : Part) (p : RowPlace) (rows : ℕ) : Type 0 where
   pub h : HeadValue
   pub is : HeadOf header h
+  pub there : HasRowAt h p rows
+  pub within : IsInPart x h p
+
+-- or at no such byte
+pub record LiesOutside (header : List ℕ) (x : Part) (p : RowPlace) (rows : ℕ) : Type 0 where
+  pub h : HeadValue
+  pub is : HeadOf header h
+  pub there : HasRowAt h p rows
   pub out : IsInPart x h p → ⊥
 
 -- why a place is not moved
@@ -139,7 +147,7 @@ abbrev pub IsWhy : (header : List ℕ) → Part → (p : RowPlace) (rows room : 
 IsWhy header x p rows room (Refused fault) = fault ≢ Memory → IsPartialFault header x.are_all fault
 IsWhy header x p rows room NoRows = LacksRows header p rows
 IsWhy header x p rows room NoRoom = LacksRoomForRow header p room
-IsWhy header x p rows room NotInWindow = LiesOutside header x p
+IsWhy header x p rows room NotInWindow = LiesOutside header x p rows
 
 -- it is not moved since the bytes are refused, and the report says so
 pub record IsRefusedPlace (unmoved : PlaceError) (r : RowsReport) : Type 0 where

@@ -1,8 +1,9 @@
 //! The calls that continue from a position: rows of MCUs that are decoded, or skipped.
 
-ghost use Rattle.std.specs.Prelude.{◌≡◌, ◌≢◌, ◌≤◌, length};
+ghost use Rattle.std.specs.Prelude.{◌≡◌, ◌≢◌, ◌≤◌, ◌⊎◌, length};
+ghost use Rattle.jr_arrival.specs.Settled.{WantsMore};
 ghost use Rattle.jr_arrival.specs.Parts.{part_of};
-ghost use Rattle.jri_memory.specs.Rows.{GivesRows, IsRefusedPlace, LacksRoomForRow, LacksRows, LiesOutside, SkipsRows, TellsPartialFault, TellsNoRows, TellsNothing, are_all, file_part};
+ghost use Rattle.jri_memory.specs.Rows.{GivesRows, IsRefusedPlace, LacksRoomForRow, LacksRows, LiesInside, LiesOutside, SkipsRows, TellsPartialFault, TellsNoRows, TellsNothing, are_all, file_part};
 
 use crate::answers::status_of;
 use crate::places::{
@@ -149,7 +150,8 @@ pub fn decode_window_rows(
     ensures room_alone { result ≡ 4 → TellsNothing report.new }
     ensures rows { result ≡ 5 → LacksRows header.now place.old rows }
     ensures rows_alone { result ≡ 5 → TellsNothing report.new }
-    ensures outside { result ≡ 11 → LiesOutside header.now (part_of window.entry) place.old }
+    ensures inside { result ≡ 0 → WantsMore header.now ⊎ LiesInside header.now (part_of window.entry) place.old rows }
+    ensures outside { result ≡ 11 → LiesOutside header.now (part_of window.entry) place.old rows }
     ensures outside_alone { result ≡ 11 → TellsNothing report.new }
     ensures no_rows { result ≢ 0 → TellsNoRows report.new }
     ensures pixels { result ≢ 0 → pixels.new ≡ pixels.old }
@@ -182,7 +184,8 @@ pub fn skip_window_rows(
     ensures memory { result ≡ 1 → report.new.refusal ≡ 19 }
     ensures rows { result ≡ 5 → LacksRows header.now place.old rows }
     ensures rows_alone { result ≡ 5 → TellsNothing report.new }
-    ensures outside { result ≡ 11 → LiesOutside header.now (part_of window.entry) place.old }
+    ensures inside { result ≡ 0 → WantsMore header.now ⊎ LiesInside header.now (part_of window.entry) place.old rows }
+    ensures outside { result ≡ 11 → LiesOutside header.now (part_of window.entry) place.old rows }
     ensures outside_alone { result ≡ 11 → TellsNothing report.new }
     ensures no_room { result ≢ 4 }
     ensures no_rows { result ≢ 0 → TellsNoRows report.new }

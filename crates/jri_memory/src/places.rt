@@ -1,11 +1,11 @@
 //! From the bytes of a file, or some of them, to rows of MCUs of its image starting at a position.
 
-ghost use Rattle.std.specs.Prelude.{◌≡◌, ◌≢◌, ℕ, Err, length, true, false, IfOk, IfErr, IfSome, IfNone};
+ghost use Rattle.std.specs.Prelude.{◌≡◌, ◌≢◌, ℕ, Err, length, true, false, IfOk, IfErr, OnOk, IfSome, IfNone, ◌⊎◌};
 ghost use Rattle.jr_segments.specs.declared.refusal.Refusal.TheVariants.{Memory};
 ghost use Rattle.jr_head.specs.Heads.{HeadOf};
 ghost use Rattle.jr_arrival.specs.Parts.{part_of};
 ghost use Rattle.jr_arrival.specs.Settled.{WantsMore};
-ghost use Rattle.jri_memory.specs.Rows.{GivesRows, HasRowAt, IsInPart, IsPartialFault, IsWhy, SkipsRows};
+ghost use Rattle.jri_memory.specs.Rows.{GivesRows, HasRowAt, IsInPart, IsPartialFault, IsWhy, LiesInside, SkipsRows};
 
 use crate::file_head::head_of;
 use crate::rows_report::RowsReport;
@@ -48,15 +48,6 @@ fn is_in_window(head: &Head, place: &RowPlace, window: FileBytes<'_>) -> bool
 {
     let at = place.at.max(head.scan_at());
     window.from <= at && at - window.from <= window.bytes.len() as u64
-}
-
-/// Returns whether rows are asked for and the image has one at the position, but the window has not the position.
-fn is_elsewhere(head: &Head, place: &RowPlace, rows: u32, window: FileBytes<'_>) -> bool
-    ensures out { result ≡ true → IsInPart (part_of window.entry) head.now place.now → ⊥ }
-    ensures there { result ≡ true → HasRowAt head.now place.now rows }
-    ensures inside { result ≡ false → HasRowAt head.now place.now rows → IsInPart (part_of window.entry) head.now place.now }
-{
-    has_row_at(head, place, rows) && !is_in_window(head, place, window)
 }
 
 /// Returns the header of the image, or `None` if more bytes may come and are wanted for it.
@@ -136,12 +127,16 @@ pub(crate) fn decode_in_window(
 ) -> Result<RowsReport, PlaceError>
     ensures given { IfOk result (λ r. GivesRows source.entry.header.now (part_of source.entry.window) rows place.old place.new pixels.old pixels.new r) }
     ensures why { IfErr result (IsWhy source.entry.header.now (part_of source.entry.window) place.old rows (length pixels.old)) }
+    ensures inside { OnOk result (WantsMore source.entry.header.now ⊎ LiesInside source.entry.header.now (part_of source.entry.window) place.old rows) }
     ensures place { IfErr result (λ _. place.new ≡ place.old) }
     ensures pixels { IfErr result (λ _. pixels.new ≡ pixels.old) }
 {
     match head_from(alloc, source) {
         Ok(Some(head)) => {
-            if is_elsewhere(&head, place, rows, source.window) {
+            if !has_row_at(&head, place, rows) {
+                return Err(PlaceError::NoRows);
+            }
+            if !is_in_window(&head, place, source.window) {
                 return Err(PlaceError::NotInWindow);
             }
             decode_there(alloc, &head, source, place, rows, pixels)
@@ -208,11 +203,15 @@ pub(crate) fn skip_in_window(
     ensures skipped { IfOk result (λ r. SkipsRows source.entry.header.now (part_of source.entry.window) rows place.old place.new r) }
     ensures why { IfErr result (λ e. (room : ℕ) → IsWhy source.entry.header.now (part_of source.entry.window) place.old rows room e) }
     ensures other { result ≢ Err PlaceError.NoRoom }
+    ensures inside { OnOk result (WantsMore source.entry.header.now ⊎ LiesInside source.entry.header.now (part_of source.entry.window) place.old rows) }
     ensures place { IfErr result (λ _. place.new ≡ place.old) }
 {
     match head_from(alloc, source) {
         Ok(Some(head)) => {
-            if is_elsewhere(&head, place, rows, source.window) {
+            if !has_row_at(&head, place, rows) {
+                return Err(PlaceError::NoRows);
+            }
+            if !is_in_window(&head, place, source.window) {
                 return Err(PlaceError::NotInWindow);
             }
             skip_there(alloc, &head, source, place, rows)
