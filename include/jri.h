@@ -303,9 +303,10 @@ uint32_t jri_skip_rows(const uint8_t *file, size_t file_length, uint32_t more, s
  * what follows the position.
  *
  * Proved: all that is proved of jri_decode_rows, with the file that ends with the window in place of these bytes, and
- * with the files that have the window's bytes at its offset in place of those that begin with these. JRI_NOT_IN_WINDOW
- * is returned only if position->at, or the offset after the scan header if that is larger, is before window_at or after
- * the window's end; then pixels and position are unchanged.
+ * with the files that have the window's bytes at its offset in place of those that begin with these. The window has the
+ * position if position->at, or the offset after the scan header if that is larger, is neither before window_at nor after
+ * the window's end. If the image has a row at the position and one is asked for, JRI_OK means that the window has it,
+ * and JRI_NOT_IN_WINDOW that it has not; then pixels and position are unchanged.
  *
  * A position is an offset in the file whichever call returns it: it serves for any window that has it, and for
  * jri_decode_rows. After a call with JRI_PARTIAL, let the next window begin at or before position->at and end later.

@@ -3,7 +3,7 @@
 //! No call starts a thread, waits, or keeps anything: calls on different buffers may run at once.
 #![tactic(auto)]
 
-ghost use Rattle.std.specs.Prelude.{◌≡◌, ◌≢◌, ◌<◌, ◌≤◌, ℕ, List, length, drop, false};
+ghost use Rattle.std.specs.Prelude.{◌≡◌, ◌≢◌, ◌<◌, ◌≤◌, ◌⊎◌, ℕ, List, length, drop, false};
 ghost use Rattle.jr_arrival.specs.Arrival.{CanBecome};
 ghost use Rattle.jr_arrival.specs.Settled.{WantsMore};
 ghost use Rattle.jri_memory.specs.Canvases.{DecodesCanvas, LacksCanvas, LacksLayoutOf, LacksLinesToLay, LacksRoomToLay, LaysOut};
@@ -12,7 +12,7 @@ ghost use Rattle.jri_memory.specs.Checks.{ChecksFile, LacksMarkRoom};
 ghost use Rattle.jri_memory.specs.Mends.{HasOtherHeader, IsTooLongMend, LackCopies, LacksMendRoom, MendsFiles, TellsCopyFault, TellsNoMend, files_of};
 ghost use Rattle.jri_memory.specs.Resyncs.{IsTooLongFile, IsTooLongRead, LacksResyncRoom, OfRead, ResyncsFile, TellsNoResync};
 ghost use Rattle.jri_memory.specs.Calls.{DecodesFile, DecodesLines, TellsFault, IsHeaderOf, IsNumberOfSome, LacksLines, LacksRoom, LacksRoomForLines, TellsNoHeader, TellsNoPicture, TellsNoRefusal};
-ghost use Rattle.jri_memory.specs.Rows.{GivesRows, LacksRoomForRow, LacksRows, LiesOutside, SkipsRows, TellsPartialFault, TellsNoRows, TellsNothing, are_all, file_part, window_part};
+ghost use Rattle.jri_memory.specs.Rows.{GivesRows, LacksRoomForRow, LacksRows, LiesInside, LiesOutside, SkipsRows, TellsPartialFault, TellsNoRows, TellsNothing, are_all, file_part, window_part};
 
 use jri_memory::{
     Break, CanvasShape, ChoiceEntry, Damage, DamageReport, DecodeReport, FileBytes, Header,
@@ -238,7 +238,8 @@ pub extern "C" fn jri_decode_window(
     ensures room_alone { result ≡ 4 → TellsNothing report.new }
     ensures rows { result ≡ 5 → LacksRows header.now place.old rows }
     ensures rows_alone { result ≡ 5 → TellsNothing report.new }
-    ensures outside { result ≡ 11 → LiesOutside header.now (window_part window_at window.now more) place.old }
+    ensures inside { result ≡ 0 → WantsMore header.now ⊎ LiesInside header.now (window_part window_at window.now more) place.old rows }
+    ensures outside { result ≡ 11 → LiesOutside header.now (window_part window_at window.now more) place.old rows }
     ensures outside_alone { result ≡ 11 → TellsNothing report.new }
     ensures no_rows { result ≢ 0 → TellsNoRows report.new }
     ensures pixels { result ≢ 0 → pixels.new ≡ pixels.old }
@@ -273,7 +274,8 @@ pub extern "C" fn jri_skip_window(
     ensures memory { result ≡ 1 → report.new.refusal ≡ 19 }
     ensures rows { result ≡ 5 → LacksRows header.now place.old rows }
     ensures rows_alone { result ≡ 5 → TellsNothing report.new }
-    ensures outside { result ≡ 11 → LiesOutside header.now (window_part window_at window.now more) place.old }
+    ensures inside { result ≡ 0 → WantsMore header.now ⊎ LiesInside header.now (window_part window_at window.now more) place.old rows }
+    ensures outside { result ≡ 11 → LiesOutside header.now (window_part window_at window.now more) place.old rows }
     ensures outside_alone { result ≡ 11 → TellsNothing report.new }
     ensures no_room { result ≢ 4 }
     ensures no_rows { result ≢ 0 → TellsNoRows report.new }
