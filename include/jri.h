@@ -31,7 +31,7 @@ extern "C" {
 #define JRI_RELEASE "0.1.0"
 
 /* The number of this interface; jri_version() returns that of the library. */
-#define JRI_VERSION 7
+#define JRI_VERSION 8
 
 /* The status of a call. */
 enum {
@@ -46,7 +46,8 @@ enum {
     JRI_NEED_MORE = 7,        /* the bytes so far end before the header does */
     JRI_TOO_LONG = 8,         /* the file written anew would be longer than a file may be: 1,073,741,824 bytes */
     JRI_NO_COPIES = 9,        /* there are no copies, more than 64, or their sizes exceed their bytes */
-    JRI_OTHER_HEADER = 10     /* a copy has another header than the first */
+    JRI_OTHER_HEADER = 10,    /* a copy has another header than the first */
+    JRI_NOT_IN_WINDOW = 11    /* the position is before the window's first byte or after its end */
 };
 
 /* Whether the bytes are all of the file, or more may follow. */
@@ -293,6 +294,35 @@ uint32_t jri_decode_rows(const uint8_t *file, size_t file_length, uint32_t more,
  */
 uint32_t jri_skip_rows(const uint8_t *file, size_t file_length, uint32_t more, struct jri_position *position,
                        uint32_t rows, struct jri_rows *report);
+
+/*
+ * Decodes rows as jri_decode_rows does, from some bytes of a file: its header, and a window. `header` has the file's
+ * first bytes, at least to the end of the scan header; if they end before it, the call is jri_decode_rows on them. The
+ * window has the file's bytes starting at offset `window_at`; with JRI_COMPLETE the file ends after them. The bytes
+ * from the header to the window, and those before the position, are not needed. Reads the header, and of the window
+ * what follows the position.
+ *
+ * Proved: all that is proved of jri_decode_rows, with the file that ends with the window in place of these bytes, and
+ * with the files that have the window's bytes at its offset in place of those that begin with these. The window has the
+ * position if position->at, or the offset after the scan header if that is larger, is neither before window_at nor after
+ * the window's end. If the image has a row at the position and one is asked for, JRI_OK means that the window has it,
+ * and JRI_NOT_IN_WINDOW that it has not; then pixels and position are unchanged.
+ *
+ * A position is an offset in the file whichever call returns it: it serves for any window that has it, and for
+ * jri_decode_rows. After a call with JRI_PARTIAL, let the next window begin at or before position->at and end later.
+ */
+uint32_t jri_decode_window(const uint8_t *header, size_t header_length, const uint8_t *window, size_t window_length,
+                           uint64_t window_at, uint32_t more, struct jri_position *position, uint32_t rows,
+                           uint8_t *pixels, size_t pixels_size, struct jri_rows *report);
+
+/*
+ * Skips rows as jri_skip_rows does, from the header and a window of a file as for jri_decode_window.
+ *
+ * Proved: as for jri_decode_window, without pixels.
+ */
+uint32_t jri_skip_window(const uint8_t *header, size_t header_length, const uint8_t *window, size_t window_length,
+                         uint64_t window_at, uint32_t more, struct jri_position *position, uint32_t rows,
+                         struct jri_rows *report);
 
 /*
  * Writes the text of a refusal, by its number and detail, into the first bytes of `text`, as many as fit, without a 0

@@ -31,8 +31,8 @@ module _ (h : HeadValue) where
 -- at the scan's end the next interval has no data either
 pub ended_next : (whole : List ℕ) (t : ScanValue) (c : ScanCursor) → c.reading ≡ HasEnded → IsCursorIn whole t c → IsCursorIn whole t (begun c)
 ended_next whole t c ended s =
-    let none = subst (λ (r : Reading). MeansAt whole t (reading_number r) c.interval c.mcu c.at c.place) ended s.means in
+    let none = subst (λ (r : Reading). MeansAt whole t (reading_number r) c.interval c.mcu (c.file.from + c.at) c.place) ended s.means in
     record {
       from = s.from;
-      means = subst (λ (r : Reading). MeansAt whole t (reading_number r) (c.interval + 1) 0 c.at (begun c).place) (sym ended) (λ j le. none j (omega (arith, le)));
+      means = subst (λ (r : Reading). MeansAt whole t (reading_number r) (c.interval + 1) 0 (c.file.from + c.at) (begun c).place) (sym ended) (λ j le. none j (omega (arith, le)));
     }

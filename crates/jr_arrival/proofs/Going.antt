@@ -12,7 +12,6 @@ use Rattle.jr_cut.proofs.Slices.{length_front, split_at}
 use Rattle.jr_arrival.proofs.ScanIntervals.{none_in}
 use Rattle.jr_arrival.specs.Meaning.{GoesOnAt, HasNoData}
 use Rattle.jr_cut.proofs.Splits.{split_cut}
-use Rattle.jr_arrival.proofs.Spelled.{front_whole}
 
 -- ---- what follows a segment
 
@@ -28,17 +27,16 @@ pub record OnBy (whole : List ℕ) (t : ScanValue) (i at : ℕ) (before found re
   pub is : rest ≡ found ++ on.rest
   pub none : IsStop (drop at whole) → on.rest ≡ []
 
-pub on_by : (bytes more whole : List ℕ) (t : ScanValue) (i at read : ℕ) (before found : List ℕ) → whole ≡ bytes ++ more → (g : GoesOnAt whole t i at before) → at + read ≤ length bytes → IsRaw (take read (drop at bytes)) found → OnBy whole t i (at + read) before found g.rest
-on_by bytes more whole t i at read before found is g within raw =
+pub on_by : (whole : List ℕ) (t : ScanValue) (i at read : ℕ) (before found : List ℕ) → (g : GoesOnAt whole t i at before) → at + read ≤ length whole → IsRaw (take read (drop at whole)) found → OnBy whole t i (at + read) before found g.rest
+on_by whole t i at read before found g within raw =
     let n = intervals_of t.head in
-    let first = take read (drop at bytes) in
-    let front : take read (drop at whole) ≡ first = ap (λ (w : List ℕ). take read (drop at w)) is ∙ front_whole bytes more at read within in
-    let e : drop at whole ≡ first ++ drop (at + read) whole = split_at whole at read ∙ ap (λ (x : List ℕ). x ++ drop (at + read) whole) front in
+    let first = take read (drop at whole) in
+    let e : drop at whole ≡ first ++ drop (at + read) whole = split_at whole at read in
     let s = split_cut n i at first found (drop (at + read) whole) (g.rest ∷ g.others) t.ended raw (subst (λ (b : List ℕ). CutFrom n i at b (g.rest ∷ g.others) t.ended) e g.cut) in
     let both : g.rest ∷ g.others ≡ (found ++ s.rest) ∷ s.others = s.is in
     let rest : g.rest ≡ found ++ s.rest = cc in
     let others : g.others ≡ s.others = cc in
-    let long : at + length first ≡ at + read = ap (λ (k : ℕ). at + k) (length_front bytes at read within) in
+    let long : at + length first ≡ at + read = ap (λ (k : ℕ). at + k) (length_front whole at read within) in
     record {
       on = record {
         rest = s.rest;

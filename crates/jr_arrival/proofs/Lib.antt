@@ -13,6 +13,7 @@ pub mod Longest
 pub mod Marks
 pub mod MoreData
 pub mod PaintedLines
+pub mod Parts
 pub mod Passing
 pub mod Reaching
 pub mod ReadOn

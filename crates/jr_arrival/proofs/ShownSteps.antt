@@ -27,7 +27,8 @@ use Rattle.jr_arrival.specs.Cursors.{IsCursor, PassesOver, StaysIn, StaysTrue, i
 use Rattle.jr_arrival.specs.RowMcus.{ExtendsRow}
 use Rattle.jr_arrival.specs.Shown.{ShowsMore, Walks}
 use Rattle.jr_arrival.proofs.CursorSteps.{passes_after, stays_over}
-use Rattle.jr_arrival.proofs.Going.{on_by}
+use Rattle.jr_arrival.specs.Parts.{part_of}
+use Rattle.jr_arrival.proofs.Parts.{on_part}
 use Rattle.jr_arrival.proofs.ReadOn.{nothing_whole, run_on}
 use Rattle.jr_arrival.proofs.Steps.{true_on}
 use Rattle.jr_arrival.proofs.Windows.{window_long}
@@ -35,7 +36,7 @@ use Rattle.jr_arrival.proofs.Windows.{window_long}
 -- ---- MCUs of the interval
 
 module _ (keeps : Bool) (h : HeadValue) (c : ScanCursor) (lawful : IsLawful h) (some : 0 < blocks_of h) (is : IsCursor h c) (n done : ℕ) (few : c.mcu + n ≤ mcus_in h c.interval) (old new : List (List ℕ)) where
-  module _ (from : ℕ) (at : mcus_before_place h c.interval c.mcu ≡ from + done) (whole : List ℕ) (t : ScanValue) (may : MayBe c.file.bytes.now c.file.are_all h whole t) (before : ShowsFirstUnits t (length t.intervals) from done (units_in t.head old)) where
+  module _ (from : ℕ) (at : mcus_before_place h c.interval c.mcu ≡ from + done) (whole : List ℕ) (t : ScanValue) (may : MayBe (part_of c.file) h whole t) (before : ShowsFirstUnits t (length t.intervals) from done (units_in t.head old)) where
     some_t : 0 < blocks_of t.head
     some_t = subst (λ (g : HeadValue). 0 < blocks_of g) (sym may.head) some
 
@@ -63,11 +64,11 @@ module _ (keeps : Bool) (h : HeadValue) (c : ScanCursor) (lawful : IsLawful h) (
       let w = is.window.spells in
       let found = window c in
       let long : length found ≡ c.found - c.from = window_long c is.window in
-      let means : ReadsAt whole t c.interval c.mcu c.at c.place = subst (λ (r : Reading). MeansAt whole t (reading_number r) c.interval c.mcu c.at c.place) going s.means in
+      let means : ReadsAt whole t c.interval c.mcu (c.file.from + c.at) c.place = subst (λ (r : Reading). MeansAt whole t (reading_number r) c.interval c.mcu (c.file.from + c.at) c.place) going s.means in
       let e = may.head in
-      let o = on_by c.file.bytes.now may.more whole t c.interval c.at w.read means.before found may.is means.on w.within w.spelled in
+      let o = on_part (part_of c.file) h whole t may c.interval c.at w.read means.before found means.on w.within w.spelled in
       let lawful_t : IsLawful t.head = subst IsLawful (sym e) lawful in
-      let there = run_on whole t c.interval c.mcu c.at (mcus_in h c.interval - c.mcu) found o.on.rest c.place lawful_t means o.is n ys q (omega (arith, is.window.bit, long)) (omega (arith, to, long))
+      let there = run_on whole t c.interval c.mcu (c.file.from + c.at) (mcus_in h c.interval - c.mcu) found o.on.rest c.place lawful_t means o.is n ys q (omega (arith, is.window.bit, long)) (omega (arith, to, long))
       (subst (λ (g : HeadValue). IsRun (run_from (record { number = c.interval; mcus = mcus_in h c.interval - c.mcu; bytes = found; head = g }) c.place n) ys q AllRead) (sym e) run) in
       step from at whole t may before (unit_of t.head ys) (subst (λ (g : HeadValue). ExtendsRow g done n (unit_of g ys) old new) (sym e) (adds keep)) (λ p same out k lt.
       whole_codes (interval_of t c.interval) lawful_t c.mcu means.blocks (behind means.before c.place) means.next n ys (behind means.before q) there (few_t from at whole t may before) p same out k (omega (arith, lt, ap (λ (m : ℕ). n * m) (per_of t)))
@@ -81,7 +82,7 @@ module _ (keeps : Bool) (h : HeadValue) (c : ScanCursor) (lawful : IsLawful h) (
       grey_codes (interval_of t c.interval) none.front c.mcu none.blocks none.few none.longest p same out k
       ∙ ap (λ (m : ℕ). unit_in_piece p (c.mcu * m + k)) (per_of t))
     where
-      go : (r : Reading) → r ≢ GoesOn → MeansAt whole t (reading_number r) c.interval c.mcu c.at c.place → HasNoFurtherMcu t c.interval c.mcu
+      go : (r : Reading) → r ≢ GoesOn → MeansAt whole t (reading_number r) c.interval c.mcu (c.file.from + c.at) c.place → HasNoFurtherMcu t c.interval c.mcu
       go GoesOn out means = absurd (out refl)
       go IsStuck out means = means.no_more
       go HasEnded out means = nothing_whole t c.interval c.mcu (some_t from at whole t may before) (means c.interval (omega arith))
@@ -106,7 +107,7 @@ walks_after keeps h a b c done n old mid new first second = record {
   stands = true_on h a b c first.passes.file first.stands second.stands;
   shows = λ keep from at whole t may s before.
       let here : done + 0 ≡ done = omega arith in
-      second.shows keep from (omega (arith, first.passes.passed, at)) whole t (subst (λ (f : FileBytes). MayBe f.bytes.now f.are_all h whole t) (sym first.passes.file) may) (first.stands whole t may s)
+      second.shows keep from (omega (arith, first.passes.passed, at)) whole t (subst (λ (f : FileBytes). MayBe (part_of f) h whole t) (sym first.passes.file) may) (first.stands whole t may s)
       (subst (λ (k : ℕ). ShowsFirstUnits t (length t.intervals) from k (units_in t.head mid)) here (first.shows keep from at whole t may s before));
   few = second.few;
 }

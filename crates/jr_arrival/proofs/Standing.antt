@@ -1,5 +1,5 @@
 -- Where a cursor stands, by its numbers.
-use Rattle.std.proofs.Common.{◌≡◌, ℕ, zero, suc, ◌/◌, ◌<◌, ◌≤◌, List, refl, sym, ap, subst, ◌∙◌, arith}
+use Rattle.std.proofs.Common.{◌≡◌, ℕ, zero, suc, ◌+◌, ◌-◌, ◌/◌, ◌<◌, ◌≤◌, List, refl, sym, ap, subst, ◌∙◌, arith}
 use Rattle.std.specs.Prelude.{ℤ, min}
 use Rattle.std.specs.List.{All}
 use Rattle.jr_head.specs.HeadValue.{HeadValue}
@@ -11,15 +11,16 @@ use Rattle.jr_arrival.specs.declared.cursor.ScanCursor.{ScanCursor}
 use Rattle.jr_arrival.specs.declared.file_bytes.FileBytes.{FileBytes}
 use Rattle.jr_arrival.specs.declared.place.RowPlace.{RowPlace}
 use Rattle.jr_arrival.specs.Meaning.{HasBits, IsPlaceIn, MeansAt, offset_in}
+use Rattle.jr_arrival.specs.Parts.{part_of}
 use Rattle.jr_arrival.specs.Cursors.{HasWindow, IsOffset, IsCursorIn, StaysTrue, reading_number, trimmed}
 use Rattle.jr_arrival.proofs.Steps.{moved}
 use Rattle.jr_arrival.proofs.Windows.{window_bits}
 
-pub stands_by : (whole : List ℕ) (t : ScanValue) (d : ScanCursor) (i m at : ℕ) (r : Reading) (p : Place) → d.interval ≡ i → d.mcu ≡ m → d.at ≡ at → d.reading ≡ r → d.place ≡ p → t.head.scan_at ≤ at → MeansAt whole t (reading_number r) i m at p → IsCursorIn whole t d
+pub stands_by : (whole : List ℕ) (t : ScanValue) (d : ScanCursor) (i m at : ℕ) (r : Reading) (p : Place) → d.interval ≡ i → d.mcu ≡ m → d.file.from + d.at ≡ at → d.reading ≡ r → d.place ≡ p → t.head.scan_at ≤ at → MeansAt whole t (reading_number r) i m at p → IsCursorIn whole t d
 stands_by whole t d i m at r p interval mcu there reading place from means = record {
   from = omega (arith, from, there);
-  means = subst (λ (k : ℕ). MeansAt whole t (reading_number d.reading) k d.mcu d.at d.place) (sym interval)
-      (subst (λ (k : ℕ). MeansAt whole t (reading_number d.reading) i k d.at d.place) (sym mcu)
+  means = subst (λ (k : ℕ). MeansAt whole t (reading_number d.reading) k d.mcu (d.file.from + d.at) d.place) (sym interval)
+      (subst (λ (k : ℕ). MeansAt whole t (reading_number d.reading) i k (d.file.from + d.at) d.place) (sym mcu)
       (subst (λ (k : ℕ). MeansAt whole t (reading_number d.reading) i m k d.place) (sym there)
       (subst (λ (s : Reading). MeansAt whole t (reading_number s) i m at d.place) (sym reading) (subst (MeansAt whole t (reading_number r) i m at) (sym place) means))));
 }
@@ -35,18 +36,20 @@ trimmed_true h c at w off whole t may s = record {
 }
 
 -- the position where such a cursor is
-pub place_true : (whole : List ℕ) (t : ScanValue) (c : ScanCursor) (p : RowPlace) (f : FileBytes) → c.file ≡ f → HasWindow c → c.place.bit < 8 → IsCursorIn whole t c → p.at ≡ c.at → p.bit ≡ c.place.bit → p.predictions ≡ c.place.predictions → p.interval ≡ c.interval → p.mcu ≡ c.mcu → p.state ≡ reading_number c.reading
-    → IsPlaceIn f.bytes.now whole t p
+pub place_true : (whole : List ℕ) (t : ScanValue) (c : ScanCursor) (p : RowPlace) (f : FileBytes) → c.file ≡ f → HasWindow c → c.place.bit < 8 → IsCursorIn whole t c → p.at ≡ c.file.from + c.at → p.bit ≡ c.place.bit → p.predictions ≡ c.place.predictions → p.interval ≡ c.interval → p.mcu ≡ c.mcu → p.state ≡ reading_number c.reading
+    → IsPlaceIn (part_of f) whole t p
 place_true whole t c p f file w low s at_is bit predictions interval mcu state =
-    let at : c.at ≡ offset_in t.head p = omega (arith, s.from, at_is) in
+    let at : c.file.from + c.at ≡ offset_in t.head p = omega (arith, s.from, at_is) in
+    let in_bytes : c.at ≡ offset_in t.head p - c.file.from = omega (arith, at) in
     let q : Place = record { bit = p.bit; predictions = p.predictions } in
-    let here : MeansAt whole t (reading_number c.reading) c.interval c.mcu c.at q = subst (MeansAt whole t (reading_number c.reading) c.interval c.mcu c.at) (place_by c.place p.bit p.predictions (sym bit) (sym predictions)) s.means in
+    let here : MeansAt whole t (reading_number c.reading) c.interval c.mcu (c.file.from + c.at) q = subst (MeansAt whole t (reading_number c.reading) c.interval c.mcu (c.file.from + c.at)) (place_by c.place p.bit p.predictions (sym bit) (sym predictions)) s.means in
     record {
       bit = omega (arith, bit, low);
-      come = subst (λ (g : FileBytes). HasBits g.bytes.now (offset_in t.head p) p.bit) file (subst (λ (k : ℕ). HasBits c.file.bytes.now k p.bit) at (subst (HasBits c.file.bytes.now c.at) (sym bit) (window_bits c w)));
+      from = omega (arith, at, ap (λ (g : FileBytes). g.from) file);
+      come = subst (λ (g : FileBytes). HasBits g.bytes.now (offset_in t.head p - g.from) p.bit) file (subst (λ (k : ℕ). HasBits c.file.bytes.now k p.bit) in_bytes (subst (HasBits c.file.bytes.now c.at) (sym bit) (window_bits c w)));
       means = subst (λ (k : ℕ). MeansAt whole t p.state p.interval p.mcu k q) at
-          (subst (λ (k : ℕ). MeansAt whole t k p.interval p.mcu c.at q) (sym state)
-          (subst (λ (k : ℕ). MeansAt whole t (reading_number c.reading) k p.mcu c.at q) (sym interval) (subst (λ (k : ℕ). MeansAt whole t (reading_number c.reading) c.interval k c.at q) (sym mcu) here)));
+          (subst (λ (k : ℕ). MeansAt whole t k p.interval p.mcu (c.file.from + c.at) q) (sym state)
+          (subst (λ (k : ℕ). MeansAt whole t (reading_number c.reading) k p.mcu (c.file.from + c.at) q) (sym interval) (subst (λ (k : ℕ). MeansAt whole t (reading_number c.reading) c.interval k (c.file.from + c.at) q) (sym mcu) here)));
     }
 
 -- a place's state by its number; predictions count where the interval goes on

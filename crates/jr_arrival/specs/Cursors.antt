@@ -17,6 +17,7 @@ use Rattle.jr_arrival.specs.declared.cursor.ScanCursor.{ScanCursor}
 use Rattle.jr_arrival.specs.declared.cursor.TheConstants.{MCU_BITS, WINDOW}
 use Rattle.jr_arrival.specs.LongerFile.{IsSettled, RowIsSettled}
 use Rattle.jr_arrival.specs.Meaning.{MayBe, MeansAt}
+use Rattle.jr_arrival.specs.Parts.{last_part, part_of}
 use Rattle.jr_arrival.specs.Places.{IsIn, mcus_before_place}
 
 -- the bytes from that offset on spell this data, and all of it up to a marker or the end if it ends there
@@ -77,12 +78,12 @@ reading_number HasEnded = 2
 
 -- its position is right in that file, of that scan
 pub record IsCursorIn (whole : List ℕ) (t : ScanValue) (c : ScanCursor) : Type 0 where
-  pub from : t.head.scan_at ≤ c.at
-  pub means : MeansAt whole t (reading_number c.reading) c.interval c.mcu c.at c.place
+  pub from : t.head.scan_at ≤ c.file.from + c.at
+  pub means : MeansAt whole t (reading_number c.reading) c.interval c.mcu (c.file.from + c.at) c.place
 
 -- a step that leaves it there, in each file that its bytes may be
 abbrev pub StaysTrue : HeadValue → (old new : ScanCursor) → Type 0
-StaysTrue h old new = (whole : List ℕ) (t : ScanValue) → MayBe old.file.bytes.now old.file.are_all h whole t → IsCursorIn whole t old → IsCursorIn whole t new
+StaysTrue h old new = (whole : List ℕ) (t : ScanValue) → MayBe (part_of old.file) h whole t → IsCursorIn whole t old → IsCursorIn whole t new
 
 -- only fill bytes follow its interval's data, to the end of the bytes
 pub record IsOpen (c : ScanCursor) : Type 0 where
@@ -93,23 +94,23 @@ pub record IsOpen (c : ScanCursor) : Type 0 where
   pub fill : ℕ
   pub all : drop (c.at + read) c.file.bytes.now ≡ replicate fill PREFIX
 
--- the bytes so far do not make the MCU at its position final, if the position is right in them
+-- no file that ends with its bytes, in which the position is right, makes the MCU there final
 abbrev pub Waits : HeadValue → ScanCursor → Type 0
 Waits h c = let m = mcus_before_place h c.interval c.mcu in
-    (s : ScanValue) → MayBe c.file.bytes.now c.file.are_all h c.file.bytes.now s → IsCursorIn c.file.bytes.now s c → m < mcus_of h → IsSettled c.file.bytes.now s m → ⊥
+    (so_far : List ℕ) (s : ScanValue) → MayBe (last_part (part_of c.file)) h so_far s → IsCursorIn so_far s c → m < mcus_of h → IsSettled so_far s m → ⊥
 
 -- nor all of that row of MCUs
 abbrev pub LeavesRow : HeadValue → ScanCursor → (row : ℕ) → Type 0
-LeavesRow h c row = (s : ScanValue) → MayBe c.file.bytes.now c.file.are_all h c.file.bytes.now s → IsCursorIn c.file.bytes.now s c → RowIsSettled c.file.bytes.now s row → ⊥
+LeavesRow h c row = (so_far : List ℕ) (s : ScanValue) → MayBe (last_part (part_of c.file)) h so_far s → IsCursorIn so_far s c → RowIsSettled so_far s row → ⊥
 
--- that offset in the file is after the given number of bytes of the window's data
+-- that offset in the file's bytes is after the given number of bytes of the window's data
 pub record IsOffset (c : ScanCursor) (byte at : ℕ) : Type 0 where
   pub read : ℕ
   pub is : at ≡ c.at + read
   pub within : at ≤ length c.file.bytes.now
   pub spelled : IsRaw (take read (drop c.at c.file.bytes.now)) (take byte (window c))
 
--- its window begins at the byte of the next MCU, which is at that offset in the file
+-- its window begins at the byte of the next MCU, which is at that offset in the file's bytes
 abbrev pub trimmed : ScanCursor → ℕ → ScanCursor
 trimmed c at = record c { at = at; from = c.from + c.place.bit / 8; place = record { bit = c.place.bit % 8; predictions = c.place.predictions } }
 
@@ -123,4 +124,4 @@ begun c = record c { interval = c.interval + 1; mcu = 0; place = record { bit = 
 
 -- a step to the beginning of the next interval, or to the scan's end
 abbrev pub BeginsNext : HeadValue → (old new : ScanCursor) → Type 0
-BeginsNext h old new = (whole : List ℕ) (t : ScanValue) → MayBe old.file.bytes.now old.file.are_all h whole t → IsCursorIn whole t old → IsCursorIn whole t (begun new)
+BeginsNext h old new = (whole : List ℕ) (t : ScanValue) → MayBe (part_of old.file) h whole t → IsCursorIn whole t old → IsCursorIn whole t (begun new)

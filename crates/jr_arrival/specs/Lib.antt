@@ -5,6 +5,7 @@ pub mod Cursors
 pub mod LongerFile
 pub mod Meaning
 pub mod More
+pub mod Parts
 pub mod Places
 pub mod RowMcus
 pub mod Settled

@@ -1,5 +1,5 @@
 -- What a place is in a file (T.81, B.1.1.5 and E.1.4).
-use Rattle.std.specs.Prelude.{◌≡◌, ℕ, zero, suc, ◌+◌, ◌*◌, ◌<◌, ◌≤◌, max, Bool, true, List, [], ◌∷◌, ◌++◌, length, replicate, take, drop, ℤ, slice_index_or}
+use Rattle.std.specs.Prelude.{◌≡◌, ℕ, zero, suc, ◌+◌, ◌-◌, ◌*◌, ◌^◌, ◌<◌, ◌≤◌, max, true, List, [], ◌∷◌, ◌++◌, length, replicate, take, drop, ℤ, slice_index_or}
 use Rattle.jr_cut.specs.Cut.{CutFrom, IsRaw}
 use Rattle.jr_head.specs.HeadValue.{HeadValue}
 use Rattle.jr_mcu.specs.Mcus.{no_predictions}
@@ -9,6 +9,7 @@ use Rattle.jr_scan.specs.Mcus.{LongestFront}
 use Rattle.jr_scan.specs.ScanValue.{ScanValue, IsScanOf, interval_of, intervals_of}
 use Rattle.jr_piece.specs.Strips.{IsNext}
 use Rattle.jr_arrival.specs.declared.place.RowPlace.{RowPlace}
+use Rattle.jr_arrival.specs.Parts.{Part}
 
 -- an interval with other data before it
 abbrev pub with_before : IntervalValue → List ℕ → IntervalValue
@@ -18,12 +19,14 @@ with_before i front = record { number = i.number; mcus = i.mcus; bytes = front +
 abbrev pub behind : List ℕ → Place → Place
 behind front p = record { bit = 8 * length front + p.bit; predictions = p.predictions }
 
--- a file that these bytes may be: these bytes if they are all of it, otherwise any that begins with them; and its scan, with
--- that header
-pub record MayBe (bytes : List ℕ) (all : Bool) (h : HeadValue) (whole : List ℕ) (t : ScanValue) : Type 0 where
+-- a file that has this part at its offset, and no byte after it if the file ends with it; and its scan, with that header
+pub record MayBe (x : Part) (h : HeadValue) (whole : List ℕ) (t : ScanValue) : Type 0 where
+  pub before : List ℕ
   pub more : List ℕ
-  pub is : whole ≡ bytes ++ more
-  pub none : all ≡ true → more ≡ []
+  pub is : whole ≡ before ++ (x.bytes ++ more)
+  pub from : length before ≡ x.from
+  pub fits : x.from + length x.bytes < 2 ^ 64
+  pub none : x.are_all ≡ true → more ≡ []
   pub head : t.head ≡ h
   pub scan : IsScanOf whole t
 
@@ -79,10 +82,11 @@ pub record HasBits (bytes : List ℕ) (at bit : ℕ) : Type 0 where
 abbrev pub offset_in : HeadValue → RowPlace → ℕ
 offset_in h p = max p.at h.scan_at
 
--- it is a place of the whole file, whose bits before it have come
-pub record IsPlaceIn (bytes whole : List ℕ) (t : ScanValue) (p : RowPlace) : Type 0 where
+-- it is a place of the whole file, at a byte of the part or after its last one, and the bits before it are there
+pub record IsPlaceIn (x : Part) (whole : List ℕ) (t : ScanValue) (p : RowPlace) : Type 0 where
   pub bit : p.bit < 8
-  pub come : HasBits bytes (offset_in t.head p) p.bit
+  pub from : x.from ≤ offset_in t.head p
+  pub come : HasBits x.bytes (offset_in t.head p - x.from) p.bit
   pub means : MeansAt whole t p.state p.interval p.mcu (offset_in t.head p) (record { bit = p.bit; predictions = p.predictions })
 
 -- the place before the first row

@@ -1,4 +1,5 @@
-//! A cursor that goes over the MCUs of a scan, a window of the file's bytes at a time.
+//! A cursor that goes over the MCUs of a scan, a window of the file's bytes at a time. Its offsets count from the first
+//! of the bytes that are there; only a position has an offset in the file.
 
 ghost use Rattle.std.specs.List.{All};
 ghost use Rattle.std.specs.Prelude.{◌≡◌, ◌≢◌, ◌⊎◌, ◌≤◌, ◌<◌, ◌+◌, ◌-◌, ◌*◌, ◌/◌, ◌%◌, ◌^◌, ℕ, List, [], ◌++◌, length, replicate, take, drop, min, max, true, false, IfOk};
@@ -13,6 +14,7 @@ ghost use Rattle.jr_scan.specs.Run.{run_from};
 ghost use Rattle.jr_arrival.specs.Places.{IsIn, IsPlaceOf, mcus_before_place};
 ghost use Rattle.jr_arrival.specs.Cursors.{HasWindow, IsCursor, IsOffset, IsOpen, BeginsNext, NoneFollows, PassesOver, IsCursorIn, StaysIn, StaysTrue, Waits, begun, in_window, reading_number, to_read, trimmed};
 ghost use Rattle.jr_arrival.specs.Meaning.{HasBits, IsPlaceIn, MayBe};
+ghost use Rattle.jr_arrival.specs.Parts.{part_of};
 ghost use Rattle.jr_arrival.specs.declared.cursor.Reading.TheVariants.{GoesOn, HasEnded};
 ghost use Rattle.jr_cut.specs.declared.scan_end.ScanEnd.TheVariants.{EndOfFile};
 ghost use Rattle.jr_head.specs.HeadValue.{HeadValue};
@@ -58,9 +60,9 @@ pub(crate) struct ScanCursor<'a> {
     pub room: Vec<u8>,
     pub from: usize,
     pub found: usize,
-    /// Offset in the file of the window's first byte of data; after the interval's data if none follow.
+    /// Offset in the file's bytes of the window's first byte of data; after the interval's data if none follow.
     pub at: usize,
-    /// Offset in the file before which the window's bytes were read.
+    /// Offset in the file's bytes before which the window's were read.
     pub reach: usize,
     /// Whether the interval's data end with the window's.
     pub ends: bool,
@@ -111,12 +113,14 @@ fn reading_of(number: u32) -> Reading
     }
 }
 
-/// Returns the offset of a position in a file whose scan begins at another: no byte before the scan's, and none past the end.
-fn offset_of(place: &RowPlace, scan_at: u64, file: &[u8]) -> usize
-    ensures within { result ≤ length file.now }
-    ensures there { max place.now.at scan_at ≤ length file.now → result ≡ max place.now.at scan_at }
+/// Returns the offset of a position in bytes of a file whose scan begins at `scan_at`: no byte before the scan's or the
+/// first of the bytes, and none past the end.
+fn offset_of(place: &RowPlace, scan_at: u64, file: FileBytes<'_>) -> usize
+    ensures within { result ≤ length file.entry.bytes.now }
+    ensures there { max place.now.at scan_at - file.entry.from ≤ length file.entry.bytes.now → result ≡ max place.now.at scan_at - file.entry.from }
 {
-    offset_in(file, place.at.max(scan_at))
+    let at = place.at.max(scan_at).saturating_sub(file.from);
+    offset_in(file.bytes, at)
 }
 
 /// Returns how far a window that begins at an offset may reach: twice as far if it began there before.
@@ -142,7 +146,7 @@ impl<'a> ScanCursor<'a> {
         ensures cursor { IfOk result (IsCursor head.now) }
         ensures file { IfOk result (λ c. c.file ≡ file.entry) }
         ensures at { IfOk result (λ c. mcus_before_place head.now c.interval c.mcu ≡ place.now.row * mcus_across head.now) }
-        ensures stands { (whole : List ℕ) (t : ScanValue) → MayBe file.entry.bytes.now file.entry.are_all head.now whole t → IsPlaceIn file.entry.bytes.now whole t place.now → IfOk result (IsCursorIn whole t) }
+        ensures stands { (whole : List ℕ) (t : ScanValue) → MayBe (part_of file.entry) head.now whole t → IsPlaceIn (part_of file.entry) whole t place.now → IfOk result (IsCursorIn whole t) }
     {
         let mut cursor = ScanCursor {
             file,
@@ -160,12 +164,12 @@ impl<'a> ScanCursor<'a> {
             mcu: place.mcu,
             reading: reading_of(place.state),
         };
-        let at = offset_of(place, head.scan_at(), file.bytes);
+        let at = offset_of(place, head.scan_at(), file);
         cursor.go_to(at, u64::from(place.bit));
         Ok(cursor)
     }
 
-    /// Fills the window starting at an offset of the file, where `bit` bits of the first byte of data are taken.
+    /// Fills the window starting at an offset of the file's bytes, where `bit` bits of the first byte of data are taken.
     fn go_to(&mut self, at: usize, bit: u64)
         requires room { length self.old.room.items ≡ WINDOW }
         requires in_range { All IsInDcRange self.old.place.predictions }
@@ -190,7 +194,7 @@ impl<'a> ScanCursor<'a> {
         self.place.bit = bit.min(8 * part.found as u64);
     }
 
-    /// Returns the offset in the file of a byte of the window's data.
+    /// Returns the offset in the file's bytes of a byte of the window's data.
     fn offset(&self, byte: usize) -> usize
         requires window { HasWindow self.now }
         requires byte { byte ≤ self.now.found - self.now.from }
@@ -219,11 +223,11 @@ impl<'a> ScanCursor<'a> {
         ensures row { result.row ≡ row }
         ensures interval { result.interval ≡ self.old.interval }
         ensures mcu { result.mcu ≡ self.old.mcu }
-        ensures place { (h : HeadValue) (whole : List ℕ) (t : ScanValue) → MayBe self.old.file.bytes.now self.old.file.are_all h whole t → IsCursorIn whole t self.old → IsPlaceIn self.old.file.bytes.now whole t result }
+        ensures place { (h : HeadValue) (whole : List ℕ) (t : ScanValue) → MayBe (part_of self.old.file) h whole t → IsCursorIn whole t self.old → IsPlaceIn (part_of self.old.file) whole t result }
     {
         self.trim();
         RowPlace {
-            at: self.at as u64,
+            at: self.file.from.saturating_add(self.at as u64),
             bit: self.place.bit as u32,
             row,
             interval: self.interval,
@@ -275,7 +279,7 @@ impl<'a> ScanCursor<'a> {
         self.place = place;
     }
 
-    /// Returns the offset in the file after the interval's data.
+    /// Returns the offset in the file's bytes after the interval's data.
     fn end_of_data(&self) -> usize
         requires { HasWindow self.now }
         ensures within { result ≤ length self.now.file.bytes.now }
@@ -285,7 +289,7 @@ impl<'a> ScanCursor<'a> {
         self.at + segment_length(&self.file.bytes[self.at..])
     }
 
-    /// Moves to an offset of the file after the interval's data.
+    /// Moves to an offset of the file's bytes after the interval's data.
     fn leave(&mut self, at: usize, reading: Reading)
         requires window { HasWindow self.old }
         requires at { at ≤ length self.old.file.bytes.now }
@@ -355,7 +359,7 @@ impl<'a> ScanCursor<'a> {
         true
     }
 
-    /// Returns what follows the interval's data, which end there.
+    /// Returns what follows the interval's data, which end there; its offset is that in the file's bytes.
     fn stop_behind(&self, head: &Head, end: usize) -> Stop
         requires number { self.now.interval < intervals_of head.now }
         requires within { end ≤ length self.now.file.bytes.now }

@@ -41,6 +41,8 @@ pub use laws::{
 };
 pub use partial_file::PartialFile;
 pub use place::{RowPlace, stands_at};
-pub use place_laws::{no_mcu_in_long_data, place_stays, run_behind, split_segment, top_is_place};
+pub use place_laws::{
+    no_mcu_in_long_data, place_in_part, place_stays, run_behind, split_segment, top_is_place,
+};
 pub use rows::{decode_rows, lines_before, lines_between, rows_with_room, skip_rows};
 pub use same_lines::lines_are_one;

@@ -1,6 +1,6 @@
 //! What holds of MCUs that are read from a part of their interval's data.
 
-ghost use Rattle.std.specs.Prelude.{◌≡◌, ◌≤◌, ◌+◌, ◌*◌, ◌++◌, ◌∷◌, ℕ, ℤ, List, [], length};
+ghost use Rattle.std.specs.Prelude.{Bool, ◌≡◌, ◌≤◌, ◌+◌, ◌*◌, ◌++◌, ◌∷◌, ℕ, ℤ, List, [], length};
 ghost use Rattle.jr_cut.specs.Cut.{CutFrom, IsRaw, IsStop};
 ghost use Rattle.jr_cut.specs.declared.scan_end.ScanEnd.{ScanEnd};
 ghost use Rattle.jr_head.specs.Geometry.{order_of};
@@ -10,7 +10,9 @@ ghost use Rattle.jr_scan.specs.declared.place.RunEnd.{RunEnd};
 ghost use Rattle.jr_scan.specs.ScanValue.{ScanValue, IsScanOf};
 ghost use Rattle.jr_arrival.specs.More.{with_more};
 ghost use Rattle.jr_arrival.specs.declared.place.RowPlace.{RowPlace};
-ghost use Rattle.jr_arrival.specs.Meaning.{IsPlaceIn, behind, top, with_before};
+ghost use Rattle.jr_head.specs.HeadValue.{HeadValue};
+ghost use Rattle.jr_arrival.specs.Meaning.{IsPlaceIn, MayBe, behind, offset_in, top, with_before};
+ghost use Rattle.jr_arrival.specs.Parts.{Part, part_at};
 
 use jr_scan::Place;
 
@@ -34,12 +36,20 @@ pub fn split_segment()
         → (rest : List ℕ) × (others : List (List ℕ)) × (datas ≡ (found ++ rest) ∷ others) × CutFrom n k (at + length raw) tail (rest ∷ others) end × (IsStop tail → rest ≡ []) }
 {}
 
-/// The top is a place of every file whose scan header has come.
+/// States that the top is a position of every file, in a part of it that begins within the header, or right after it, and
+/// ends after it.
 pub fn top_is_place()
-    ensures { (bytes whole : List ℕ) (t : ScanValue) → IsScanOf whole t → t.head.scan_at ≤ length bytes → IsPlaceIn bytes whole t top }
+    ensures { (x : Part) (whole : List ℕ) (t : ScanValue) → IsScanOf whole t → x.from ≤ t.head.scan_at → t.head.scan_at ≤ x.from + length x.bytes → IsPlaceIn x whole t top }
 {}
 
-/// A place that some bytes have come to is one that more bytes have come to.
+/// States that a position that some bytes have come to is one that more bytes have come to.
 pub fn place_stays()
-    ensures { (bytes more whole : List ℕ) (t : ScanValue) (p : RowPlace) → IsPlaceIn bytes whole t p → IsPlaceIn (bytes ++ more) whole t p }
+    ensures { (x : Part) (more : List ℕ) (all : Bool) (whole : List ℕ) (t : ScanValue) (p : RowPlace) → IsPlaceIn x whole t p
+        → IsPlaceIn (part_at x.from (x.bytes ++ more) all) whole t p }
+{}
+
+/// States that a position in a part of a file is one in each part that begins at or before it and ends no earlier.
+pub fn place_in_part()
+    ensures { (x y : Part) (h : HeadValue) (whole : List ℕ) (t : ScanValue) (p : RowPlace) → MayBe x h whole t → MayBe y h whole t → y.from ≤ offset_in t.head p → x.from + length x.bytes ≤ y.from + length y.bytes
+        → IsPlaceIn x whole t p → IsPlaceIn y whole t p }
 {}

@@ -8,6 +8,7 @@ ghost use Rattle.jr_arrival.specs.declared.cursor.Reading.TheVariants.{GoesOn};
 ghost use Rattle.jr_arrival.specs.Cursors.{IsCursor, NoneFollows, IsCursorIn, LeavesRow, StaysTrue, Waits, in_window};
 ghost use Rattle.jr_scan.specs.ScanValue.{ScanValue};
 ghost use Rattle.jr_arrival.specs.Meaning.{MayBe};
+ghost use Rattle.jr_arrival.specs.Parts.{part_of};
 ghost use Rattle.jr_arrival.specs.Shown.{ShowsRow, Walks};
 ghost use Rattle.jr_scan.specs.Run.{HasNoMcu};
 
@@ -119,7 +120,7 @@ pub(crate) fn walk_row<S: McuSink>(
     ensures cursor { IsCursor head.now cursor.new }
     ensures file { cursor.new.file ≡ cursor.old.file }
     ensures stands { StaysTrue head.now cursor.old cursor.new }
-    ensures shows { IsTrue S.keeps → result ≡ true → (whole : List ℕ) (t : ScanValue) → MayBe cursor.old.file.bytes.now cursor.old.file.are_all head.now whole t → IsCursorIn whole t cursor.old → ShowsRow t row (S.groups sink.new) }
+    ensures shows { IsTrue S.keeps → result ≡ true → (whole : List ℕ) (t : ScanValue) → MayBe (part_of cursor.old.file) head.now whole t → IsCursorIn whole t cursor.old → ShowsRow t row (S.groups sink.new) }
     ensures whole { result ≡ true → mcus_before_place head.now cursor.new.interval cursor.new.mcu ≡ (row + 1) * mcus_across head.now }
     ensures all { cursor.old.file.are_all ≡ true → result ≡ true }
     ensures waits { result ≡ false → LeavesRow head.now cursor.old row }

@@ -9,6 +9,7 @@ ghost use Rattle.jr_arrival.specs.Shown.{AreLines, LeavesRowAt, ShowsRow};
 ghost use Rattle.jr_rows.specs.Rows.{HasSampleRoom, line_count};
 ghost use Rattle.jr_scan.specs.ScanValue.{ScanValue};
 ghost use Rattle.jr_arrival.specs.Meaning.{IsPlaceIn, MayBe};
+ghost use Rattle.jr_arrival.specs.Parts.{part_of};
 ghost use Rattle.jr_arrival.specs.Places.{IsPlaceOf, lines_above, lines_between, rows_to_give, rows_with_room};
 
 use crate::cursor::ScanCursor;
@@ -121,10 +122,10 @@ pub fn decode_rows(
     ensures on { IfOk result (λ p. place.now.row ≤ p.row) }
     ensures few { IfOk result (λ p. p.row ≤ place.now.row + rows_to_give head.now place.now.row rows (length pixels.old)) }
     ensures all { file.entry.are_all ≡ true → IfOk result (λ p. p.row ≡ place.now.row + rows_to_give head.now place.now.row rows (length pixels.old)) }
-    ensures most { IfOk result (λ p. p.row < place.now.row + rows_to_give head.now place.now.row rows (length pixels.old) → LeavesRowAt file.entry.bytes.now file.entry.are_all head.now place.now p.row) }
+    ensures most { IfOk result (λ p. p.row < place.now.row + rows_to_give head.now place.now.row rows (length pixels.old) → LeavesRowAt (part_of file.entry) head.now place.now p.row) }
     ensures none { IfOk result (λ p. p.row ≡ place.now.row → p ≡ place.now) }
-    ensures place { (whole : List ℕ) (t : ScanValue) → MayBe file.entry.bytes.now file.entry.are_all head.now whole t → IsPlaceIn file.entry.bytes.now whole t place.now → IfOk result (IsPlaceIn file.entry.bytes.now whole t) }
-    ensures lines { IfOk result (λ p. AreLines file.entry.bytes.now file.entry.are_all head.now place.now (lines_above head.now place.now.row) (lines_between head.now place.now.row p.row)
+    ensures place { (whole : List ℕ) (t : ScanValue) → MayBe (part_of file.entry) head.now whole t → IsPlaceIn (part_of file.entry) whole t place.now → IfOk result (IsPlaceIn (part_of file.entry) whole t) }
+    ensures lines { IfOk result (λ p. AreLines (part_of file.entry) head.now place.now (lines_above head.now place.now.row) (lines_between head.now place.now.row p.row)
         (take (lines_between head.now place.now.row p.row * line_size head.now) pixels.new)) }
     ensures kept { IfOk result (λ p. drop (lines_between head.now place.now.row p.row * line_size head.now) pixels.new ≡ drop (lines_between head.now place.now.row p.row * line_size head.now) pixels.old) }
     ensures long { length pixels.new ≡ length pixels.old }
@@ -161,9 +162,9 @@ pub fn skip_rows(
     ensures on { IfOk result (λ p. place.now.row ≤ p.row) }
     ensures few { IfOk result (λ p. p.row ≤ place.now.row + min rows (mcus_down head.now - place.now.row)) }
     ensures all { file.entry.are_all ≡ true → IfOk result (λ p. p.row ≡ place.now.row + min rows (mcus_down head.now - place.now.row)) }
-    ensures most { IfOk result (λ p. p.row < place.now.row + min rows (mcus_down head.now - place.now.row) → LeavesRowAt file.entry.bytes.now file.entry.are_all head.now place.now p.row) }
+    ensures most { IfOk result (λ p. p.row < place.now.row + min rows (mcus_down head.now - place.now.row) → LeavesRowAt (part_of file.entry) head.now place.now p.row) }
     ensures none { IfOk result (λ p. p.row ≡ place.now.row → p ≡ place.now) }
-    ensures place { (whole : List ℕ) (t : ScanValue) → MayBe file.entry.bytes.now file.entry.are_all head.now whole t → IsPlaceIn file.entry.bytes.now whole t place.now → IfOk result (IsPlaceIn file.entry.bytes.now whole t) }
+    ensures place { (whole : List ℕ) (t : ScanValue) → MayBe (part_of file.entry) head.now whole t → IsPlaceIn (part_of file.entry) whole t place.now → IfOk result (IsPlaceIn (part_of file.entry) whole t) }
 {
     let mut cursor = ScanCursor::open(alloc, head, file, place)?;
     let shape = shape_of(head);

@@ -3,7 +3,7 @@
 //! No call starts a thread, waits, or keeps anything: calls on different buffers may run at once.
 #![tactic(auto)]
 
-ghost use Rattle.std.specs.Prelude.{◌≡◌, ◌≢◌, ◌<◌, ◌≤◌, ℕ, List, length, drop, false};
+ghost use Rattle.std.specs.Prelude.{◌≡◌, ◌≢◌, ◌<◌, ◌≤◌, ◌⊎◌, ℕ, List, length, drop, false};
 ghost use Rattle.jr_arrival.specs.Arrival.{CanBecome};
 ghost use Rattle.jr_arrival.specs.Settled.{WantsMore};
 ghost use Rattle.jri_memory.specs.Canvases.{DecodesCanvas, LacksCanvas, LacksLayoutOf, LacksLinesToLay, LacksRoomToLay, LaysOut};
@@ -12,23 +12,24 @@ ghost use Rattle.jri_memory.specs.Checks.{ChecksFile, LacksMarkRoom};
 ghost use Rattle.jri_memory.specs.Mends.{HasOtherHeader, IsTooLongMend, LackCopies, LacksMendRoom, MendsFiles, TellsCopyFault, TellsNoMend, files_of};
 ghost use Rattle.jri_memory.specs.Resyncs.{IsTooLongFile, IsTooLongRead, LacksResyncRoom, OfRead, ResyncsFile, TellsNoResync};
 ghost use Rattle.jri_memory.specs.Calls.{DecodesFile, DecodesLines, TellsFault, IsHeaderOf, IsNumberOfSome, LacksLines, LacksRoom, LacksRoomForLines, TellsNoHeader, TellsNoPicture, TellsNoRefusal};
-ghost use Rattle.jri_memory.specs.Rows.{GivesRows, LacksRoomForRow, LacksRows, SkipsRows, TellsPartialFault, TellsNoRows, TellsNothing, are_all};
+ghost use Rattle.jri_memory.specs.Rows.{GivesRows, LacksRoomForRow, LacksRows, LiesInside, LiesOutside, SkipsRows, TellsPartialFault, TellsNoRows, TellsNothing, are_all, file_part, window_part};
 
 use jri_memory::{
-    Break, CanvasShape, ChoiceEntry, Damage, DamageReport, DecodeReport, Header, MendReport,
-    ResyncReport, RowPlace, RowsReport, build_text, check_marks, decode_canvas, decode_file,
-    decode_file_rows, decode_lines, end_text, lay_out, list_damages, mend_files, read_header,
-    refusal_text, resynchronise_file, skip_file_rows,
+    Break, CanvasShape, ChoiceEntry, Damage, DamageReport, DecodeReport, FileBytes, Header,
+    MendReport, ResyncReport, RowPlace, RowsReport, build_text, check_marks, decode_canvas,
+    decode_file, decode_file_rows, decode_lines, decode_window_rows, end_text, lay_out,
+    list_damages, mend_files, read_header, refusal_text, resynchronise_file, skip_file_rows,
+    skip_window_rows,
 };
 use std::alloc::Global;
 
 /// The number of these calls: it is changed where one of them is.
-const VERSION: u32 = 7;
+const VERSION: u32 = 8;
 
 /// The number of these calls.
 #[unsafe(no_mangle)]
 pub extern "C" fn jri_version() -> u32
-    ensures { result ≡ 7 }
+    ensures { result ≡ 8 }
 {
     VERSION
 }
@@ -172,7 +173,7 @@ pub extern "C" fn jri_decode_rows(
     pixels: &mut [u8],
     report: &mut RowsReport,
 ) -> u32
-    ensures given { result ≡ 0 → GivesRows file.now (are_all more) rows place.old place.new pixels.old pixels.new report.new }
+    ensures given { result ≡ 0 → GivesRows file.now (file_part file.now more) rows place.old place.new pixels.old pixels.new report.new }
     ensures refused { result ≡ 2 → TellsPartialFault file.now (are_all more) report.new }
     ensures memory { result ≡ 1 → report.new.refusal ≡ 19 }
     ensures room { result ≡ 4 → LacksRoomForRow file.now place.old (length pixels.old) }
@@ -201,7 +202,7 @@ pub extern "C" fn jri_skip_rows(
     rows: u32,
     report: &mut RowsReport,
 ) -> u32
-    ensures skipped { result ≡ 0 → SkipsRows file.now (are_all more) rows place.old place.new report.new }
+    ensures skipped { result ≡ 0 → SkipsRows file.now (file_part file.now more) rows place.old place.new report.new }
     ensures refused { result ≡ 2 → TellsPartialFault file.now (are_all more) report.new }
     ensures memory { result ≡ 1 → report.new.refusal ≡ 19 }
     ensures rows { result ≡ 5 → LacksRows file.now place.old rows }
@@ -213,6 +214,81 @@ pub extern "C" fn jri_skip_rows(
     ensures few { result ≤ 5 }
 {
     skip_file_rows(alloc, file, more, place, rows, report)
+}
+
+/// Decodes rows as `jri_decode_rows` does, from some bytes of the file: those that have its header, and a window that
+/// begins at offset `window_at` and has the position. Returns 11, and reads nothing, if the position is before the
+/// window's first byte or after its end; then pixels and position are unchanged.
+#[unsafe(no_mangle)]
+pub extern "C" fn jri_decode_window(
+    alloc: Global,
+    header: &[u8],
+    window: &[u8],
+    window_at: u64,
+    more: u32,
+    place: &mut RowPlace,
+    rows: u32,
+    pixels: &mut [u8],
+    report: &mut RowsReport,
+) -> u32
+    ensures given { result ≡ 0 → GivesRows header.now (window_part window_at window.now more) rows place.old place.new pixels.old pixels.new report.new }
+    ensures refused { result ≡ 2 → TellsPartialFault header.now (are_all more) report.new }
+    ensures memory { result ≡ 1 → report.new.refusal ≡ 19 }
+    ensures room { result ≡ 4 → LacksRoomForRow header.now place.old (length pixels.old) }
+    ensures room_alone { result ≡ 4 → TellsNothing report.new }
+    ensures rows { result ≡ 5 → LacksRows header.now place.old rows }
+    ensures rows_alone { result ≡ 5 → TellsNothing report.new }
+    ensures inside { result ≡ 0 → WantsMore header.now ⊎ LiesInside header.now (window_part window_at window.now more) place.old rows }
+    ensures outside { result ≡ 11 → LiesOutside header.now (window_part window_at window.now more) place.old rows }
+    ensures outside_alone { result ≡ 11 → TellsNothing report.new }
+    ensures no_rows { result ≢ 0 → TellsNoRows report.new }
+    ensures pixels { result ≢ 0 → pixels.new ≡ pixels.old }
+    ensures place { result ≢ 0 → place.new ≡ place.old }
+    ensures undamaged { result ≢ 3 }
+    ensures few { result ≢ 11 → result ≤ 5 }
+{
+    let part = FileBytes {
+        from: window_at,
+        bytes: window,
+        are_all: more == 0,
+    };
+    decode_window_rows(alloc, header, part, place, rows, pixels, report)
+}
+
+/// Skips rows as `jri_skip_rows` does, from some bytes of the file: those that have its header, and a window that
+/// begins at offset `window_at` and has the position. Returns 11, and reads nothing, if the position is before the
+/// window's first byte or after its end; then the position is unchanged.
+#[unsafe(no_mangle)]
+pub extern "C" fn jri_skip_window(
+    alloc: Global,
+    header: &[u8],
+    window: &[u8],
+    window_at: u64,
+    more: u32,
+    place: &mut RowPlace,
+    rows: u32,
+    report: &mut RowsReport,
+) -> u32
+    ensures skipped { result ≡ 0 → SkipsRows header.now (window_part window_at window.now more) rows place.old place.new report.new }
+    ensures refused { result ≡ 2 → TellsPartialFault header.now (are_all more) report.new }
+    ensures memory { result ≡ 1 → report.new.refusal ≡ 19 }
+    ensures rows { result ≡ 5 → LacksRows header.now place.old rows }
+    ensures rows_alone { result ≡ 5 → TellsNothing report.new }
+    ensures inside { result ≡ 0 → WantsMore header.now ⊎ LiesInside header.now (window_part window_at window.now more) place.old rows }
+    ensures outside { result ≡ 11 → LiesOutside header.now (window_part window_at window.now more) place.old rows }
+    ensures outside_alone { result ≡ 11 → TellsNothing report.new }
+    ensures no_room { result ≢ 4 }
+    ensures no_rows { result ≢ 0 → TellsNoRows report.new }
+    ensures place { result ≢ 0 → place.new ≡ place.old }
+    ensures undamaged { result ≢ 3 }
+    ensures few { result ≢ 11 → result ≤ 5 }
+{
+    let part = FileBytes {
+        from: window_at,
+        bytes: window,
+        are_all: more == 0,
+    };
+    skip_window_rows(alloc, header, part, place, rows, report)
 }
 
 /// Lists the damaged intervals of a file starting at interval `first`, whose bytes begin at offset `first_at`, in their

@@ -4,4 +4,5 @@ pub mod Headers
 pub mod Listing
 pub mod Marks
 pub mod Mending
+pub mod OnResults
 pub mod ReadAs

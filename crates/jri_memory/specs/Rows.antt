@@ -10,18 +10,27 @@ use Rattle.jr_paint.specs.Lines.{line_size}
 use Rattle.jr_arrival.specs.Arrival.{IsFinalFault}
 use Rattle.jr_arrival.specs.Settled.{WantsMore}
 use Rattle.jr_scan.specs.ScanValue.{ScanValue}
-use Rattle.jr_arrival.specs.Meaning.{IsPlaceIn, MayBe}
+use Rattle.jr_arrival.specs.Meaning.{IsPlaceIn, MayBe, offset_in}
+use Rattle.jr_arrival.specs.Parts.{Part, part_at}
 use Rattle.jr_arrival.specs.Shown.{AreLines, LeavesRowAt}
 use Rattle.jr_arrival.specs.declared.place.RowPlace.{RowPlace}
 use Rattle.jr_arrival.specs.Places.{IsPlaceOf, lines_above, lines_between, rows_to_give, rows_with_room}
 use Rattle.jri_memory.specs.Calls.{detail_of}
 use Rattle.jri_memory.specs.declared.places.PlaceError.{PlaceError}
-use Rattle.jri_memory.specs.declared.places.PlaceError.TheVariants.{Refused, NoRows, NoRoom}
+use Rattle.jri_memory.specs.declared.places.PlaceError.TheVariants.{Refused, NoRows, NoRoom, NotInWindow}
 use Rattle.jri_memory.specs.declared.rows_report.RowsReport.{RowsReport}
 
 -- whether bytes are all of their file, by the number that a caller passes
 abbrev pub are_all : ℕ → Bool
 are_all more = more == 0
+
+-- the first bytes of a file
+abbrev pub file_part : (bytes : List ℕ) (more : ℕ) → Part
+file_part bytes more = part_at 0 bytes (are_all more)
+
+-- bytes of a file starting at an offset
+abbrev pub window_part : (from : ℕ) (bytes : List ℕ) (more : ℕ) → Part
+window_part from bytes more = part_at from bytes (are_all more)
 
 -- a report of no rows
 pub record TellsNoRows (r : RowsReport) : Type 0 where
@@ -53,51 +62,53 @@ pub record HasRowAt (h : HeadValue) (p : RowPlace) (rows : ℕ) : Type 0 where
   pub row : p.row < mcus_down h
   pub some : 0 < rows
 
--- the position has moved by rows of MCUs, at most by `most`: by `most` if all bytes are there, otherwise to the first row that the bytes
--- do not make final. If it was one of a file that the bytes may be, it still is. The report has the numbers of the rows and of their lines
-pub record MovesOn (bytes : List ℕ) (all : Bool) (most : ℕ) (old new : RowPlace) (h : HeadValue) (r : RowsReport) : Type 0 where
-  pub head : HeadOf bytes h
+-- the position has moved by rows of MCUs, at most by `most`: by `most` if the file ends with the part, otherwise to the first row that
+-- the part does not make final. If it was one of a file that may have this part, it still is. The report has the numbers of the rows and
+-- of their lines
+pub record MovesOn (header : List ℕ) (x : Part) (most : ℕ) (old new : RowPlace) (h : HeadValue) (r : RowsReport) : Type 0 where
+  pub head : HeadOf header h
   pub from : IsPlaceOf h old
   pub to : IsPlaceOf h new
   pub row : new.row ≡ old.row + r.rows
   pub few : r.rows ≤ most
-  pub whole : all ≡ true → r.rows ≡ most
-  pub next : r.rows < most → LeavesRowAt bytes all h old new.row
+  pub whole : x.are_all ≡ true → r.rows ≡ most
+  pub next : r.rows < most → LeavesRowAt x h old new.row
   pub none : r.rows ≡ 0 → new ≡ old
-  pub place : (whole : List ℕ) (t : ScanValue) → MayBe bytes all h whole t → IsPlaceIn bytes whole t old → IsPlaceIn bytes whole t new
+  pub place : (whole : List ℕ) (t : ScanValue) → MayBe x h whole t → IsPlaceIn x whole t old → IsPlaceIn x whole t new
   pub lines : r.lines ≡ lines_between h old.row new.row
   pub first : r.first_line ≡ lines_above h old.row
   pub refusal : r.refusal ≡ 0
   pub detail : r.detail ≡ 0
 
 -- more bytes may come and are wanted for a header: no row is returned, and the position is unchanged
-pub record AwaitsHead (bytes : List ℕ) (all : Bool) (old new : RowPlace) (r : RowsReport) : Type 0 where
-  pub more : all ≡ false
-  pub wanted : WantsMore bytes
+pub record AwaitsHead (header : List ℕ) (x : Part) (old new : RowPlace) (r : RowsReport) : Type 0 where
+  pub more : x.are_all ≡ false
+  pub wanted : WantsMore header
   pub place : new ≡ old
   pub told : TellsNothing r
 
--- rows are decoded, as many as were asked for and fit into the pixels: their lines are those of the image of each file that the
--- bytes may be and of which the position was one; what follows their lines is unchanged
-pub record DecodesRows (bytes : List ℕ) (all : Bool) (rows : ℕ) (old new : RowPlace) (old_pixels pixels : List ℕ) (r : RowsReport) : Type 0 where
+-- rows are decoded, as many as were asked for and fit into the pixels: their lines are those of the image of each file that may have
+-- this part and of which the position was one; what follows their lines is unchanged
+pub record DecodesRows (header : List ℕ) (x : Part) (rows : ℕ) (old new : RowPlace) (old_pixels pixels : List ℕ) (r : RowsReport) : Type 0 where
   pub h : HeadValue
   pub there : HasRowAt h old rows
-  pub moves : MovesOn bytes all (rows_to_give h old.row rows (length old_pixels)) old new h r
-  pub are : AreLines bytes all h old (lines_above h old.row) r.lines (take (r.lines * line_size h) pixels)
+  pub moves : MovesOn header x (rows_to_give h old.row rows (length old_pixels)) old new h r
+  pub are : AreLines x h old (lines_above h old.row) r.lines (take (r.lines * line_size h) pixels)
   pub long : length pixels ≡ length old_pixels
   pub behind : drop (r.lines * line_size h) pixels ≡ drop (r.lines * line_size h) old_pixels
 
-abbrev pub GivesRows : (bytes : List ℕ) (all : Bool) (rows : ℕ) (old new : RowPlace) (old_pixels pixels : List ℕ) → RowsReport → Type 0
-GivesRows bytes all rows old new old_pixels pixels r = (AwaitsHead bytes all old new r × (pixels ≡ old_pixels)) ⊎ DecodesRows bytes all rows old new old_pixels pixels r
+-- of a header's bytes, and a part of the file
+abbrev pub GivesRows : (header : List ℕ) → Part → (rows : ℕ) (old new : RowPlace) (old_pixels pixels : List ℕ) → RowsReport → Type 0
+GivesRows header x rows old new old_pixels pixels r = (AwaitsHead header x old new r × (pixels ≡ old_pixels)) ⊎ DecodesRows header x rows old new old_pixels pixels r
 
 -- rows are skipped, as many as were asked for
-pub record PassesRows (bytes : List ℕ) (all : Bool) (rows : ℕ) (old new : RowPlace) (r : RowsReport) : Type 0 where
+pub record PassesRows (header : List ℕ) (x : Part) (rows : ℕ) (old new : RowPlace) (r : RowsReport) : Type 0 where
   pub h : HeadValue
   pub there : HasRowAt h old rows
-  pub moves : MovesOn bytes all (min rows (mcus_down h - old.row)) old new h r
+  pub moves : MovesOn header x (min rows (mcus_down h - old.row)) old new h r
 
-abbrev pub SkipsRows : (bytes : List ℕ) (all : Bool) (rows : ℕ) (old new : RowPlace) → RowsReport → Type 0
-SkipsRows bytes all rows old new r = AwaitsHead bytes all old new r ⊎ PassesRows bytes all rows old new r
+abbrev pub SkipsRows : (header : List ℕ) → Part → (rows : ℕ) (old new : RowPlace) → RowsReport → Type 0
+SkipsRows header x rows old new r = AwaitsHead header x old new r ⊎ PassesRows header x rows old new r
 
 -- the bytes' picture has no row of MCUs at the place, or none is asked for
 pub record LacksRows (bytes : List ℕ) (p : RowPlace) (rows : ℕ) : Type 0 where
@@ -112,11 +123,31 @@ pub record LacksRoomForRow (bytes : List ℕ) (p : RowPlace) (room : ℕ) : Type
   pub row : p.row < mcus_down h
   pub less : rows_with_room h p.row room ≡ 0
 
+-- the position is at a byte of the part, or after its last one
+pub record IsInPart (x : Part) (h : HeadValue) (p : RowPlace) : Type 0 where
+  pub from : x.from ≤ offset_in h p
+  pub to : offset_in h p ≤ x.from + length x.bytes
+
+-- the image of this header has a row of MCUs at the position, which is at such a byte
+pub record LiesInside (header : List ℕ) (x : Part) (p : RowPlace) (rows : ℕ) : Type 0 where
+  pub h : HeadValue
+  pub is : HeadOf header h
+  pub there : HasRowAt h p rows
+  pub within : IsInPart x h p
+
+-- or at no such byte
+pub record LiesOutside (header : List ℕ) (x : Part) (p : RowPlace) (rows : ℕ) : Type 0 where
+  pub h : HeadValue
+  pub is : HeadOf header h
+  pub there : HasRowAt h p rows
+  pub out : IsInPart x h p → ⊥
+
 -- why a place is not moved
-abbrev pub IsWhy : (bytes : List ℕ) (all : Bool) (p : RowPlace) (rows room : ℕ) → PlaceError → Type 0
-IsWhy bytes all p rows room (Refused fault) = fault ≢ Memory → IsPartialFault bytes all fault
-IsWhy bytes all p rows room NoRows = LacksRows bytes p rows
-IsWhy bytes all p rows room NoRoom = LacksRoomForRow bytes p room
+abbrev pub IsWhy : (header : List ℕ) → Part → (p : RowPlace) (rows room : ℕ) → PlaceError → Type 0
+IsWhy header x p rows room (Refused fault) = fault ≢ Memory → IsPartialFault header x.are_all fault
+IsWhy header x p rows room NoRows = LacksRows header p rows
+IsWhy header x p rows room NoRoom = LacksRoomForRow header p room
+IsWhy header x p rows room NotInWindow = LiesOutside header x p rows
 
 -- it is not moved since the bytes are refused, and the report says so
 pub record IsRefusedPlace (unmoved : PlaceError) (r : RowsReport) : Type 0 where

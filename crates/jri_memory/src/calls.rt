@@ -35,6 +35,7 @@ pub fn read_header(alloc: Global, file: &[u8], more: u32, header: &mut Header) -
     ensures few { result ≢ 7 → result ≤ 2 }
 {
     let bytes = FileBytes {
+        from: 0,
         bytes: file,
         are_all: more == 0,
     };

@@ -1,12 +1,16 @@
 //! The calls that continue from a position: rows of MCUs that are decoded, or skipped.
 
-ghost use Rattle.std.specs.Prelude.{◌≡◌, ◌≢◌, ◌≤◌, length};
-ghost use Rattle.jri_memory.specs.Rows.{GivesRows, IsRefusedPlace, LacksRoomForRow, LacksRows, SkipsRows, TellsPartialFault, TellsNoRows, TellsNothing, are_all};
+ghost use Rattle.std.specs.Prelude.{◌≡◌, ◌≢◌, ◌≤◌, ◌⊎◌, length};
+ghost use Rattle.jr_arrival.specs.Settled.{WantsMore};
+ghost use Rattle.jr_arrival.specs.Parts.{part_of};
+ghost use Rattle.jri_memory.specs.Rows.{GivesRows, IsRefusedPlace, LacksRoomForRow, LacksRows, LiesInside, LiesOutside, SkipsRows, TellsPartialFault, TellsNoRows, TellsNothing, are_all, file_part};
 
 use crate::answers::status_of;
-use crate::places::{PlaceError, decode_from, skip_from};
+use crate::places::{
+    PlaceError, RowSource, decode_from, decode_in_window, skip_from, skip_in_window,
+};
 use crate::rows_report::RowsReport;
-use crate::status::{BUFFER_TOO_SMALL, NO_LINES, OK};
+use crate::status::{BUFFER_TOO_SMALL, NO_LINES, NOT_IN_WINDOW, OK};
 use jr_arrival::{FileBytes, RowPlace};
 use std::alloc::Global;
 
@@ -14,13 +18,15 @@ use std::alloc::Global;
 fn tell_why(unmoved: PlaceError, report: &mut RowsReport) -> u32
     ensures undone { result ≢ 0 }
     ensures undamaged { result ≢ 3 }
-    ensures few { result ≤ 5 }
+    ensures few { result ≢ 11 → result ≤ 5 }
     ensures refused { result ≡ 2 → IsRefusedPlace unmoved report.new }
     ensures memory { result ≡ 1 → report.new.refusal ≡ 19 }
     ensures room { result ≡ 4 → unmoved ≡ PlaceError.NoRoom }
     ensures room_alone { result ≡ 4 → TellsNothing report.new }
     ensures rows { result ≡ 5 → unmoved ≡ PlaceError.NoRows }
     ensures rows_alone { result ≡ 5 → TellsNothing report.new }
+    ensures outside { result ≡ 11 → unmoved ≡ PlaceError.NotInWindow }
+    ensures outside_alone { result ≡ 11 → TellsNothing report.new }
     ensures no_rows { TellsNoRows report.new }
 {
     match unmoved {
@@ -35,6 +41,10 @@ fn tell_why(unmoved: PlaceError, report: &mut RowsReport) -> u32
         PlaceError::NoRoom => {
             *report = RowsReport::empty();
             BUFFER_TOO_SMALL
+        }
+        PlaceError::NotInWindow => {
+            *report = RowsReport::empty();
+            NOT_IN_WINDOW
         }
     }
 }
@@ -52,7 +62,7 @@ pub fn decode_file_rows(
     pixels: &mut [u8],
     report: &mut RowsReport,
 ) -> u32
-    ensures given { result ≡ 0 → GivesRows file.now (are_all more) rows place.old place.new pixels.old pixels.new report.new }
+    ensures given { result ≡ 0 → GivesRows file.now (file_part file.now more) rows place.old place.new pixels.old pixels.new report.new }
     ensures refused { result ≡ 2 → TellsPartialFault file.now (are_all more) report.new }
     ensures memory { result ≡ 1 → report.new.refusal ≡ 19 }
     ensures room { result ≡ 4 → LacksRoomForRow file.now place.old (length pixels.old) }
@@ -65,11 +75,15 @@ pub fn decode_file_rows(
     ensures undamaged { result ≢ 3 }
     ensures few { result ≤ 5 }
 {
-    let bytes = FileBytes {
-        bytes: file,
-        are_all: more == 0,
+    let source = RowSource {
+        header: file,
+        window: FileBytes {
+            from: 0,
+            bytes: file,
+            are_all: more == 0,
+        },
     };
-    match decode_from(alloc, bytes, place, rows, pixels) {
+    match decode_from(alloc, source, place, rows, pixels) {
         Ok(decoded) => {
             *report = decoded;
             OK
@@ -90,7 +104,7 @@ pub fn skip_file_rows(
     rows: u32,
     report: &mut RowsReport,
 ) -> u32
-    ensures skipped { result ≡ 0 → SkipsRows file.now (are_all more) rows place.old place.new report.new }
+    ensures skipped { result ≡ 0 → SkipsRows file.now (file_part file.now more) rows place.old place.new report.new }
     ensures refused { result ≡ 2 → TellsPartialFault file.now (are_all more) report.new }
     ensures memory { result ≡ 1 → report.new.refusal ≡ 19 }
     ensures rows { result ≡ 5 → LacksRows file.now place.old rows }
@@ -101,11 +115,86 @@ pub fn skip_file_rows(
     ensures undamaged { result ≢ 3 }
     ensures few { result ≤ 5 }
 {
-    let bytes = FileBytes {
-        bytes: file,
-        are_all: more == 0,
+    let source = RowSource {
+        header: file,
+        window: FileBytes {
+            from: 0,
+            bytes: file,
+            are_all: more == 0,
+        },
     };
-    match skip_from(alloc, bytes, place, rows) {
+    match skip_from(alloc, source, place, rows) {
+        Ok(skipped) => {
+            *report = skipped;
+            OK
+        }
+        Err(unmoved) => tell_why(unmoved, report),
+    }
+}
+
+/// Decodes rows as `decode_file_rows` does, from some bytes of the file: those that have its header, and a window that
+/// has the position. Returns 11, and reads nothing, if the position is before the window's first byte or after its end.
+pub fn decode_window_rows(
+    alloc: Global,
+    header: &[u8],
+    window: FileBytes<'_>,
+    place: &mut RowPlace,
+    rows: u32,
+    pixels: &mut [u8],
+    report: &mut RowsReport,
+) -> u32
+    ensures given { result ≡ 0 → GivesRows header.now (part_of window.entry) rows place.old place.new pixels.old pixels.new report.new }
+    ensures refused { result ≡ 2 → TellsPartialFault header.now window.entry.are_all report.new }
+    ensures memory { result ≡ 1 → report.new.refusal ≡ 19 }
+    ensures room { result ≡ 4 → LacksRoomForRow header.now place.old (length pixels.old) }
+    ensures room_alone { result ≡ 4 → TellsNothing report.new }
+    ensures rows { result ≡ 5 → LacksRows header.now place.old rows }
+    ensures rows_alone { result ≡ 5 → TellsNothing report.new }
+    ensures inside { result ≡ 0 → WantsMore header.now ⊎ LiesInside header.now (part_of window.entry) place.old rows }
+    ensures outside { result ≡ 11 → LiesOutside header.now (part_of window.entry) place.old rows }
+    ensures outside_alone { result ≡ 11 → TellsNothing report.new }
+    ensures no_rows { result ≢ 0 → TellsNoRows report.new }
+    ensures pixels { result ≢ 0 → pixels.new ≡ pixels.old }
+    ensures place { result ≢ 0 → place.new ≡ place.old }
+    ensures undamaged { result ≢ 3 }
+    ensures few { result ≢ 11 → result ≤ 5 }
+{
+    let source = RowSource { header, window };
+    match decode_in_window(alloc, source, place, rows, pixels) {
+        Ok(decoded) => {
+            *report = decoded;
+            OK
+        }
+        Err(unmoved) => tell_why(unmoved, report),
+    }
+}
+
+/// Skips rows as `skip_file_rows` does, from some bytes of the file: those that have its header, and a window that has
+/// the position. Returns 11, and reads nothing, if the position is before the window's first byte or after its end.
+pub fn skip_window_rows(
+    alloc: Global,
+    header: &[u8],
+    window: FileBytes<'_>,
+    place: &mut RowPlace,
+    rows: u32,
+    report: &mut RowsReport,
+) -> u32
+    ensures skipped { result ≡ 0 → SkipsRows header.now (part_of window.entry) rows place.old place.new report.new }
+    ensures refused { result ≡ 2 → TellsPartialFault header.now window.entry.are_all report.new }
+    ensures memory { result ≡ 1 → report.new.refusal ≡ 19 }
+    ensures rows { result ≡ 5 → LacksRows header.now place.old rows }
+    ensures rows_alone { result ≡ 5 → TellsNothing report.new }
+    ensures inside { result ≡ 0 → WantsMore header.now ⊎ LiesInside header.now (part_of window.entry) place.old rows }
+    ensures outside { result ≡ 11 → LiesOutside header.now (part_of window.entry) place.old rows }
+    ensures outside_alone { result ≡ 11 → TellsNothing report.new }
+    ensures no_room { result ≢ 4 }
+    ensures no_rows { result ≢ 0 → TellsNoRows report.new }
+    ensures place { result ≢ 0 → place.new ≡ place.old }
+    ensures undamaged { result ≢ 3 }
+    ensures few { result ≢ 11 → result ≤ 5 }
+{
+    let source = RowSource { header, window };
+    match skip_in_window(alloc, source, place, rows) {
         Ok(skipped) => {
             *report = skipped;
             OK

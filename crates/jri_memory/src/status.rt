@@ -35,3 +35,6 @@ pub const NO_COPIES: u32 = 9;
 
 /// A copy has another header than the first.
 pub const OTHER_HEADER: u32 = 10;
+
+/// The position is before the first byte of the window, or after its end.
+pub const NOT_IN_WINDOW: u32 = 11;

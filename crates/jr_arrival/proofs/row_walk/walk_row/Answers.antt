@@ -3,6 +3,7 @@ use Rattle.jr_head.specs.Geometry.{mcus_across}
 use Rattle.jr_rows.specs.Groups.{units_in}
 use Rattle.jr_arrival.specs.declared.file_bytes.FileBytes.{FileBytes}
 use Rattle.jr_arrival.specs.Meaning.{MayBe}
+use Rattle.jr_arrival.specs.Parts.{part_of}
 use Rattle.jr_arrival.proofs.ShownSteps.{row_shown}
 use Rattle.jr_arrival.proofs.Steps.{true_on}
 use Rattle.jr_arrival.proofs.Waiting.{row_waits}
@@ -26,7 +27,7 @@ mcus-preserved g c =
       stands = true_on h c.args.cursor.now c.mcus.cursor c.walk_some-some.new.cursor k.file k.stands e.walks.stands;
       room = e.room;
       shows = λ keep whole t may s.
-          let here : MayBe c.mcus.cursor.file.bytes.now c.mcus.cursor.file.are_all h whole t = subst (λ (f : FileBytes). MayBe f.bytes.now f.are_all h whole t) (sym k.file) may in
+          let here : MayBe (part_of c.mcus.cursor.file) h whole t = subst (λ (f : FileBytes). MayBe (part_of f) h whole t) (sym k.file) may in
           e.walks.shows keep (c.args.row * mcus_across h) k.at whole t here (k.stands whole t may s) (k.shows keep whole t may s);
       few = e.walks.few;
       at = omega (arith, e.walks.passes.passed, k.at);

@@ -6,6 +6,7 @@ use Rattle.jr_arrival.specs.Cursors.{IsCursor, IsCursorIn, StaysTrue}
 use Rattle.jr_scan.specs.ScanValue.{ScanValue}
 use Rattle.jr_rows.specs.Groups.{units_in}
 use Rattle.jr_arrival.specs.Meaning.{MayBe}
+use Rattle.jr_arrival.specs.Parts.{part_of}
 use Rattle.jr_arrival.proofs.row_walk.walk_row.Given as goal
 
 abbrev pub invariant-mcus : goal.invariant-mcus
@@ -15,7 +16,7 @@ invariant-mcus g l =
       file : l.cursor.file ≡ l.initial.cursor.file;
       stands : StaysTrue h l.initial.cursor l.cursor;
       room : g.S.McuSink.has_room h l.sink;
-      shows : IsTrue g.S.McuSink.keeps → (whole : List ℕ) (t : ScanValue) → MayBe l.initial.cursor.file.bytes.now l.initial.cursor.file.are_all h whole t → IsCursorIn whole t l.initial.cursor → ShowsFirstUnits t (length t.intervals) (l.row * mcus_across h) l.done (units_in t.head (g.S.McuSink.groups l.sink));
+      shows : IsTrue g.S.McuSink.keeps → (whole : List ℕ) (t : ScanValue) → MayBe (part_of l.initial.cursor.file) h whole t → IsCursorIn whole t l.initial.cursor → ShowsFirstUnits t (length t.intervals) (l.row * mcus_across h) l.done (units_in t.head (g.S.McuSink.groups l.sink));
       few : l.done ≤ mcus_across h;
       at : mcus_before_place h l.cursor.interval l.cursor.mcu ≡ l.row * mcus_across h + l.done;
     }

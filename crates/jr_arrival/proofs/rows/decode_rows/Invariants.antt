@@ -3,6 +3,7 @@ use Rattle.jr_paint.specs.Lines.{line_size}
 use Rattle.jr_rows.specs.Rows.{HasSampleRoom}
 use Rattle.jr_arrival.specs.Places.{lines_above, lines_between}
 use Rattle.jr_arrival.specs.Shown.{AreLines}
+use Rattle.jr_arrival.specs.Parts.{part_of}
 use Rattle.jr_arrival.proofs.BetweenRows.{HasCome}
 use Rattle.jr_arrival.proofs.rows.decode_rows.Given as goal
 
@@ -14,7 +15,7 @@ invariant-rows l =
       room : HasSampleRoom h l.samples;
       few : l.next.row ≤ l.end;
       long : length l.pixels ≡ length l.initial.pixels;
-      lines : AreLines l.file.bytes.now l.file.are_all h l.place (lines_above h l.place.row) (lines_between h l.place.row l.next.row) (take bytes l.pixels);
+      lines : AreLines (part_of l.file) h l.place (lines_above h l.place.row) (lines_between h l.place.row l.next.row) (take bytes l.pixels);
       kept : drop bytes l.pixels ≡ drop bytes l.initial.pixels;
     }
 

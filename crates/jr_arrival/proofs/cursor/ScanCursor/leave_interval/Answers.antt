@@ -49,12 +49,12 @@ returns-in-Restart-clause-follows c told over whole t may s =
     let restart : IsStopOf n i.interval end tail (Restart c.in-Restart.marker) = subst (IsStopOf n i.interval end tail) c.in-Restart.is c.stop_behind.ensures.is in
     let b = restart.1 in
     let few = restart_within i.file.bytes.now end i.interval c.in-Restart.marker o.within b in
-    let at : d.at ≡ end + (b.more + 2) = e.at ∙ ap (λ (k : ℕ). end + k) b.long in
+    let at : d.file.from + d.at ≡ i.file.from + end + (b.more + 2) = omega (arith, e.at, b.long, ap (λ (f : FileBytes). f.from) (e.stays.file ∙ l.stays.file)) in
     let within : end + c.in-Restart.marker ≤ length c.leave.new.self.file.bytes.now = subst (λ (f : FileBytes). end + c.in-Restart.marker ≤ length f.bytes.now) (sym l.stays.file) few in
     let bit : d.place.bit ≡ 0 = e.bit (no_bits c.leave.new.self.file.bytes.now (end + c.in-Restart.marker) within) (omega arith) in
     let starts = b.spelled ∙ ap (λ (k : ℕ). marker b.more (RST0 + i.interval % 8) ++ drop k tail) b.long in
     let next = next_true h i c.requires.window end o.spells.0 o.spells.1 o.spells.2 o.within o.spells.3 whole t may over s b.more restart.0 starts (omega (arith, few, b.long)) start_of_interval refl in
-    stands_by whole t (begun d) (i.interval + 1) 0 (end + (b.more + 2)) GoesOn start_of_interval (ap (λ (k : ℕ). k + 1) (e.stays.interval ∙ l.stays.interval)) refl at (e.reading ∙ l.reading) (place_by (begun d).place 0 no_predictions bit refl) (omega (arith, s.from, o.spells.2)) next
+    stands_by whole t (begun d) (i.interval + 1) 0 (i.file.from + end + (b.more + 2)) GoesOn start_of_interval (ap (λ (k : ℕ). k + 1) (e.stays.interval ∙ l.stays.interval)) refl at (e.reading ∙ l.reading) (place_by (begun d).place 0 no_predictions bit refl) (omega (arith, s.from, o.spells.2)) next
 
 pub returns-else-not-is_final-clause-follows : goal.returns-else-not-is_final-clause-follows
 returns-else-not-is_final-clause-follows c told over whole t may s =
@@ -69,7 +69,8 @@ returns-else-not-is_final-clause-follows c told over whole t may s =
     let ending : IsStopOf n i.interval end tail (End c.in-End.ended) = subst (IsStopOf n i.interval end tail) c.in-End.is c.stop_behind.ensures.is in
     let final = c.is_final.ensures.ends c.if-not-is_final.false may.more may.none in
     let none = ended_true h i c.requires.window end o.spells.0 o.spells.1 o.spells.2 o.within o.spells.3 whole t may over s c.in-End.ended ending final in
-    stands_by whole t (begun d) (i.interval + 1) 0 end HasEnded (begun d).place (ap (λ (k : ℕ). k + 1) l.stays.interval) refl l.at l.reading refl (omega (arith, s.from, o.spells.2)) none
+    let at : d.file.from + d.at ≡ i.file.from + end = omega (arith, l.at, ap (λ (f : FileBytes). f.from) l.stays.file) in
+    stands_by whole t (begun d) (i.interval + 1) 0 (i.file.from + end) HasEnded (begun d).place (ap (λ (k : ℕ). k + 1) l.stays.interval) refl at l.reading refl (omega (arith, s.from, o.spells.2)) none
 
 pub returns-then-not-is_final-clause-waits : goal.returns-then-not-is_final-clause-waits
 returns-then-not-is_final-clause-waits c told =

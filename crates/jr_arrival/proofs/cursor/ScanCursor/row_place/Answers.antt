@@ -1,5 +1,6 @@
-use Rattle.std.proofs.Common.{◌<◌, sym, ap, subst, arith, rules}
+use Rattle.std.proofs.Common.{◌≡◌, ◌+◌, ◌<◌, length, sym, ap, subst, arith, rules}
 use Rattle.jr_arrival.specs.declared.cursor.ScanCursor.{ScanCursor}
+use Rattle.jr_arrival.specs.declared.file_bytes.FileBytes.{FileBytes}
 use Rattle.jr_arrival.specs.Cursors.{HasWindow, IsCursorIn}
 use Rattle.jr_arrival.proofs.Standing.{place_true, trimmed_true}
 use Rattle.jr_arrival.proofs.Windows.{trimmed_window}
@@ -26,4 +27,6 @@ returns-clause-place c h whole t may s =
     let stands = subst (IsCursorIn whole t) (sym is) (trimmed_true h i d.at c.requires c.trim.ensures.at whole t may s) in
     let window = subst HasWindow (sym is) (trimmed_window i c.requires d.at c.trim.ensures.at) in
     let low : d.place.bit < 8 = omega (arith, ap (λ (e : ScanCursor). e.place.bit) is) in
-    place_true whole t d _ i.file (ap (λ (e : ScanCursor). e.file) is) window low stands (search rules) (search rules) (search rules) (search rules) (search rules) (search rules)
+    let file : d.file ≡ i.file = ap (λ (e : ScanCursor). e.file) is in
+    let at : c.saturating_add.result ≡ d.file.from + d.at = search (rules, arith, may.fits, window.at, ap (λ (f : FileBytes). length f.bytes.now) file, ap (λ (f : FileBytes). f.from) file) in
+    place_true whole t d _ i.file file window low stands at (search rules) (search rules) (search rules) (search rules) (search rules)

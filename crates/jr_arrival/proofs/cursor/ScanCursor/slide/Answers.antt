@@ -29,7 +29,8 @@ returns-clause-stands c h whole t may s =
     let window = subst HasWindow (sym is) (trimmed_window i c.requires m.at c.trim.ensures.at) in
     let low : m.place.bit < 8 = omega (arith, ap (λ (x : ScanCursor). x.place.bit) is) in
     let bit = e.bit (window_bits m window) low in
-    stands_by whole t d m.interval m.mcu m.at m.reading m.place e.stays.interval e.stays.mcu e.at e.reading (place_by d.place m.place.bit m.place.predictions bit e.predictions) there.from there.means
+    let at : d.file.from + d.at ≡ m.file.from + m.at = omega (arith, e.at, ap (λ (f : FileBytes). f.from) e.stays.file) in
+    stands_by whole t d m.interval m.mcu (m.file.from + m.at) m.reading m.place e.stays.interval e.stays.mcu at e.reading (place_by d.place m.place.bit m.place.predictions bit e.predictions) there.from there.means
 
 pub returns-clause-nearer : goal.returns-clause-nearer
 returns-clause-nearer c told =
