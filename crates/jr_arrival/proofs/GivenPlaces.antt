@@ -8,7 +8,7 @@ use Rattle.jr_scan.specs.ScanValue.{ScanValue, IsScanOf, intervals_of}
 use Rattle.jr_arrival.specs.declared.place.RowPlace.{RowPlace}
 use Rattle.jr_head.specs.HeadValue.{HeadValue}
 use Rattle.jr_arrival.specs.Meaning.{GoesOnAt, IsPlaceIn, MayBe, MeansAt, offset_in, top}
-use Rattle.jr_arrival.specs.Parts.{Part, part_at}
+use Rattle.jr_arrival.specs.Parts.{FilePart, part_at}
 use Rattle.jr_arrival.proofs.Parts.{take_part}
 use Rattle.jr_arrival.proofs.ReadOn.{reads_first}
 use Rattle.jr_arrival.proofs.Spelled.{front_whole}
@@ -29,7 +29,7 @@ begins whole t s =
           omega (arith, ap length same, ap length c.means);
     }
 
-pub top_is_place : (x : Part) (whole : List ℕ) (t : ScanValue) → IsScanOf whole t → x.from ≤ t.head.scan_at → t.head.scan_at ≤ x.from + length x.bytes → IsPlaceIn x whole t top
+pub top_is_place : (x : FilePart) (whole : List ℕ) (t : ScanValue) → IsScanOf whole t → x.from ≤ t.head.scan_at → t.head.scan_at ≤ x.from + length x.bytes → IsPlaceIn x whole t top
 top_is_place x whole t scan from come =
     let at : offset_in t.head top ≡ t.head.scan_at = omega arith in
     record {
@@ -39,7 +39,7 @@ top_is_place x whole t scan from come =
       means = subst (λ (k : ℕ). MeansAt whole t 0 0 0 k start_of_interval) (sym at) (reads_first whole t 0 t.head.scan_at start_of_interval refl (begins whole t scan));
     }
 
-pub place_stays : (x : Part) (more : List ℕ) (all : Bool) (whole : List ℕ) (t : ScanValue) (p : RowPlace) → IsPlaceIn x whole t p → IsPlaceIn (part_at x.from (x.bytes ++ more) all) whole t p
+pub place_stays : (x : FilePart) (more : List ℕ) (all : Bool) (whole : List ℕ) (t : ScanValue) (p : RowPlace) → IsPlaceIn x whole t p → IsPlaceIn (part_at x.from (x.bytes ++ more) all) whole t p
 place_stays x more all whole t p is = record {
   bit = is.bit;
   from = is.from;
@@ -53,7 +53,7 @@ place_stays x more all whole t p is = record {
   means = is.means;
 }
 
-pub place_in_part : (x y : Part) (h : HeadValue) (whole : List ℕ) (t : ScanValue) (p : RowPlace) → MayBe x h whole t → MayBe y h whole t → y.from ≤ offset_in t.head p → x.from + length x.bytes ≤ y.from + length y.bytes → IsPlaceIn x whole t p → IsPlaceIn y whole t p
+pub place_in_part : (x y : FilePart) (h : HeadValue) (whole : List ℕ) (t : ScanValue) (p : RowPlace) → MayBe x h whole t → MayBe y h whole t → y.from ≤ offset_in t.head p → x.from + length x.bytes ≤ y.from + length y.bytes → IsPlaceIn x whole t p → IsPlaceIn y whole t p
 place_in_part x y h whole t p is_x is_y from to is =
     let at = offset_in t.head p in
     let read = is.come.read in

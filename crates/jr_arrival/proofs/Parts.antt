@@ -6,11 +6,11 @@ use Rattle.jr_cut.specs.Cut.{IsRaw}
 use Rattle.jr_head.specs.HeadValue.{HeadValue}
 use Rattle.jr_scan.specs.ScanValue.{ScanValue}
 use Rattle.jr_arrival.specs.Meaning.{GoesOnAt, MayBe}
-use Rattle.jr_arrival.specs.Parts.{Part, last_part}
+use Rattle.jr_arrival.specs.Parts.{FilePart, last_part}
 use Rattle.jr_arrival.proofs.Going.{OnBy, on_by}
 use Rattle.jr_arrival.proofs.Spelled.{front_whole}
 
-module _ (x : Part) (h : HeadValue) (whole : List ℕ) (t : ScanValue) (may : MayBe x h whole t) where
+module _ (x : FilePart) (h : HeadValue) (whole : List ℕ) (t : ScanValue) (may : MayBe x h whole t) where
   drop_whole : (at : ℕ) → drop (x.from + at) whole ≡ drop at (x.bytes ++ may.more)
   drop_whole at =
       let rest = x.bytes ++ may.more in
@@ -33,9 +33,9 @@ module _ (x : Part) (h : HeadValue) (whole : List ℕ) (t : ScanValue) (may : Ma
 
 -- ---- a part with which the file ends
 
-pub may_end : (x : Part) (h : HeadValue) (whole : List ℕ) (t : ScanValue) → MayBe (last_part x) h whole t → MayBe x h whole t
+pub may_end : (x : FilePart) (h : HeadValue) (whole : List ℕ) (t : ScanValue) → MayBe (last_part x) h whole t → MayBe x h whole t
 may_end x h whole t may = record { before = may.before; more = may.more; is = may.is; from = may.from; fits = may.fits; none = λ all. may.none refl; head = may.head; scan = may.scan }
 
-pub drop_last : (x : Part) (h : HeadValue) (whole : List ℕ) (t : ScanValue) (may : MayBe (last_part x) h whole t) (at : ℕ) → at ≤ length x.bytes → drop (x.from + at) whole ≡ drop at x.bytes
+pub drop_last : (x : FilePart) (h : HeadValue) (whole : List ℕ) (t : ScanValue) (may : MayBe (last_part x) h whole t) (at : ℕ) → at ≤ length x.bytes → drop (x.from + at) whole ≡ drop at x.bytes
 drop_last x h whole t may at within =
     drop_part (last_part x) h whole t may at within ∙ ap (λ (y : List ℕ). drop at x.bytes ++ y) (may.none refl) ∙ append-nil (drop at x.bytes)

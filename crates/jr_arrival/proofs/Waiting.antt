@@ -22,7 +22,7 @@ use Rattle.jr_arrival.proofs.Going.{waits_on}
 use Rattle.jr_arrival.proofs.SettledRows.{not_settled}
 use Rattle.jr_arrival.proofs.Knowing.{not_known}
 use Rattle.jr_arrival.proofs.Steps.{grows_true, its_end}
-use Rattle.jr_arrival.specs.Parts.{Part, last_part, part_of}
+use Rattle.jr_arrival.specs.Parts.{FilePart, last_part, part_of}
 use Rattle.jr_arrival.proofs.Parts.{drop_last, may_end}
 
 module _ (h : HeadValue) (c : ScanCursor) (is : IsCursor h c) (lawful : IsLawful h) (still : IsOpen c) where
@@ -35,7 +35,7 @@ module _ (h : HeadValue) (c : ScanCursor) (is : IsCursor h c) (lawful : IsLawful
   stop : IsStop (drop end bytes)
   stop = ending_stop (intervals_of h) c.interval end (drop end bytes) EndOfFile (still.fill, still.all)
 
-  abbrev x : Part
+  abbrev x : FilePart
   x = part_of c.file
 
   -- in a file that ends with them

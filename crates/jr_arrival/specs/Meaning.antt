@@ -9,7 +9,7 @@ use Rattle.jr_scan.specs.Mcus.{LongestFront}
 use Rattle.jr_scan.specs.ScanValue.{ScanValue, IsScanOf, interval_of, intervals_of}
 use Rattle.jr_piece.specs.Strips.{IsNext}
 use Rattle.jr_arrival.specs.declared.place.RowPlace.{RowPlace}
-use Rattle.jr_arrival.specs.Parts.{Part}
+use Rattle.jr_arrival.specs.Parts.{FilePart}
 
 -- an interval with other data before it
 abbrev pub with_before : IntervalValue → List ℕ → IntervalValue
@@ -20,7 +20,7 @@ abbrev pub behind : List ℕ → Place → Place
 behind front p = record { bit = 8 * length front + p.bit; predictions = p.predictions }
 
 -- a file that has this part at its offset, and no byte after it if the file ends with it; and its scan, with that header
-pub record MayBe (x : Part) (h : HeadValue) (whole : List ℕ) (t : ScanValue) : Type 0 where
+pub record MayBe (x : FilePart) (h : HeadValue) (whole : List ℕ) (t : ScanValue) : Type 0 where
   pub before : List ℕ
   pub more : List ℕ
   pub is : whole ≡ before ++ (x.bytes ++ more)
@@ -83,7 +83,7 @@ abbrev pub offset_in : HeadValue → RowPlace → ℕ
 offset_in h p = max p.at h.scan_at
 
 -- it is a place of the whole file, at a byte of the part or after its last one, and the bits before it are there
-pub record IsPlaceIn (x : Part) (whole : List ℕ) (t : ScanValue) (p : RowPlace) : Type 0 where
+pub record IsPlaceIn (x : FilePart) (whole : List ℕ) (t : ScanValue) (p : RowPlace) : Type 0 where
   pub bit : p.bit < 8
   pub from : x.from ≤ offset_in t.head p
   pub come : HasBits x.bytes (offset_in t.head p - x.from) p.bit

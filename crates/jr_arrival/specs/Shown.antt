@@ -13,7 +13,7 @@ use Rattle.jr_arrival.specs.declared.place.RowPlace.{RowPlace}
 use Rattle.jr_arrival.specs.Cursors.{IsCursorIn, PassesOver, StaysTrue}
 use Rattle.jr_arrival.specs.LongerFile.{RowIsSettled}
 use Rattle.jr_arrival.specs.Meaning.{IsPlaceIn, MayBe}
-use Rattle.jr_arrival.specs.Parts.{Part, last_part, part_of}
+use Rattle.jr_arrival.specs.Parts.{FilePart, last_part, part_of}
 use Rattle.jr_arrival.specs.Places.{mcus_before_place}
 
 -- a step from the cursor's position of a row that keeps its MCUs: if its first `done` ones are those of the image, the given number more are
@@ -33,10 +33,10 @@ abbrev pub ShowsRow : ScanValue → (row : ℕ) → List (List ℕ) → Type 0
 ShowsRow t row groups = ShowsFirstUnits t (length t.intervals) (row * mcus_across t.head) (mcus_across t.head) (units_in t.head groups)
 
 -- no file that ends with this part, and of which this is a position, makes that row of MCUs final
-abbrev pub LeavesRowAt : Part → HeadValue → RowPlace → (row : ℕ) → Type 0
+abbrev pub LeavesRowAt : FilePart → HeadValue → RowPlace → (row : ℕ) → Type 0
 LeavesRowAt x h p row = (so_far : List ℕ) (s : ScanValue) → MayBe (last_part x) h so_far s → IsPlaceIn x so_far s p → RowIsSettled so_far s row → ⊥
 
 -- these are n lines of the image of each file that may have this part and of which this is a position, starting at this line
-abbrev pub AreLines : Part → HeadValue → RowPlace → (first count : ℕ) → List ℕ → Type 0
+abbrev pub AreLines : FilePart → HeadValue → RowPlace → (first count : ℕ) → List ℕ → Type 0
 AreLines x h p first count pixels = (whole : List ℕ) (t : ScanValue) (marks : List Mark) (f : ℕ → ℕ → ℕ → ℕ) → MayBe x h whole t → IsPlaceIn x whole t p
     → ShowsFirst t (length t.intervals) marks f → pixels ≡ next_lines_of h f first count

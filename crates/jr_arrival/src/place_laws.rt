@@ -12,7 +12,7 @@ ghost use Rattle.jr_arrival.specs.More.{with_more};
 ghost use Rattle.jr_arrival.specs.declared.place.RowPlace.{RowPlace};
 ghost use Rattle.jr_head.specs.HeadValue.{HeadValue};
 ghost use Rattle.jr_arrival.specs.Meaning.{IsPlaceIn, MayBe, behind, offset_in, top, with_before};
-ghost use Rattle.jr_arrival.specs.Parts.{Part, part_at};
+ghost use Rattle.jr_arrival.specs.Parts.{FilePart, part_at};
 
 use jr_scan::Place;
 
@@ -39,17 +39,17 @@ pub fn split_segment()
 /// States that the top is a position of every file, in a part of it that begins within the header, or right after it, and
 /// ends after it.
 pub fn top_is_place()
-    ensures { (x : Part) (whole : List ℕ) (t : ScanValue) → IsScanOf whole t → x.from ≤ t.head.scan_at → t.head.scan_at ≤ x.from + length x.bytes → IsPlaceIn x whole t top }
+    ensures { (x : FilePart) (whole : List ℕ) (t : ScanValue) → IsScanOf whole t → x.from ≤ t.head.scan_at → t.head.scan_at ≤ x.from + length x.bytes → IsPlaceIn x whole t top }
 {}
 
 /// States that a position that some bytes have come to is one that more bytes have come to.
 pub fn place_stays()
-    ensures { (x : Part) (more : List ℕ) (all : Bool) (whole : List ℕ) (t : ScanValue) (p : RowPlace) → IsPlaceIn x whole t p
+    ensures { (x : FilePart) (more : List ℕ) (all : Bool) (whole : List ℕ) (t : ScanValue) (p : RowPlace) → IsPlaceIn x whole t p
         → IsPlaceIn (part_at x.from (x.bytes ++ more) all) whole t p }
 {}
 
 /// States that a position in a part of a file is one in each part that begins at or before it and ends no earlier.
 pub fn place_in_part()
-    ensures { (x y : Part) (h : HeadValue) (whole : List ℕ) (t : ScanValue) (p : RowPlace) → MayBe x h whole t → MayBe y h whole t → y.from ≤ offset_in t.head p → x.from + length x.bytes ≤ y.from + length y.bytes
+    ensures { (x y : FilePart) (h : HeadValue) (whole : List ℕ) (t : ScanValue) (p : RowPlace) → MayBe x h whole t → MayBe y h whole t → y.from ≤ offset_in t.head p → x.from + length x.bytes ≤ y.from + length y.bytes
         → IsPlaceIn x whole t p → IsPlaceIn y whole t p }
 {}

@@ -97,7 +97,10 @@ fn skip_run(interval: &Interval, first: u32, from: Place, guesses: &Guesses, mos
     let mut reader = McuReader::at(interval.as_ref(), from, mcus);
     let skipped = reader.skip_by(guesses, mcus);
     let next = place_after(&reader, skipped, mcus);
-    Skipped { mcus: skipped, next }
+    Skipped {
+        mcus: skipped,
+        next,
+    }
 }
 
 /// Reads the whole MCUs of an interval, a strip at a time.

@@ -11,7 +11,7 @@ use Rattle.jr_arrival.specs.Arrival.{IsFinalFault}
 use Rattle.jr_arrival.specs.Settled.{WantsMore}
 use Rattle.jr_scan.specs.ScanValue.{ScanValue}
 use Rattle.jr_arrival.specs.Meaning.{IsPlaceIn, MayBe, offset_in}
-use Rattle.jr_arrival.specs.Parts.{Part, part_at}
+use Rattle.jr_arrival.specs.Parts.{FilePart, part_at}
 use Rattle.jr_arrival.specs.Shown.{AreLines, LeavesRowAt}
 use Rattle.jr_arrival.specs.declared.place.RowPlace.{RowPlace}
 use Rattle.jr_arrival.specs.Places.{IsPlaceOf, lines_above, lines_between, rows_to_give, rows_with_room}
@@ -25,11 +25,11 @@ abbrev pub are_all : ℕ → Bool
 are_all more = more == 0
 
 -- the first bytes of a file
-abbrev pub file_part : (bytes : List ℕ) (more : ℕ) → Part
+abbrev pub file_part : (bytes : List ℕ) (more : ℕ) → FilePart
 file_part bytes more = part_at 0 bytes (are_all more)
 
 -- bytes of a file starting at an offset
-abbrev pub window_part : (from : ℕ) (bytes : List ℕ) (more : ℕ) → Part
+abbrev pub window_part : (from : ℕ) (bytes : List ℕ) (more : ℕ) → FilePart
 window_part from bytes more = part_at from bytes (are_all more)
 
 -- a report of no rows
@@ -65,7 +65,7 @@ pub record HasRowAt (h : HeadValue) (p : RowPlace) (rows : ℕ) : Type 0 where
 -- the position has moved by rows of MCUs, at most by `most`: by `most` if the file ends with the part, otherwise to the first row that
 -- the part does not make final. If it was one of a file that may have this part, it still is. The report has the numbers of the rows and
 -- of their lines
-pub record MovesOn (header : List ℕ) (x : Part) (most : ℕ) (old new : RowPlace) (h : HeadValue) (r : RowsReport) : Type 0 where
+pub record MovesOn (header : List ℕ) (x : FilePart) (most : ℕ) (old new : RowPlace) (h : HeadValue) (r : RowsReport) : Type 0 where
   pub head : HeadOf header h
   pub from : IsPlaceOf h old
   pub to : IsPlaceOf h new
@@ -81,7 +81,7 @@ pub record MovesOn (header : List ℕ) (x : Part) (most : ℕ) (old new : RowPla
   pub detail : r.detail ≡ 0
 
 -- more bytes may come and are wanted for a header: no row is returned, and the position is unchanged
-pub record AwaitsHead (header : List ℕ) (x : Part) (old new : RowPlace) (r : RowsReport) : Type 0 where
+pub record AwaitsHead (header : List ℕ) (x : FilePart) (old new : RowPlace) (r : RowsReport) : Type 0 where
   pub more : x.are_all ≡ false
   pub wanted : WantsMore header
   pub place : new ≡ old
@@ -89,7 +89,7 @@ pub record AwaitsHead (header : List ℕ) (x : Part) (old new : RowPlace) (r : R
 
 -- rows are decoded, as many as were asked for and fit into the pixels: their lines are those of the image of each file that may have
 -- this part and of which the position was one; what follows their lines is unchanged
-pub record DecodesRows (header : List ℕ) (x : Part) (rows : ℕ) (old new : RowPlace) (old_pixels pixels : List ℕ) (r : RowsReport) : Type 0 where
+pub record DecodesRows (header : List ℕ) (x : FilePart) (rows : ℕ) (old new : RowPlace) (old_pixels pixels : List ℕ) (r : RowsReport) : Type 0 where
   pub h : HeadValue
   pub there : HasRowAt h old rows
   pub moves : MovesOn header x (rows_to_give h old.row rows (length old_pixels)) old new h r
@@ -98,16 +98,16 @@ pub record DecodesRows (header : List ℕ) (x : Part) (rows : ℕ) (old new : Ro
   pub behind : drop (r.lines * line_size h) pixels ≡ drop (r.lines * line_size h) old_pixels
 
 -- of a header's bytes, and a part of the file
-abbrev pub GivesRows : (header : List ℕ) → Part → (rows : ℕ) (old new : RowPlace) (old_pixels pixels : List ℕ) → RowsReport → Type 0
+abbrev pub GivesRows : (header : List ℕ) → FilePart → (rows : ℕ) (old new : RowPlace) (old_pixels pixels : List ℕ) → RowsReport → Type 0
 GivesRows header x rows old new old_pixels pixels r = (AwaitsHead header x old new r × (pixels ≡ old_pixels)) ⊎ DecodesRows header x rows old new old_pixels pixels r
 
 -- rows are skipped, as many as were asked for
-pub record PassesRows (header : List ℕ) (x : Part) (rows : ℕ) (old new : RowPlace) (r : RowsReport) : Type 0 where
+pub record PassesRows (header : List ℕ) (x : FilePart) (rows : ℕ) (old new : RowPlace) (r : RowsReport) : Type 0 where
   pub h : HeadValue
   pub there : HasRowAt h old rows
   pub moves : MovesOn header x (min rows (mcus_down h - old.row)) old new h r
 
-abbrev pub SkipsRows : (header : List ℕ) → Part → (rows : ℕ) (old new : RowPlace) → RowsReport → Type 0
+abbrev pub SkipsRows : (header : List ℕ) → FilePart → (rows : ℕ) (old new : RowPlace) → RowsReport → Type 0
 SkipsRows header x rows old new r = AwaitsHead header x old new r ⊎ PassesRows header x rows old new r
 
 -- the bytes' picture has no row of MCUs at the place, or none is asked for
@@ -124,26 +124,26 @@ pub record LacksRoomForRow (bytes : List ℕ) (p : RowPlace) (room : ℕ) : Type
   pub less : rows_with_room h p.row room ≡ 0
 
 -- the position is at a byte of the part, or after its last one
-pub record IsInPart (x : Part) (h : HeadValue) (p : RowPlace) : Type 0 where
+pub record IsInPart (x : FilePart) (h : HeadValue) (p : RowPlace) : Type 0 where
   pub from : x.from ≤ offset_in h p
   pub to : offset_in h p ≤ x.from + length x.bytes
 
 -- the image of this header has a row of MCUs at the position, which is at such a byte
-pub record LiesInside (header : List ℕ) (x : Part) (p : RowPlace) (rows : ℕ) : Type 0 where
+pub record LiesInside (header : List ℕ) (x : FilePart) (p : RowPlace) (rows : ℕ) : Type 0 where
   pub h : HeadValue
   pub is : HeadOf header h
   pub there : HasRowAt h p rows
   pub within : IsInPart x h p
 
 -- or at no such byte
-pub record LiesOutside (header : List ℕ) (x : Part) (p : RowPlace) (rows : ℕ) : Type 0 where
+pub record LiesOutside (header : List ℕ) (x : FilePart) (p : RowPlace) (rows : ℕ) : Type 0 where
   pub h : HeadValue
   pub is : HeadOf header h
   pub there : HasRowAt h p rows
   pub out : IsInPart x h p → ⊥
 
 -- why a place is not moved
-abbrev pub IsWhy : (header : List ℕ) → Part → (p : RowPlace) (rows room : ℕ) → PlaceError → Type 0
+abbrev pub IsWhy : (header : List ℕ) → FilePart → (p : RowPlace) (rows room : ℕ) → PlaceError → Type 0
 IsWhy header x p rows room (Refused fault) = fault ≢ Memory → IsPartialFault header x.are_all fault
 IsWhy header x p rows room NoRows = LacksRows header p rows
 IsWhy header x p rows room NoRoom = LacksRoomForRow header p room
