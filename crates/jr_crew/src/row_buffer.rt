@@ -1,6 +1,6 @@
 //! Memory for a row of MCUs of a scan: empty, read, or painted.
 
-ghost use Rattle.std.specs.Prelude.{◌≡◌, ◌+◌, ◌-◌, ◌*◌, ◌<◌, ◌≤◌, Some, length, take, drop, IfOk, IfSome};
+ghost use Rattle.std.specs.Prelude.{◌≡◌, ◌+◌, ◌-◌, ◌*◌, ◌<◌, ◌≤◌, Some, length, take, drop, IfErr, IfOk, IfSome};
 ghost use Rattle.jr_head.specs.Geometry.{mcus_down, vertical_max};
 ghost use Rattle.jr_paint.specs.Lines.{line_size};
 ghost use Rattle.jr_rows.specs.Cursors.{AreGuessesIn};
@@ -127,6 +127,7 @@ impl<S: OneFirstIntervals> RowBuffer<S> {
         requires same { IfSome guesses (λ g. AreGuessesIn part.now.scan g.now) }
         requires row { rows.old.row < mcus_down part.now.scan.head }
         ensures row { IfOk result (λ c. c.row ≡ rows.old.row) }
+        ensures painted { IfErr result (λ p. p.row ≡ rows.old.row) }
         ensures rows { AreRowsOf part.now rows.new }
     {
         let pixels = self.pixels;

@@ -28,6 +28,7 @@ invariant_of-result g c =
     let room = subst (λ (k : Option FirstIntervalsValue). HasRoom k bytes) c.requires.part c.self.invariant.1 in
     let read = subst (λ (r : ℕ). AreRead t.scan t.limit r new) at e.read in
     let counts = subst (λ (r : ℕ). CountsRow t.scan t.limit r marked) at e.counts in
-    subst (λ (bs : List (List ℤ)). HasWork known (record { blocks = bs; lines = lines }) × HasRoom known bytes × IsRead known (record { row = row; marked = marked; work = record { blocks = bs; lines = lines } })) (sym is)
+    let whole = subst (λ (bs : List (List ℤ)). HasWork known (record { blocks = bs; lines = lines }) × HasRoom known bytes × IsRead known (record { row = row; marked = marked; work = record { blocks = bs; lines = lines } })) (sym is)
     (subst (λ (k : Option FirstIntervalsValue). HasWork k (record { blocks = new; lines = lines }) × HasRoom k bytes × IsRead k (record { row = row; marked = marked; work = record { blocks = new; lines = lines } })) (sym c.requires.part)
-    (record { blocks = same ∙ had.blocks; lines = had.lines }, room, record { row = omega (arith, c.requires.row, c.row-row.ensures); blocks = read; counts = counts }))
+    (record { blocks = same ∙ had.blocks; lines = had.lines }, room, record { row = omega (arith, c.requires.row, c.row-row.ensures); blocks = read; counts = counts })) in
+    search whole
