@@ -1,12 +1,15 @@
-//! Rows of MCUs from positions: one after the other, all at once, while the file comes, and each from its own position.
+//! Rows of MCUs from positions: one after the other, all at once, while the file comes, each from its own position, and
+//! from windows of the file.
 
 ghost use Rattle.std.specs.Prelude.{◌<◌};
 
 use crate::buffers::put_refusal;
 use crate::case::Case;
-use crate::differences::{Differences, compare_bytes, compare_texts};
-use jri_memory::status::OK;
-use jri_memory::{RowPlace, RowsReport, decode_file_rows, skip_file_rows};
+use crate::differences::{Differences, compare_bytes, compare_numbers, compare_texts};
+use jri_memory::status::{NOT_IN_WINDOW, OK};
+use jri_memory::{
+    FileBytes, RowPlace, RowsReport, decode_file_rows, decode_window_rows, skip_file_rows,
+};
 use std::alloc::{AllocError, Global};
 
 /// A file of more bytes does not come in small parts.
@@ -60,6 +63,25 @@ impl Reading {
         answer
     }
 
+    /// Decodes the rows that a window makes final to their lines in `pixels`, and returns the call's answer.
+    fn decode_window(
+        &mut self,
+        alloc: Global,
+        header: &[u8],
+        window: FileBytes<'_>,
+        first_line: u32,
+        pixels: &mut [u8],
+    ) -> u32 {
+        let from = usize::saturating_mul(first_line as usize, self.line).min(pixels.len());
+        let pixels = &mut pixels[from..];
+        let (mut place, mut report) = (self.place, RowsReport::empty());
+        let (rows, all) = (u32::MAX, &mut report);
+        let answer = decode_window_rows(alloc, header, window, &mut place, rows, pixels, all);
+        self.place = place;
+        self.report = report;
+        answer
+    }
+
     /// Returns the line after those of the last call.
     fn next_line(&self) -> u32 {
         self.report.first_line.saturating_add(self.report.lines)
@@ -96,6 +118,60 @@ fn in_parts(case: &Case<'_>, part: usize, pixels: &mut [u8])
         }
     }
     reading.decode(alloc, bytes, 0, u32::MAX, first_line, pixels);
+}
+
+/// Returns the bytes of a file starting at an offset, at most the given number.
+fn window_of(bytes: &[u8], at: u64, size: usize) -> FileBytes<'_> {
+    let from = at.min(bytes.len() as u64) as usize;
+    let window = &bytes[from..];
+    let size = size.min(window.len());
+    FileBytes {
+        from: from as u64,
+        bytes: &window[..size],
+        are_all: size == window.len(),
+    }
+}
+
+/// Decodes the rows from windows that begin at their positions: of `size` bytes, or twice as many as the last one if
+/// that has made no row final.
+fn in_windows(case: &Case<'_>, size: usize, pixels: &mut [u8]) {
+    let bytes = case.bytes;
+    let mut reading = Reading::at_top(case.line());
+    let mut header: &[u8] = &[];
+    let mut first_line = 0;
+    let mut length = size;
+    for _ in 0..=bytes.len() {
+        let window = window_of(bytes, reading.place.at, length);
+        if reading.place.at == 0 {
+            header = window.bytes;
+        }
+        if reading.decode_window(case.alloc, header, window, first_line, pixels) != OK {
+            return;
+        }
+        if reading.report.rows > 0 {
+            first_line = reading.next_line();
+            length = size;
+        } else {
+            length = usize::saturating_mul(length, 2);
+        }
+    }
+}
+
+/// Compares the answers to windows that do not have the position: one that begins after the file's end, and one that ends
+/// before the scan header's.
+fn compare_outside(case: &Case<'_>, pixels: &mut [u8], out: &mut Differences) {
+    let after = FileBytes {
+        from: u64::MAX,
+        bytes: &[],
+        are_all: true,
+    };
+    let before = FileBytes { from: 0, ..after };
+    for window in [after, before] {
+        let mut reading = Reading::at_top(case.line());
+        let answer = reading.decode_window(case.alloc, case.bytes, window, 0, pixels);
+        let subject = case.at("rows of another window");
+        compare_numbers(out, subject, u64::from(NOT_IN_WINDOW), u64::from(answer));
+    }
 }
 
 /// A position, and the first line after it.
@@ -165,6 +241,9 @@ fn check_ways(case: &Case<'_>, pixels: &mut [u8], out: &mut Differences) {
     compare_pixels(case, "rows as they come", pixels, out);
     by_index(case, pixels, out);
     compare_pixels(case, "rows by index", pixels, out);
+    in_windows(case, 16, pixels);
+    compare_pixels(case, "rows in windows", pixels, out);
+    compare_outside(case, pixels, out);
 }
 
 /// Decodes the rows of a case's file from positions.
