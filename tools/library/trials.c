@@ -401,12 +401,12 @@ static uint32_t decode_window(const struct trial *t, size_t header, size_t from,
     return status;
 }
 
-/* Decodes a file by windows of the given size; one without a row that is final is doubled. */
+/* Decodes a file by windows of the given size, the first after the header; one without a row that is final is doubled. */
 static void rows_by_window(const struct trial *t, size_t header, size_t size) {
     struct jri_position place = {0};
     struct jri_rows report;
     uint32_t lines = 0, status = JRI_OK;
-    for (size_t from = 0, length = size; status == JRI_OK && lines < t->header.height; from = place.at > from ? place.at : from) {
+    for (size_t from = header, length = size; status == JRI_OK && lines < t->header.height; from = place.at > from ? place.at : from) {
         size_t there = length < t->length - from ? length : t->length - from;
         status = decode_window(t, header, from, there, &place, -1, &report);
         see(status == JRI_OK && (!report.rows || report.first_line == lines), t, "rows of a window");
