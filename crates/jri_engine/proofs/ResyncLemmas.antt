@@ -8,6 +8,7 @@ use Rattle.jr_mend.specs.Reading.{Becomes, IsFileInStep, IsResynced}
 use Rattle.jr_mend.proofs.ResyncedInStep.{in_step_is_resynced}
 use Rattle.jr_scan.specs.ScanValue.{ScanValue}
 use Rattle.jr_head.specs.Heads.{HeadOf, RefusalOf}
+use Rattle.jr_segments.specs.declared.refusal.Refusal.{Refusal}
 use Rattle.jr_picture.specs.declared.report.Fault.{Fault}
 use Rattle.jr_picture.specs.declared.report.Fault.TheVariants as fault
 use Rattle.jri_file.specs.Files.{IsFaultOfInput, IsScanOfFile, OfFile}
@@ -94,3 +95,14 @@ not_err r v f e is = let z : ◌≡◌ {A = Result _ _} (Ok v) (Err f) = sym e �
 
 pub same_fault : {T E : Type 0} (r : Result T E) (f x : E) → r ≡ Err f → r ≡ Err x → f ≡ x
 same_fault r f x e is = let z : ◌≡◌ {A = Result _ _} (Err f) (Err x) = sym e ∙ is in cc
+
+-- the fault of a file that is resynchronised, and of no other kind
+module _ (left : Option (List ℕ)) {T : Type 0} (r : Result T Fault) (f : Fault) (e : r ≡ Err f) (is : IsResyncFaultOfInput left f) where
+  pub not_write : r ≡ Err fault.Write → ⊥
+  not_write w = subst (IsResyncFaultOfInput left) (same_fault r f fault.Write e w) is
+
+  pub not_missing : r ≡ Err fault.NoFile → ⊥
+  not_missing w = subst (IsResyncFaultOfInput left) (same_fault r f fault.NoFile e w) is
+
+  pub refuses : (x : Refusal) → r ≡ Err (fault.Refused x) → OfFile left (λ file. RefusesResync file x)
+  refuses x w = subst (IsResyncFaultOfInput left) (same_fault r f (fault.Refused x) e w) is

@@ -1,11 +1,12 @@
-use Rattle.std.proofs.Common.{◌≡◌, ◌∙◌, Result, IfOk, ap, refl, rules, subst, length}
+use Rattle.std.proofs.Common.{◌≡◌, ◌∙◌, false, Result, IfOk, OnOk, ap, refl, rules, subst, length}
 use Rattle.std.specs.Arc.{arc_value}
+use Rattle.jr_base.specs.Tally.{has_failed}
 use Rattle.jr_picture.specs.declared.counts.Counts.{Counts}
 use Rattle.jr_picture.specs.Headline.{least}
 use Rattle.jr_picture.specs.Writing.{WritesPicture}
 use Rattle.jr_picture.specs.declared.picture_error.PictureError.{PictureError}
 use Rattle.jr_scan.specs.ScanValue.{ScanValue}
-use Rattle.jri_engine.proofs.PaintsLemmas.{Wrote, scan_begins, scan_paints, wrote}
+use Rattle.jri_engine.proofs.PaintsLemmas.{Left, Wrote, left, scan_begins, scan_paints, wrote}
 use Rattle.jri_engine.proofs.engine.write_image.Goals as goal
 use Rattle.jri_engine.proofs.engine.write_image.Goals.{then-is_by_rows, else-is_by_rows+then-is_by_intervals, else-is_by_rows+else-is_by_intervals}
 
@@ -39,3 +40,30 @@ returns-in-Err-Write-clause-begun g c file is _ =
       | else-is_by_rows+else-is_by_intervals b ↦ let e = b.write_scan.ensures in wrote K old c.args.first s _ new _ w _ b.deref-else-is_by_intervals.ensures b.out-is b.written-is (e.painted, e.begun)
     ] in
     scan_begins K old new s c.args.first (told.1 (search (rules, c.in-Err-Write.is, c.in-Err-Write.field-0-is))) file is
+
+pub returns-in-Ok-clause-written : goal.returns-in-Ok-clause-written
+returns-in-Ok-clause-written g c =
+    let told : Left c.args.out.now c.if-is_by_rows.out c.if-is_by_rows.written = elim c.if-is_by_rows.branch [
+      | then-is_by_rows b ↦ let e = b.write_scan_by-written.ensures in left c.args.out.now c.if-is_by_rows.out _ c.if-is_by_rows.written _ b.out-is b.written-is (e.memory, e.written, e.write)
+      | else-is_by_rows+then-is_by_intervals b ↦ let e = b.write_board.ensures in left c.args.out.now c.if-is_by_rows.out _ c.if-is_by_rows.written _ b.out-is b.written-is (e.memory, e.written, e.write)
+      | else-is_by_rows+else-is_by_intervals b ↦ let e = b.write_scan.ensures in left c.args.out.now c.if-is_by_rows.out _ c.if-is_by_rows.written _ b.out-is b.written-is (e.memory, e.written, e.write)
+    ] in
+    subst (λ (x : Result Counts PictureError). OnOk x (has_failed c.if-is_by_rows.out ≡ false)) c.in-Ok.is told.1
+
+pub returns-in-Err-Memory-clause-memory : goal.returns-in-Err-Memory-clause-memory
+returns-in-Err-Memory-clause-memory g c _ =
+    let told : Left c.args.out.now c.if-is_by_rows.out c.if-is_by_rows.written = elim c.if-is_by_rows.branch [
+      | then-is_by_rows b ↦ let e = b.write_scan_by-written.ensures in left c.args.out.now c.if-is_by_rows.out _ c.if-is_by_rows.written _ b.out-is b.written-is (e.memory, e.written, e.write)
+      | else-is_by_rows+then-is_by_intervals b ↦ let e = b.write_board.ensures in left c.args.out.now c.if-is_by_rows.out _ c.if-is_by_rows.written _ b.out-is b.written-is (e.memory, e.written, e.write)
+      | else-is_by_rows+else-is_by_intervals b ↦ let e = b.write_scan.ensures in left c.args.out.now c.if-is_by_rows.out _ c.if-is_by_rows.written _ b.out-is b.written-is (e.memory, e.written, e.write)
+    ] in
+    told.0 (search (rules, c.in-Err-Memory.is, c.in-Err-Memory.field-0-is))
+
+pub returns-in-Err-Write-clause-write : goal.returns-in-Err-Write-clause-write
+returns-in-Err-Write-clause-write g c _ =
+    let told : Left c.args.out.now c.if-is_by_rows.out c.if-is_by_rows.written = elim c.if-is_by_rows.branch [
+      | then-is_by_rows b ↦ let e = b.write_scan_by-written.ensures in left c.args.out.now c.if-is_by_rows.out _ c.if-is_by_rows.written _ b.out-is b.written-is (e.memory, e.written, e.write)
+      | else-is_by_rows+then-is_by_intervals b ↦ let e = b.write_board.ensures in left c.args.out.now c.if-is_by_rows.out _ c.if-is_by_rows.written _ b.out-is b.written-is (e.memory, e.written, e.write)
+      | else-is_by_rows+else-is_by_intervals b ↦ let e = b.write_scan.ensures in left c.args.out.now c.if-is_by_rows.out _ c.if-is_by_rows.written _ b.out-is b.written-is (e.memory, e.written, e.write)
+    ] in
+    told.2 (search (rules, c.in-Err-Write.is, c.in-Err-Write.field-0-is))
