@@ -2,6 +2,7 @@ use Rattle.std.proofs.Common.{◌≡◌, ◌∷◌, ◌∙◌, Bool, List, ℤ, 
 use Rattle.std.specs.Prelude.{◌+ℤ◌}
 use mir.Val.{SFits, of_z, to_z}
 use Rattle.std.proofs.lemmas.Int.{ints, to_z-of_z}
+use Rattle.std.proofs.lemmas.List.{take-set}
 use Rattle.jr_code.proofs.CodeLemmas.{one_word}
 use Rattle.jr_mcu.specs.Step.{HasNoBlock, TakesDifference}
 use Rattle.jr_mcu.proofs.Predicted.{kept_fits, no_block_others, takes_block}
@@ -31,3 +32,9 @@ returns-clause-some c =
     let there = subst (λ (b : List Bool). TakesDifference c.args.dc.now t.0 b c.read_first.new.bits) c.fork-left.ensures t.1 in
     let block = takes_block c.args.dc.now c.args.ac.now p t.0 first o.0 _ _ _ there is (omega (arith, ints, fits), omega (arith, ints, fits)) o.2 in
     (first ∷ o.0, search (rules, block), search (rules, c.from.ensures), λ _. ap (set c.args.blocks.now c.args.k) (o.1 ∙ ap (λ (q : ℤ). q ∷ o.0) (to_z-of_z w16 first fits)))
+
+pub returns-in_err-read_others-clause-front : goal.returns-in_err-read_others-clause-front
+returns-in_err-read_others-clause-front c = λ _. search (rules, take-set c.args.blocks.now c.args.k c.read_others.new.block)
+
+pub returns-clause-front : goal.returns-clause-front
+returns-clause-front c = λ _. search (rules, take-set c.args.blocks.now c.args.k c.read_others.new.block)
