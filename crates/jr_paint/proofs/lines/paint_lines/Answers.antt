@@ -1,5 +1,6 @@
 use Rattle.std.proofs.Common.{◌≡◌, ◌+◌, ◌*◌, ◌-◌, ◌≤◌, ◌++◌, ◌∙◌, ap, sym, length, take, arith, rules}
 use Rattle.std.proofs.Math.Nat.{add-mul}
+use Rattle.std.proofs.lemmas.List.{take_all}
 use Rattle.std.proofs.lemmas.Slice.{take-put_mid}
 use borrow.Rule.Slice.PartMut.{put_mid}
 use Rattle.jr_paint.specs.Lines.{next_lines_of, line_size}
@@ -25,3 +26,11 @@ lines-preserved g c =
       long = search rules;
       front = front ∙ ap (λ z. z ++ c.fill_lines.new.pixels) c.lines.invariant.front ∙ ap (λ z. next_lines_of h f c.args.y c.lines.painted ++ z) c.fill_lines.ensures ∙ sym (next_lines_more h f c.args.y c.lines.painted more);
     }
+
+pub returns : goal.returns
+returns g c =
+    let h = g.S.Samples.head_of c.args.samples.now in
+    let all : c.lines.painted ≡ c.args.count = omega (arith, c.lines.invariant.within, c.lines-test.false) in
+    let filled : c.lines.filled ≡ c.args.count * line_size h = c.lines.invariant.filled ∙ ap (λ n. n * line_size h) all in
+    let long : length c.lines.pixels ≤ c.lines.filled = omega (arith, filled, c.lines.invariant.long, c.requires.pixels) in
+    sym (take_all c.lines.filled c.lines.pixels long) ∙ c.lines.invariant.front ∙ ap (λ n. next_lines_of h (g.S.Samples.shown c.args.samples.now) c.args.y n) all
