@@ -4,7 +4,9 @@ use crate::commands::{compare_field, file_of};
 use crate::differences::{Differences, Subject, compare_numbers};
 use crate::failure::Failure;
 use crate::row::field;
-use jri_archive::{Entry, EntryKind, Folder, Lists, ReadError, StateError, Streams, program};
+use jri_archive::{
+    Entry, EntryKind, Folder, Lists, NoProgress, ReadError, StateError, Streams, program,
+};
 use std::alloc::Global;
 use std::io::{Cursor, Error, ErrorKind, Result as IoResult, Write};
 use std::sync::{Mutex, Wait};
@@ -191,7 +193,7 @@ fn run_on<'a, R: Threads + Wait + Sync>(
     let streams = Streams {
         out,
         errors,
-        progress: None,
+        progress: NoProgress,
     };
     let (folder, lists) = (Shelf { table }, Shelf { table });
     program(rt, alloc, folder, &lists, Ok(words), streams).status()

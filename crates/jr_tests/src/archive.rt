@@ -2,8 +2,8 @@
 //! them: the reading of each waits for that of the other.
 
 use jri_archive::{
-    CheckRequest, Entry, FileCounts, Folder, ReadError, Source, State, append_counts_line, asked,
-    check_all, write_counts_line,
+    CheckRequest, Entry, FileCounts, Folder, NoProgress, ReadError, Source, State,
+    append_counts_line, asked, check_all, write_counts_line,
 };
 use std::alloc::Global;
 use std::io::{BufReader, Cursor};
@@ -93,10 +93,9 @@ fn two_files_are_read_at_once(rt: HostRuntime) -> Result<(), Fail> {
         met: &met,
     };
     let state: Option<State<Vec<u8>>> = None;
-    let nowhere: Option<Vec<u8>> = None;
     let out = Vec::new(rt.alloc());
     let source = Source { folder, state };
-    let (report, lines) = check_all(&rt, rt.alloc(), source, asked, NO_LIST, out, nowhere);
+    let (report, lines) = check_all(&rt, rt.alloc(), source, asked, NO_LIST, out, NoProgress);
     assert!(rt; met.load(Ordering::SeqCst) == 2);
     assert!(rt; report.counts.refused == 2);
     let expected = "a: refused 1: not a JPEG file\nb: refused 1: not a JPEG file\n";

@@ -2,8 +2,8 @@
 
 use crate::archive::{NO_LIST, request_of};
 use jri_archive::{
-    CheckEnd, CheckReport, Entry, FileRecord, Folder, ReadError, RecordedState, Source, Stamp,
-    State, StateError, check_all, parse_record, read_state, record_line,
+    CheckEnd, CheckReport, Entry, FileRecord, Folder, NoProgress, ReadError, RecordedState, Source,
+    Stamp, State, StateError, check_all, parse_record, read_state, record_line,
 };
 use std::alloc::Global;
 use std::io::{Cursor, Result as IoResult, Write};
@@ -278,8 +278,15 @@ fn run_of<R: Threads + Wait + Sync + AllocGlobal>(
         folder,
         state: Some(state),
     };
-    let nowhere: Option<Vec<u8>> = None;
-    let (report, lines) = check_all(rt, alloc, source, asked, NO_LIST, Vec::new(alloc), nowhere);
+    let (report, lines) = check_all(
+        rt,
+        alloc,
+        source,
+        asked,
+        NO_LIST,
+        Vec::new(alloc),
+        NoProgress,
+    );
     let reads = reads.load(Ordering::SeqCst);
     Ok((report.status(), reads, lines, bytes.into_inner()))
 }
@@ -411,8 +418,15 @@ fn run_into<R: Threads + Wait + Sync + AllocGlobal, const N: usize>(
         folder,
         state: Some(state),
     };
-    let nowhere: Option<Vec<u8>> = None;
-    let (report, _) = check_all(rt, alloc, source, asked, NO_LIST, Vec::new(alloc), nowhere);
+    let (report, _) = check_all(
+        rt,
+        alloc,
+        source,
+        asked,
+        NO_LIST,
+        Vec::new(alloc),
+        NoProgress,
+    );
     Ok(report)
 }
 

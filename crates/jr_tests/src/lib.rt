@@ -21,6 +21,8 @@ mod idct;
 #[cfg(test)]
 mod plain;
 #[cfg(test)]
+mod progress;
+#[cfg(test)]
 mod scan;
 #[cfg(test)]
 mod wall;

@@ -11,11 +11,12 @@ use crate::map::{TellError, write_breaks, write_map_in};
 use crate::names::NamesError;
 use crate::one_check::OneCheck;
 use crate::outcome::Outcome;
+use crate::progress::{Progress, Reported};
 use crate::state_record::FileRecord;
 use crate::text_lines::{append_counts_line, append_file_line};
 use jr_mend::Break;
 use std::alloc::Global;
-use std::io::{Error, Write};
+use std::io::Write;
 use std::marker::{Model, PhantomData};
 
 /// What the check of a file came to, and its bytes if a map of the damage needs them.
@@ -31,7 +32,7 @@ pub(crate) struct CheckedFile {
 
 /// The next line that is due, and the output of the lines.
 #[derive(Drop)]
-pub(crate) struct FileQueue<S: OneCheck, O, E> {
+pub(crate) struct FileQueue<S: OneCheck, O, P> {
     form: LineForm,
     /// The number of files, if it is known.
     files: Option<u64>,
@@ -42,12 +43,12 @@ pub(crate) struct FileQueue<S: OneCheck, O, E> {
     /// The number of files that are reported.
     told: u64,
     out: O,
-    progress: Option<E>,
+    progress: P,
     report: CheckReport,
     _of: PhantomData<S>,
 }
 
-impl<S: OneCheck, O, E> Model for FileQueue<S, O, E> {
+impl<S: OneCheck, O, P> Model for FileQueue<S, O, P> {
     ghost use Rattle.jri_archive.specs.Told.{IsQueueOf, QueueValue};
 
     ghost Value = { QueueValue };
@@ -119,30 +120,9 @@ pub(crate) fn write_counts<O: Write>(
     Ok(())
 }
 
-/// Writes the progress, or erases it on a terminal.
-fn write_progress<E: Write>(
-    errors: &mut E,
-    told: u64,
-    files: Option<u64>,
-    is_shown: bool,
-) -> Result<(), Error> {
-    match files {
-        None if is_shown => write!(errors, "\r\x1B[K{told} files"),
-        Some(files) if is_shown && told < files => {
-            write!(errors, "\r\x1B[K{told} of {files} files")
-        }
-        _ => write!(errors, "\r\x1B[K"),
-    }
-}
-
-impl<S: OneCheck, O: Write, E: Write + Drop> FileQueue<S, O, E> {
+impl<S: OneCheck, O: Write, P: Progress + Drop> FileQueue<S, O, P> {
     /// Returns a queue of which no file is reported yet. `files` is their number, if it is known.
-    pub(crate) fn of(
-        form: LineForm,
-        files: Option<u64>,
-        out: O,
-        progress: Option<E>,
-    ) -> FileQueue<S, O, E>
+    pub(crate) fn of(form: LineForm, files: Option<u64>, out: O, progress: P) -> FileQueue<S, O, P>
         requires few { (names : List (List ℕ)) → S.names ≡ Some names → length names < 2 ^ 64 }
         requires all { (names : List (List ℕ)) → S.names ≡ Some names → files ≡ Some (length names) }
     {
@@ -204,14 +184,30 @@ impl<S: OneCheck, O: Write, E: Write + Drop> FileQueue<S, O, E> {
         self.checked = self.checked.saturating_add(1);
     }
 
-    /// Shows the progress, or erases it on a terminal.
-    fn show_progress(&mut self, is_shown: bool)
+    /// Shows how far the run is.
+    fn show_progress(&mut self)
         ensures { self.new ≡ self.old }
     {
-        let (told, files) = (self.told, self.files);
-        if let Some(errors) = &mut self.progress {
-            let _ = write_progress(errors, told, files, is_shown);
-            let _ = errors.flush();
+        let (files, all) = (self.told, self.files);
+        let damaged = self.report.counts.damaged;
+        self.progress.show(Reported {
+            files,
+            damaged,
+            all,
+        });
+    }
+
+    /// Makes way for the lines of a file in this state, unless none is written.
+    fn make_way(&mut self, state: FileState)
+        ensures { self.new ≡ self.old }
+    {
+        let LineForm {
+            is_quiet,
+            has_map,
+            ..
+        } = self.form;
+        if has_map || !(is_quiet && state == FileState::Sound) {
+            self.progress.make_way();
         }
     }
 
@@ -258,7 +254,7 @@ impl<S: OneCheck, O: Write, E: Write + Drop> FileQueue<S, O, E> {
         ensures { result.0.end ≡ CheckEnd.AllTold → (names : List (List ℕ)) → S.names ≡ Some names → AreTold S.may_be names (length names) result.0.counts }
     {
         let mut queue = self;
-        queue.show_progress(false);
+        queue.progress.end();
         if queue.report.end == CheckEnd::AllTold && !queue.has_told_all() {
             queue.end(CheckEnd::Memory);
         }
@@ -285,9 +281,9 @@ impl<S: OneCheck, O: Write, E: Write + Drop> FileQueue<S, O, E> {
         requires bytes { IfSome file.now.bytes (λ b. IsOutcomeOf b.items (plain_outcome file.now.outcome)) }
         requires next { (names : List (List ℕ)) → S.names ≡ Some names → (slice_get names self.old.told ≡ Some name.now) × S.may_be name.now file.now.outcome }
     {
-        self.show_progress(false);
+        let state = file.outcome.state();
+        self.make_way(state);
         if !self.is_over() {
-            let state = file.outcome.state();
             match write_lines(alloc, &mut self.out, name, file, self.form) {
                 Ok(()) => self.note(state),
                 Err(TellError::Write) => self.end(CheckEnd::Unwritten),
@@ -295,6 +291,6 @@ impl<S: OneCheck, O: Write, E: Write + Drop> FileQueue<S, O, E> {
             }
         }
         self.pass_over();
-        self.show_progress(true);
+        self.show_progress();
     }
 }

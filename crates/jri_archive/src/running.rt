@@ -9,6 +9,7 @@ use crate::answers::{CheckRequest, RequestError};
 use crate::asking::asked;
 use crate::counts::{CheckEnd, CheckReport};
 use crate::in_step::InStepFolder;
+use crate::progress::Progress;
 use crate::reading::{Folder, ReadError};
 use crate::sharing::check_all;
 use crate::source::Source;
@@ -64,11 +65,11 @@ pub trait Lists {
 
 /// The streams of a run.
 #[derive(Drop)]
-pub struct Streams<O, E> {
+pub struct Streams<O, E, P> {
     pub out: O,
     pub errors: E,
-    /// The same stream as `errors` if it is a terminal.
-    pub progress: Option<E>,
+    /// Shows how far the run is.
+    pub progress: P,
 }
 
 /// An output, and whether its reader has gone away.
@@ -190,13 +191,14 @@ pub fn program<
     L: Lists,
     O: Write + Send + Drop,
     E: Write + Send + Drop,
+    P: Progress + Send + Drop,
 >(
     rt: &R,
     alloc: Global,
     folder: F,
     lists: &L,
     words: Result<Vec<Vec<u8>>, AllocError>,
-    streams: Streams<O, E>,
+    streams: Streams<O, E, P>,
 ) -> Ended
     ensures memory { IfErr words (λ _. result.status ≡ 4) }
 {

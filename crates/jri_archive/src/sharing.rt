@@ -13,6 +13,7 @@ use crate::map::TellError;
 use crate::names::{FileNames, NamedFile, NamesError};
 use crate::one_check::OneCheck;
 use crate::outcome::Outcome;
+use crate::progress::Progress;
 use crate::reading::{Folder, ReadError};
 use crate::source::{Content, Source};
 use std::alloc::Global;
@@ -45,18 +46,18 @@ impl<S: OneCheck, I: Read + Drop> Model for NameQueue<S, I> {
 
 /// What the workers share.
 #[derive(Drop)]
-struct Sharing<S: OneCheck, F: Folder, I: Read + Drop, O, E, W> {
+struct Sharing<S: OneCheck, F: Folder, I: Read + Drop, O, P, W> {
     alloc: Global,
     source: Source<F, W>,
     workers: u32,
     has_map: bool,
     names: Mutex<NameQueue<S, I>>,
-    desk: Mutex<FileQueue<S, O, E>>,
+    desk: Mutex<FileQueue<S, O, P>>,
     /// Signalled when a file is reported.
     has_told: Condvar,
 }
 
-impl<S: OneCheck, F: Folder, I: Read + Drop, O, E, W> Model for Sharing<S, F, I, O, E, W> {
+impl<S: OneCheck, F: Folder, I: Read + Drop, O, P, W> Model for Sharing<S, F, I, O, P, W> {
     ghost use Rattle.std.specs.Prelude.{ℕ, List};
     ghost use Rattle.jri_archive.specs.declared.source.Source.{Source};
     ghost use Rattle.jri_archive.specs.Told.{AreChecksOf, HasRecord};
@@ -116,9 +117,9 @@ impl<
     F: Folder + Sync,
     I: Read + Send + Drop,
     O: Write + Send + Drop,
-    E: Write + Send + Drop,
+    P: Progress + Send + Drop,
     W: Write + Send + Drop,
-> Sharing<S, F, I, O, E, W> {
+> Sharing<S, F, I, O, P, W> {
     /// Returns the next name, if there is one, and the number of claimed names then.
     fn next_name<R: Wait>(&self, rt: &R) -> (Result<Option<(u64, NamedFile)>, NamesError>, u64)
         ensures { IfOk result.0 (λ o. IfSome o (λ c. IsClaimOf S.names c.0 c.1)) }
@@ -194,7 +195,7 @@ impl<
     fn record<R: Wait>(
         &self,
         rt: &R,
-        desk: &mut FileQueue<S, O, E>,
+        desk: &mut FileQueue<S, O, P>,
         name: &[u8],
         file: &CheckedFile,
     )
@@ -265,7 +266,7 @@ fn check_as<
     F: Folder + Sync + Drop,
     I: Read + Send + Drop,
     O: Write + Send + Drop,
-    E: Write + Send + Drop,
+    P: Progress + Send + Drop,
     W: Write + Send + Drop,
 >(
     rt: &R,
@@ -274,7 +275,7 @@ fn check_as<
     asked: CheckRequest,
     list: Option<BufReader<I>>,
     out: O,
-    progress: Option<E>,
+    progress: P,
 ) -> (CheckReport, O)
     requires names { S.names ≡ given_names list asked.is_recursive asked.names.items }
     requires checks { AreChecksOf (F.holds source.folder) (F.fails source.folder) (F.stamps source.folder) (HasRecord source.state) S.may_be }
@@ -283,7 +284,7 @@ fn check_as<
     let names = FileNames::of(alloc, asked.names, list, asked.is_recursive);
     let files = names.left();
     let (workers, form) = (asked.workers, asked.form);
-    let sharing: Sharing<S, F, I, O, E, W> = Sharing {
+    let sharing: Sharing<S, F, I, O, P, W> = Sharing {
         alloc,
         source,
         workers,
@@ -298,7 +299,7 @@ fn check_as<
 
 /// Checks each file, `workers` at once, and writes a line for each, in their order, each by one write; with `has_map`
 /// also one for each damaged interval. `list` has further names, each ended by a NUL byte, and is read as files are
-/// checked. `progress` gets the number of files so far, if there is one. With a state file, files whose records are
+/// checked. `progress` shows how far the run is. With a state file, files whose records are
 /// unchanged are not read, unless it is verified; the others are recorded in it once their lines are written.
 ///
 /// For each worker it allocates about the size of the file that it checks, in which its scan is cut; with `has_map` about
@@ -309,7 +310,7 @@ pub fn check_all<
     F: Folder + Sync + Drop,
     I: Read + Send + Drop,
     O: Write + Send + Drop,
-    E: Write + Send + Drop,
+    P: Progress + Send + Drop,
     W: Write + Send + Drop,
 >(
     rt: &R,
@@ -318,12 +319,12 @@ pub fn check_all<
     asked: CheckRequest,
     list: Option<BufReader<I>>,
     out: O,
-    progress: Option<E>,
+    progress: P,
 ) -> (CheckReport, O)
     ensures { result.0.end ≡ CheckEnd.AllTold → IfNone list (asked.is_recursive ≡ false → AreTold (IsCheckOf (F.holds source.folder) (F.fails source.folder) (F.stamps source.folder) (HasRecord source.state)) (map (λ w. w.items) asked.names.items) (length asked.names.items) result.0.counts) }
 {
     let (form, has_counts) = (asked.form, asked.has_counts);
-    let (report, mut out) = check_as::<Brand, R, F, I, O, E, W>(
+    let (report, mut out) = check_as::<Brand, R, F, I, O, P, W>(
         rt, alloc, source, asked, list, out, progress,
     );
     let report = with_counts(alloc, &mut out, report, has_counts, form.is_json);

@@ -4,8 +4,8 @@
 
 use jr_base::limits::MAX_FILE_BYTES;
 use jri_archive::{
-    Ended, Entry, EntryKind, Folder, Lists, ReadError, Stamp, StateError, Streams, program,
-    words_of,
+    Ended, Entry, EntryKind, Folder, Lists, ReadError, Stamp, StateError, Streams,
+    TerminalProgress, program, words_of,
 };
 use std::alloc::{AllocError, Global};
 use std::fs;
@@ -320,14 +320,15 @@ impl<'a> Lists for Disk<'a> {
 
 fn main(rt: HostRuntime) -> Ended {
     let alloc: Global = rt.alloc();
-    let errors = rt.stderr();
-    let progress = if errors.is_terminal() {
+    let (out, errors) = (rt.stdout(), rt.stderr());
+    let terminal = if errors.is_terminal() {
         Some(rt.stderr())
     } else {
         None
     };
+    let progress = TerminalProgress::of(&rt, terminal, out.is_terminal());
     let streams = Streams {
-        out: rt.stdout(),
+        out,
         errors,
         progress,
     };

@@ -6,7 +6,7 @@ use Rattle.jri_archive.proofs.file_queue.FileQueue.write_due.Goals as goal
 pub note-requires : goal.note-requires
 note-requires g c = record {
   next = λ names known.
-      let at : c.self.inside.told ≡ c.args.self.now.told = ap (λ (v : QueueValue). v.told) (c.self.view_is ∙ c.show_progress.ensures) in
+      let at : c.self.inside.told ≡ c.args.self.now.told = ap (λ (v : QueueValue). v.told) (c.self.view_is ∙ c.make_way.ensures) in
       let named = subst (λ (n : ℕ). slice_get names n ≡ Some c.args.name.now) (sym at) (c.requires.next names known).0 in (
         slice_get_within names c.self.inside.told c.args.name.now named,
         (
