@@ -43,7 +43,7 @@ fn entries_of(alloc: Global, names: &str) -> Result<Vec<Entry>, NotationError> {
     Ok(entries)
 }
 
-/// Returns the name of a directory that a line of the table gives, and the names in it.
+/// Returns the name of a directory in a line of the table, and the names in it.
 fn directory_of(line: &str) -> Option<(&str, &str)> {
     line.strip_prefix("/ ")?.split_once(" | ")
 }
@@ -116,7 +116,7 @@ impl Lists for Shelf<'_> {
     }
 }
 
-/// An output that takes a number of bytes. A bar follows each write that does not end with a line.
+/// An output with space for a number of bytes. A bar follows each write that does not end with a line.
 #[derive(Drop)]
 struct Stream<'a, R> {
     rt: &'a R,
@@ -155,7 +155,7 @@ fn words_of(alloc: Global, before: &str, words: &str) -> Result<Vec<Vec<u8>>, No
     Ok(all)
 }
 
-/// Returns the number of bytes that standard output takes, and why it takes no more.
+/// Returns the number of bytes for which standard output has space, and the error of a write past them.
 fn limit_of(settings: &str) -> Result<(usize, ErrorKind), Failure> {
     let (digits, refusal) = match settings.split_once(' ') {
         Some((digits, "reader-gone")) => (digits, ErrorKind::BrokenPipe),

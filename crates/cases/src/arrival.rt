@@ -18,14 +18,14 @@ use std::alloc::Global;
 /// A file of more bytes does not come in small parts.
 const LONG: usize = 1024;
 
-/// The number of bytes that come at once, and the most lines that are taken at once.
+/// The number of bytes that arrive at once, and the maximum number of lines that are returned at once.
 #[derive(Clone, Copy)]
 struct Pace {
     part: usize,
     lines: u32,
 }
 
-/// Returns the size of a line of the picture in bytes, and its height, once the header has come.
+/// Returns the size of a line of the image in bytes, and its height, once the header has arrived.
 fn size_of(partial_file: &PartialFile) -> Option<(usize, u32)> {
     let head = partial_file.head()?;
     Some((shape_of(head).line, head.height()))
@@ -66,7 +66,7 @@ fn take_lines(
     Ok(())
 }
 
-/// Pushes a file in parts, and appends the lines as they are settled.
+/// Pushes a file in parts, and appends the lines as they become final.
 fn push_parts(
     alloc: Global,
     partial_file: &mut PartialFile,
@@ -85,7 +85,7 @@ fn push_parts(
     Ok(())
 }
 
-/// Returns the lines of a scan's picture, starting at one.
+/// Returns the lines of a scan's image, starting at one.
 fn missing(alloc: Global, scan: &Scan, first: u32) -> Result<Vec<u8>, Memory> {
     let head = scan.head();
     let count = head.height().saturating_sub(first);
@@ -96,7 +96,7 @@ fn missing(alloc: Global, scan: &Scan, first: u32) -> Result<Vec<u8>, Memory> {
     Ok(pixels)
 }
 
-/// Appends the lines of a scan's picture, starting at one.
+/// Appends the lines of a scan's image, starting at one.
 fn put_missing(alloc: Global, scan: &Scan, first: u32, shown: &mut Vec<u8>) -> Result<(), Refusal> {
     match missing(alloc, scan, first) {
         Ok(pixels) => Ok(shown.extend_from_slice(pixels.as_slice())?),
@@ -116,7 +116,7 @@ fn finish(
     Ok(report_of(&scan, counts))
 }
 
-/// Lets a file arrive, and appends all lines of its picture.
+/// Lets a file arrive, and appends all lines of its image.
 fn arrive(alloc: Global, bytes: &[u8], pace: Pace, shown: &mut Vec<u8>) -> Result<Report, Refusal>
     requires { 0 < pace.part }
 {

@@ -46,7 +46,7 @@ fn put_report(text: &mut String, report: &DecodeReport) -> Result<(), AllocError
     )
 }
 
-/// Compares what a call gives.
+/// Compares what a call returns.
 pub(crate) fn compare_call(
     case: &Case<'_>,
     path: &str,
@@ -112,7 +112,7 @@ fn check_decoding(case: &Case<'_>, marks: &[u8], out: &mut Differences) {
     compare_call(case, "decode", pixels.as_slice(), &report, answer, out);
 }
 
-/// Reads a file's intervals, without a picture.
+/// Reads a file's intervals, without an image.
 fn check_marks_of(case: &Case<'_>, marks: &[u8], out: &mut Differences) {
     let mut found = out.bytes(case.alloc, BEFORE, marks.len());
     let mut report = DecodeReport::empty();
@@ -138,7 +138,7 @@ fn check_small_buffer(case: &Case<'_>, out: &mut Differences) {
     compare_numbers(out, case.at("no room"), wanted, found);
 }
 
-/// Compares the size of the picture with what the header says.
+/// Compares the size of the image with what the header says.
 fn check_header(case: &Case<'_>, out: &mut Differences) {
     let (width, height) = (case.header.width, case.header.height);
     let mut header = String::new(case.alloc);

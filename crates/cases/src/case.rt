@@ -26,7 +26,7 @@ pub(crate) struct Case<'a> {
     pub alloc: Global,
     pub row: &'a Row<'a>,
     pub bytes: &'a [u8],
-    /// The Netpbm text of the picture; nothing where the file is refused.
+    /// The Netpbm text of the image; empty if the file is refused.
     pub picture: &'a [u8],
     /// The report's lines, each with its end.
     pub report: &'a str,
@@ -40,7 +40,7 @@ impl<'a> Case<'a> {
         self.row.status == 2
     }
 
-    /// Returns the samples of the picture: what follows its header.
+    /// Returns the samples of the image: what follows its header.
     pub(crate) fn samples(&self) -> &'a [u8] {
         let size = (self.header.pixels as usize).min(self.picture.len());
         let (_header, samples) = self.picture.split_at(self.picture.len() - size);
@@ -63,7 +63,7 @@ impl<'a> Case<'a> {
         }
     }
 
-    /// Compares all that a path gives: the picture, or its samples, the report and the status.
+    /// Compares all results of a path: the image, or its samples, the report and the status.
     pub(crate) fn compare(
         &self,
         path: &str,
@@ -100,7 +100,7 @@ fn summed<R: Threads + Wait + Sync>(
     text
 }
 
-/// Returns the Netpbm text of a row's picture; nothing where the file is refused.
+/// Returns the Netpbm text of a row's image; empty if the file is refused.
 fn picture_of<R: Threads + Wait + Sync>(
     rt: &R,
     alloc: Global,

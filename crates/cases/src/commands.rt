@@ -27,7 +27,7 @@ struct Command<'a> {
     files: &'a str,
 }
 
-/// Returns the name and the notation of the file that a line of the table gives.
+/// Returns the name and the notation of the file in a line of the table.
 pub(crate) fn file_of(line: &str) -> Option<(&str, &str)> {
     line.strip_prefix("= ")?.split_once(" | ")
 }
@@ -63,7 +63,7 @@ fn machine_of(alloc: Global, table: &str, command: &Command<'_>) -> Result<Machi
     Ok(machine)
 }
 
-/// Returns the arguments of a command; two texts stand for arguments that cannot be read.
+/// Returns the arguments of a command; two texts mean arguments that cannot be read.
 fn words_of(alloc: Global, line: &str) -> IoResult<Vec<String>> {
     match line {
         "<no text>" => return Err(Error::from(ErrorKind::InvalidData)),

@@ -1,4 +1,4 @@
-//! Lines for differences from a row, with the path that shows each.
+//! Lines for differences from a row, with the path in which each occurs.
 
 use crate::failure::Failure;
 use std::alloc::{AllocError, Global};

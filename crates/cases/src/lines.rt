@@ -16,7 +16,7 @@ const LINES: u32 = 3;
 /// The number of lines that are decoded alone is about so great.
 const CALLS: u32 = 16;
 
-/// The number of bytes by which a line of a canvas is longer than one of the picture.
+/// The number of bytes by which a line of a canvas is longer than one of the image.
 const SPARE: usize = 5;
 
 /// Returns the bytes of the given number of lines starting at one.
@@ -40,7 +40,7 @@ fn check_lines_at(case: &Case<'_>, first: u32, out: &mut Differences) {
     compare_bytes(out, case.at("some lines"), wanted, pixels.as_slice());
 }
 
-/// Decodes lines that start at several lines of the picture.
+/// Decodes lines that start at several lines of the image.
 fn check_some_lines(case: &Case<'_>, out: &mut Differences) {
     let height = case.header.height;
     let step = height.div_ceil(CALLS).max(1);
@@ -49,7 +49,7 @@ fn check_some_lines(case: &Case<'_>, out: &mut Differences) {
     }
 }
 
-/// Decodes all lines, which has the report of the whole picture.
+/// Decodes all lines, which has the report of the whole image.
 fn check_all_lines(case: &Case<'_>, out: &mut Differences) {
     let (alloc, bytes, height) = (case.alloc, case.bytes, case.header.height);
     let mut pixels = out.bytes(alloc, 7, case.samples().len());
@@ -66,7 +66,7 @@ fn put_without_spare(lines: &mut Vec<u8>, canvas: &[u8], line: usize) -> Result<
     Ok(())
 }
 
-/// Decodes onto a canvas in the picture's own layout.
+/// Decodes onto a canvas in the image's own layout.
 fn check_canvas(case: &Case<'_>, out: &mut Differences) {
     let (alloc, line, bytes) = (case.alloc, case.line(), case.bytes);
     let stride = line.saturating_add(SPARE);

@@ -1,4 +1,4 @@
-//! A machine of memory: its standard streams, and a folder of files.
+//! A machine of memory: its standard streams, and a directory of files.
 
 use jri_engine::{Destination, Devices};
 use std::alloc::{AllocError, Global};
@@ -9,7 +9,7 @@ use std::rc::Rc;
 /// The bytes of a file or a stream, which all of its handles share.
 type Bytes = Rc<RefCell<Vec<u8>>>;
 
-/// An open file or stream, which takes a number of bytes more.
+/// An open file or stream, with space for a number of further bytes.
 #[derive(Drop)]
 pub(crate) struct Handle {
     bytes: Option<Bytes>,
@@ -54,7 +54,7 @@ impl Write for Handle {
     }
 }
 
-/// A file of the folder.
+/// A file of the directory.
 #[derive(Drop)]
 pub(crate) struct Named {
     pub(crate) name: String,
@@ -71,9 +71,9 @@ pub(crate) struct Machine {
     pub(crate) files: Vec<Named>,
     pub(crate) has_input_terminal: bool,
     pub(crate) has_output_terminal: bool,
-    /// The number of bytes that each output and each new file takes.
+    /// The number of bytes for which each output and each new file has space.
     pub(crate) room: usize,
-    /// Why it takes no more.
+    /// The error of a write past them.
     pub(crate) refusal: ErrorKind,
     pub(crate) can_rename: bool,
     pub(crate) can_create: bool,
@@ -95,7 +95,7 @@ fn copied(alloc: Global, bytes: &Bytes) -> Result<Vec<u8>, AllocError> {
 }
 
 impl Machine {
-    /// With nothing on standard input, an empty folder, and no terminal.
+    /// Returns a machine with nothing on standard input, an empty directory, and no terminal.
     pub(crate) fn new(alloc: Global) -> Result<Self, AllocError> {
         Ok(Machine {
             alloc,

@@ -15,7 +15,7 @@ use std::alloc::{AllocError, Global};
 /// A file of more bytes does not come in small parts.
 const LONG: usize = 1024;
 
-/// The top of a picture.
+/// The top of an image.
 const TOP: RowPlace = RowPlace {
     at: 0,
     bit: 0,
@@ -44,7 +44,7 @@ impl Reading {
         }
     }
 
-    /// Decodes at most the given number of rows to their lines in `pixels`, which has the whole picture, and returns the call's answer.
+    /// Decodes at most the given number of rows to their lines in `pixels`, of the whole image, and returns the status.
     fn decode(
         &mut self,
         alloc: Global,
@@ -63,7 +63,7 @@ impl Reading {
         answer
     }
 
-    /// Decodes the rows that a window makes final to their lines in `pixels`, and returns the call's answer.
+    /// Decodes the rows that a window makes final to their lines in `pixels`, and returns the call's status.
     fn decode_window(
         &mut self,
         alloc: Global,
@@ -157,8 +157,8 @@ fn in_windows(case: &Case<'_>, size: usize, pixels: &mut [u8]) {
     }
 }
 
-/// Compares the answers to windows that do not have the position: one that begins after the file's end, and one that ends
-/// before the scan header's.
+/// Compares the results of windows that do not have the position: one that begins after the file's end, and one that
+/// ends before the scan header's.
 fn compare_outside(case: &Case<'_>, pixels: &mut [u8], out: &mut Differences) {
     let after = FileBytes {
         from: u64::MAX,
@@ -214,7 +214,7 @@ fn by_index(case: &Case<'_>, pixels: &mut [u8], out: &mut Differences) {
     }
 }
 
-/// Compares a picture with a case's, and clears it.
+/// Compares an image with a case's, and clears it.
 fn compare_pixels(case: &Case<'_>, path: &str, pixels: &mut [u8], out: &mut Differences) {
     compare_bytes(out, case.at(path), case.samples(), pixels);
     pixels.fill(7);
@@ -227,7 +227,7 @@ fn compare_refusal(case: &Case<'_>, report: &RowsReport, out: &mut Differences) 
     compare_texts(out, case.at("rows"), case.report, found.as_str());
 }
 
-/// Decodes the rows of a case's file in several ways; `pixels` has space for its picture.
+/// Decodes the rows of a case's file in several ways; `pixels` has space for its image.
 fn check_ways(case: &Case<'_>, pixels: &mut [u8], out: &mut Differences) {
     let reading = by_rows(case, 1, pixels);
     if case.is_refused() {

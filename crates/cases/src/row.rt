@@ -23,7 +23,7 @@ pub(crate) struct Row<'a> {
     /// The lines of the report, separated by `/`.
     pub report: &'a str,
     pub status: u8,
-    /// The picture, in the notation of pictures; nothing where the file is refused.
+    /// The image, in the notation of images; empty if the file is refused.
     pub picture: &'a str,
     /// The lines of a check with a map, separated by `/`; nothing if its one line follows from the report.
     pub damaged: &'a str,

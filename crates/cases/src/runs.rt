@@ -28,7 +28,7 @@ pub(crate) fn compare_outcome(
     case.compare(path, samples, found, u32::from(status), out);
 }
 
-/// Compares the text of a picture, and its outcome.
+/// Compares the text of an image, and its outcome.
 pub(crate) fn compare_written(
     case: &Case<'_>,
     path: &str,
@@ -88,7 +88,7 @@ pub(crate) fn check_runs<R: Threads + Wait + Sync>(rt: &R, case: &Case<'_>, out:
     check_run(rt, case, rest, 64, "run with 64 workers", out);
 }
 
-/// Returns the picture of a file that one worker writes, and what the run comes to.
+/// Returns the image of a file that one worker writes, and the run's outcome.
 pub(crate) fn written<R: Threads + Wait + Sync>(
     rt: &R,
     alloc: Global,

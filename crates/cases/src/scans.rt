@@ -27,7 +27,7 @@ pub(crate) fn report_of(scan: &Scan, counts: Counts) -> Report {
     }
 }
 
-/// Writes the picture row after row with this number of workers.
+/// Writes the image row after row with this number of workers.
 fn check_crew<R: Threads + Wait + Sync>(
     rt: &R,
     case: &Case<'_>,
@@ -48,7 +48,7 @@ fn check_crew<R: Threads + Wait + Sync>(
     compare_written(case, path, text.into_inner().as_slice(), outcome, out);
 }
 
-/// Writes the picture of a board.
+/// Writes the image of a board.
 fn check_board(case: &Case<'_>, scan: &Scan, board: &Board, path: &str, out: &mut Differences) {
     let counts = board.headline();
     let mut text = Tally::of(Vec::new(case.alloc));
@@ -83,7 +83,7 @@ fn check_two<R: Threads + Wait + Sync>(
     }
 }
 
-/// Writes the pictures of a case's scan, if its file has one.
+/// Writes the images of a case's scan, if its file has one.
 pub(crate) fn check_scans<R: Threads + Wait + Sync>(
     rt: &R,
     case: &Case<'_>,

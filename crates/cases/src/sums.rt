@@ -1,4 +1,4 @@
-//! The CRC-32 of pictures.
+//! The CRC-32 of images.
 
 /// Returns the sum with a further byte.
 fn with_byte(sum: u32, byte: u8) -> u32 {

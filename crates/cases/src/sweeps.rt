@@ -1,5 +1,5 @@
-//! Files cut at each length and changed at each byte: each is refused and nothing is written, or its picture has the size that its
-//! header says.
+//! Files cut at each length and changed at each byte: each is refused and nothing is written, or its image has the size
+//! that its header says.
 
 use crate::buffers::header_of;
 use crate::differences::Differences;
@@ -14,7 +14,7 @@ use std::thread::Threads;
 use test_files::files::{front, with_byte};
 use test_files::pictures::header;
 
-/// Returns whether a picture has the first lines and the size that a header says.
+/// Returns whether an image has the first lines and the size that a header says.
 fn is_of_header(alloc: Global, text: &[u8], read: &Header, out: &mut Differences) -> bool {
     let magic = if read.components == 1 { "P5" } else { "P6" };
     let Ok(first_lines) = header(alloc, magic, read.width, read.height) else {

@@ -1,4 +1,4 @@
--- What a file that is still arriving holds, and what a look at it gives.
+-- What a file that is still arriving holds, and what a look at it returns.
 use Rattle.std.proofs.Common.{◌≡◌, ℕ, ◌+◌, ◌*◌, ◌<◌, ◌≤◌, Option, Some, None, List, ◌++◌, length, length-append, refl, sym, ap, subst, ◌∙◌, take, inl, inr, true, false, arith}
 use Rattle.std.specs.Option.{IfSome, is_some}
 use Rattle.std.proofs.lemmas.Bool.{cases_lt, lt-ltb}
@@ -16,13 +16,13 @@ use Rattle.jr_arrival.specs.Settled.{AreFinal, GivesNext, WantsMore}
 use Rattle.jr_arrival.proofs.HeadsStay.{head_stays}
 use Rattle.jr_arrival.proofs.ScansGoOn.{file_becomes}
 
--- with more bytes it holds the longer file's scan
+-- with more bytes the file holds the longer file's scan
 pub begun_stays : (c d : PartialImageValue) (bytes more : List ℕ) → length (bytes ++ more) ≤ MAX_FILE_BYTES → d.partial_scan.scan.head ≡ c.partial_scan.scan.head → d.bytes ≡ c.bytes + length more → (HasCome c.partial_scan bytes → HasCome d.partial_scan (bytes ++ more))
     → HasBegun c bytes → HasBegun d (bytes ++ more)
 begun_stays c d bytes more small head count come (h, has, n) =
     (subst (HeadOf (bytes ++ more)) (sym head) (head_stays bytes more small c.partial_scan.scan.head h), come has, count ∙ ap (λ (k : ℕ). k + length more) n ∙ sym (length-append bytes more))
 
--- lines of whatever the scan may become are those of every file that the bytes can become
+-- lines of every scan that the scan may become are those of every file that the bytes can become
 pub partial_final : (bytes : List ℕ) (part : PartialScanValue) (first count : ℕ) (pixels : List ℕ) → first + count ≤ part.scan.head.height → HeadOf bytes part.scan.head → HasCome part bytes → AreFinalLines part first count pixels → AreFinal bytes first count pixels
 partial_final bytes part first count pixels high head come are file t marks f can there shows =
     let becomes = file_becomes bytes file part t can head come there in
@@ -45,7 +45,7 @@ given_next c bytes first n pixels begun given =
       ];
     })
 
--- what holds where the scan has not begun
+-- the bytes are all kept if the scan has not begun
 pub none_kept : (kept : List ℕ) (o : Option PartialImageValue) (bytes : List ℕ) → is_some o ≡ false → HoldsBytes kept o bytes → kept ≡ bytes
 none_kept kept None bytes e h = h
 none_kept kept (Some c) bytes e h = absurd (let z : true ≡ false = e in cc)
@@ -59,7 +59,7 @@ pub look_given : (kept bytes : List ℕ) (o : Option PartialImageValue) (n : ℕ
 look_given kept bytes None n pixels holds none wants given = inl (none refl, wants refl)
 look_given kept bytes (Some c) n pixels holds none wants given = given_next c bytes c.row.lines n pixels holds given
 
--- what is too long
+-- a file that is too long is refused as such
 pub is_too_long : (bytes : List ℕ) → MAX_FILE_BYTES < length bytes → RefusalOf bytes TooLong
 is_too_long bytes l = let e = lt-ltb MAX_FILE_BYTES (length bytes) l in inl (rw e refl)
 

@@ -15,7 +15,7 @@ use Rattle.jr_scan.specs.Run.{EndsAs, HasNoMcu, IsRun, left_at, run_from}
 use Rattle.jr_arrival.specs.Meaning.{behind, with_before}
 
 module _ (i : IntervalValue) (front : List ℕ) where
-  -- the bits from a place on are the same
+  -- the bits starting at a position are the same
   pub left_behind : (p : Place) → left_at (with_before i front) (behind front p) ≡ left_at i p
   left_behind p =
       let seam : drop (8 * length front) (bits (front ++ i.bytes)) ≡ bits i.bytes =

@@ -1,4 +1,4 @@
--- A cursor that has come from a place between two rows of MCUs to a later one.
+-- A cursor that has moved from a position between two rows of MCUs to a later one.
 use Rattle.std.proofs.Common.{◌≡◌, ℕ, ◌+◌, ◌*◌, ◌<◌, ◌≤◌, List, refl, sym, ap, subst, ◌∙◌, arith}
 use Rattle.jr_head.specs.HeadValue.{HeadValue}
 use Rattle.jr_head.specs.Geometry.{mcus_across, mcus_down}
@@ -36,7 +36,7 @@ module _ (h : HeadValue) (f : FileBytes) (start p : RowPlace) (c : ScanCursor) (
   leaves_at leaves so_far s may is =
       leaves so_far s (subst (λ (g : FileBytes). MayBe (last_part (part_of g)) h so_far s) (sym come.file) may) (come.place so_far s (may_end (part_of f) h so_far s may) is).0
 
-  -- past the next row of MCUs, to the place after it
+  -- past the next row of MCUs, to the position after it
   pub comes_on : (d n : ScanCursor) (new : RowPlace) → p.row < mcus_down h → IsCursor h d → d.file ≡ c.file → StaysTrue h c d → mcus_before_place h d.interval d.mcu ≡ (p.row + 1) * mcus_across h
       → StaysIn d n → StaysTrue h d n → new.row ≡ p.row + 1 → new.interval ≡ d.interval → new.mcu ≡ d.mcu → ((whole : List ℕ) (t : ScanValue) → MayBe (part_of d.file) h whole t → IsCursorIn whole t d → IsPlaceIn (part_of d.file) whole t new) → HasCome h f start new n
   comes_on d n new inside is file over whole_row stays there next interval mcu place =

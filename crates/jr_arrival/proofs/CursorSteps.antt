@@ -1,4 +1,4 @@
--- Steps of a cursor, one behind the other.
+-- Steps of a cursor, one after the other.
 use Rattle.std.proofs.Common.{◌≡◌, ℕ, ◌+◌, ◌*◌, ◌<◌, refl, List, sym, ap, subst, ◌∙◌, arith}
 use Rattle.jr_head.specs.HeadValue.{HeadValue}
 use Rattle.jr_head.specs.Intervals.{mcus_in}
@@ -24,7 +24,7 @@ module _ (h : HeadValue) where
   pub passes_after : (c d e : ScanCursor) (n : ℕ) → PassesOver h c d 0 → PassesOver h d e n → PassesOver h c e n
   passes_after c d e n first second = record { is = second.is; file = second.file ∙ first.file; passed = omega (arith, second.passed, first.passed) }
 
-  -- MCUs of the interval are left where there were some
+  -- MCUs of the interval are left if there were some
   pub left_in : (c d : ScanCursor) (n : ℕ) → n ≡ 0 → PassesOver h c d n → d.interval ≡ c.interval → c.mcu < mcus_in h c.interval → d.mcu < mcus_in h d.interval
   left_in c d n none over interval left = subst (λ (i : ℕ). d.mcu < mcus_in h i) (sym interval) (omega (arith, none, over.passed, ap (λ (i : ℕ). i * h.restart) interval, left))
 

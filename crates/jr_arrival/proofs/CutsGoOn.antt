@@ -64,7 +64,7 @@ cut_more n k at bytes more datas end not_file c = record {
   ends = ending_more n (k + length c.segments) (at + length (c.raw ++ with_markers k c.segments)) c.tail more end not_file c.ends;
 }
 
--- more bytes keep what is cut, and all of it where a marker ended the scan
+-- more bytes keep what is cut, and all of it if a marker has ended the scan
 pub cut_is_final : (n at : ℕ) (bytes more : List ℕ) (a : Cutting n at bytes) (b : Cutting n at (bytes ++ more)) → GrowsTo a.datas b.datas × (a.end ≢ EndOfFile → (b.datas ≡ a.datas) × (b.end ≡ a.end))
 cut_is_final n at bytes more a b = (
   goes_on n at bytes more a b,

@@ -1,4 +1,4 @@
--- The top is a place, and a place is one in other parts of its file.
+-- The top is a position, and a position is one in other parts of its file.
 use Rattle.std.proofs.Common.{◌≡◌, ℕ, ◌+◌, ◌-◌, ◌≤◌, Bool, List, [], ◌++◌, length, replicate, take, drop, map, refl, sym, ap, subst, ◌∙◌, length-append, arith}
 use Rattle.jr_cut.specs.Cut.{CodedSegment, CutFrom, IsRaw}
 use Rattle.jr_cut.proofs.CutLaw.{one_cut}

@@ -1,4 +1,4 @@
--- Where a scan goes on: from an offset of the file to a later one.
+-- How a scan continues: from an offset of the file to a later one.
 use Rattle.std.proofs.Common.{◌≡◌, ◌≢◌, ℕ, ◌+◌, ◌-◌, ◌%◌, ◌<◌, ◌≤◌, ◌⊎◌, inl, inr, List, [], ◌∷◌, ◌++◌, length, replicate, take, drop, get_or, sym, ap, subst, ◌∙◌, append_assoc, arith}
 use Rattle.std.proofs.lemmas.List.{append-nil, drop-drop, get_or-drop}
 use Rattle.jr_base.specs.declared.marker.TheConstants.{PREFIX, RST0}
@@ -19,9 +19,9 @@ pub ending_more : (n k at : ℕ) (tail more : List ℕ) (end : ScanEnd) → (end
 ending_more n k at tail more end (inl not_file) h = marked_more n k at tail more end not_file h
 ending_more n k at tail more end (inr none) h = subst (λ (t : List ℕ). IsEnding n k at t end) (sym (ap (λ (x : List ℕ). tail ++ x) none ∙ append-nil tail)) h
 
--- ---- where a scan goes on
+-- ---- how a scan continues
 
--- what is left behind data that is spelled
+-- what is left after data that is spelled
 pub record OnBy (whole : List ℕ) (t : ScanValue) (i at : ℕ) (before found rest : List ℕ) : Type 0 where
   pub on : GoesOnAt whole t i at (before ++ found)
   pub is : rest ≡ found ++ on.rest

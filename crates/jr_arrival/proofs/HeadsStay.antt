@@ -1,4 +1,4 @@
--- A head that is accepted, and a fault, are those of more bytes.
+-- A header that is accepted, and a fault, are those of more bytes.
 use Rattle.std.proofs.Common.{◌≡◌, inl, inr, ℕ, ◌+◌, ◌-◌, ◌≤◌, Bool, true, false, List, [], ◌∷◌, ◌++◌, length, refl, sym, ap, subst, ◌∙◌, append_assoc, length-append, arith}
 use Rattle.std.specs.Prelude.{Some, not, ◌&&◌, ◌==◌, nat_lt}
 use Rattle.std.specs.List.{flat_map}

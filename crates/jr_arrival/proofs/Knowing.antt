@@ -1,4 +1,4 @@
--- Which MCUs of an interval its data so far settle.
+-- Which MCUs of an interval its data so far make final.
 use Rattle.std.proofs.Common.{◌≡◌, ℕ, ◌+◌, ◌*◌, ◌<◌, ◌≤◌, inl, inr, Bool, List, ◌++◌, length, take, drop, refl, sym, ap, subst, ◌∙◌, append_assoc, length-append, arith}
 use Rattle.std.specs.Prelude.{ℤ}
 use Rattle.std.proofs.lemmas.Bool.{cases_lt}
@@ -25,7 +25,7 @@ use Rattle.jr_arrival.specs.More.{with_more}
 use Rattle.jr_arrival.proofs.Longest.{none_in_long}
 use Rattle.jr_arrival.proofs.MoreData.{bits_more, run_is_final}
 
--- ---- the bits past a front
+-- ---- the bits past a prefix
 
 pub same_rest : (i : IntervalValue) (j k : ℕ) (ys zs : List (List ℤ)) → j ≡ k → (a : Front i j ys) (b : Front i k zs) → a.rest ≡ b.rest
 same_rest i j k ys zs e a b =
@@ -37,13 +37,13 @@ rest_left i k ys zs p a r =
     let b : Front i k zs = record { at_most = a.at_most; taken = r.taken; rest = left_at i p; mcus = subst (λ (n : ℕ). Mcus i.head no_predictions n zs r.taken) r.ends r.mcus; spelled = r.spelled } in
     same_rest i k k ys zs refl a b
 
--- two longest fronts have as many MCUs
+-- two longest prefixes have the same number of MCUs
 pub same_longest : (i : IntervalValue) (j k : ℕ) (ys zs : List (List ℤ)) → LongestFront i j ys → LongestFront i k zs → j ≡ k
 same_longest i j k ys zs a b = omega (arith, a.longest k zs b.front, b.longest j ys a.front)
 
 -- ---- an MCU that never becomes whole
 
--- no MCU begins the bits past a longest front
+-- no MCU begins the bits past a longest prefix
 none_past : (i : IntervalValue) (k : ℕ) (zs : List (List ℤ)) (p : Place) → IsLawful i.head → LongestFront i k zs → k < i.mcus → IsRun (run_from i start_of_interval k) zs p AllRead → HasNoMcu i p
 none_past i k zs p lawful l lt r ys taken rest m e =
     let q : Place = record { bit = p.bit + length taken; predictions = predicted i.head p.predictions ys } in
@@ -55,7 +55,7 @@ none_past i k zs p lawful l lt r ys taken rest m e =
     let longer = l.longest (k + 1) (zs ++ ys) (front_of_run i (k + 1) (zs ++ ys) q both (omega (arith, lt))) in
     omega (arith, longer)
 
--- where so many bits are left past it, it stays the longest
+-- if the maximum number of bits of an MCU is left past it, it stays the longest
 longest_stays : (i : IntervalValue) (more : List ℕ) (k : ℕ) (zs : List (List ℤ)) → IsLawful i.head → (l : LongestFront i k zs) → MCU_BITS ≤ length l.front.rest → (j : ℕ) (ys : List (List ℤ)) → Front (with_more i more) j ys → j ≤ k
 longest_stays i more k zs lawful l long j ys f = elim (cases_lt k j) [
   | inr g ↦ g
@@ -79,7 +79,7 @@ longest_stays i more k zs lawful l long j ys f = elim (cases_lt k j) [
       absurd (let z : NoMcu ≡ AllRead = e in cc)
 ]
 
--- the longest front, and as many bits as an MCU has at most past it
+-- the longest prefix, with at least the maximum number of bits of an MCU past it
 abbrev pub HasLongRest : IntervalValue → ℕ → List (List ℤ) → Type 0
 HasLongRest i k zs = (l : LongestFront i k zs) × (MCU_BITS ≤ length l.front.rest)
 
@@ -101,9 +101,9 @@ never_stays i more mcu lawful n =
     let stays = long_rest_stays i more n.front n.blocks lawful (n.longest, n.long) in
     record { front = n.front; blocks = n.blocks; few = n.few; longest = stays.0; long = stays.1 }
 
--- ---- how many of an interval's MCUs are settled
+-- ---- the number of an interval's MCUs that are final
 
--- the next MCU of a front that may become longer is not
+-- the next MCU of a prefix that may become longer is not known
 pub not_known : (i : IntervalValue) (mcu : ℕ) → MayGrow i mcu → IsKnown i mcu → ⊥
 not_known i mcu g (inl w) = let longer = g.longest.longest (mcu + 1) w.0 w.1 in omega (arith, longer)
 not_known i mcu g (inr n) =
@@ -111,13 +111,13 @@ not_known i mcu g (inr n) =
     let same = same_rest i n.front mcu n.blocks g.blocks e n.longest.front g.longest.front in
     omega (arith, n.long, g.short, ap length same)
 
--- the interval's data so far settle the MCUs before this one, and not this one
+-- the interval's data so far make the MCUs before this one final, and not this one
 pub record IsLimit (i : IntervalValue) (limit : ℕ) : Type 0 where
   pub few : limit ≤ i.mcus
   pub before : (mcu : ℕ) → mcu < limit → IsKnown i mcu
   pub none : limit < i.mcus → IsKnown i limit → ⊥
 
--- an MCU of a front is
+-- an MCU of a prefix is known
 known_in : (i : IntervalValue) (front : ℕ) (zs : List (List ℤ)) → Front i front zs → (mcu : ℕ) → mcu < front → IsKnown i mcu
 known_in i front zs f mcu lt = inl (take ((mcu + 1) * length (order_of i.head)) zs, shorter_front i (mcu + 1) front zs (omega (arith, lt)) f)
 
@@ -137,14 +137,14 @@ limit_by i front zs l = elim (cases_lt (length l.front.rest) MCU_BITS) [
 pub limit_of : (i : IntervalValue) → (limit : ℕ) × IsLimit i limit
 limit_of i = let far = longest_front one_word i in limit_by i far.0 far.1 far.2
 
--- no front reaches past it
+-- no prefix reaches past it
 pub front_few : (i : IntervalValue) (limit front : ℕ) (zs : List (List ℤ)) → IsLimit i limit → Front i front zs → front ≤ limit
 front_few i limit front zs l f = elim (cases_lt limit front) [
   | inl lt ↦ absurd (l.none (omega (arith, lt, f.at_most)) (known_in i front zs f limit lt))
   | inr g ↦ g
 ]
 
--- and all MCUs are before it where they never become whole
+-- and all MCUs are before it if they never become whole
 pub never_few : (i : IntervalValue) (limit mcu : ℕ) → IsLimit i limit → mcu ≤ i.mcus → (front : ℕ) (zs : List (List ℤ)) (l : LongestFront i front zs) → MCU_BITS ≤ length l.front.rest → mcu ≤ limit
 never_few i limit mcu l few front zs longest long = elim (cases_lt limit mcu) [
   | inl lt ↦ absurd (l.none (omega (arith, lt, few)) (inr (record { front = front; blocks = zs; few = front_few i limit front zs l longest.front; longest = longest; long = long })))

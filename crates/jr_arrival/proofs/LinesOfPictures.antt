@@ -1,4 +1,4 @@
--- The lines of each picture of a scan.
+-- The lines of each image of a scan.
 use Rattle.std.proofs.Common.{◌≡◌, ℕ, ◌+◌, ◌-◌, ◌*◌, ◌/◌, ◌%◌, ◌<◌, ◌≤◌, List, [], length, get_or, sym, ap, subst, ◌∙◌, arith}
 use Rattle.jr_head.specs.HeadValue.{HeadValue}
 use Rattle.jr_head.specs.Geometry.{IsLawful, blocks_of, mcus_across, mcus_down, vertical_max, vertical_of}
@@ -21,7 +21,7 @@ use Rattle.jr_rows.proofs.FirstBoards.{first_board, shows_first}
 use Rattle.jr_rows.proofs.GroupLists.{units_long}
 use Rattle.jr_rows.proofs.PaintedRows.{row_painted}
 
--- two pictures of a scan have the same lines
+-- two images of a scan have the same lines
 pub one_lines : (t : ScanValue) (n : ℕ) (k m : List Mark) (f g : ℕ → ℕ → ℕ → ℕ) (first count : ℕ) → first + count ≤ t.head.height → ShowsFirst t n k f → ShowsFirst t n m g → next_lines_of t.head f first count ≡ next_lines_of t.head g first count
 one_lines t n k m f g first count high a b =
     let h = t.head in
@@ -32,7 +32,7 @@ one_lines t n k m f g first count high a b =
     same_samples one_decoding one_front t n k m f g a.picture b.picture a.first b.first c x ((first + j) * vertical_of h c / vertical_max h) p left
     (scaled_below (first + j) h.height (vertical_of h c) (vertical_max h) (sampled_at h c l p).down l.components.down (omega (arith, lt, high)))))
 
--- so those that each board of the scan shows are those of each picture
+-- so those that each board of the scan shows are those of each image
 pub of_picture : (t : ScanValue) (marks : List Mark) (f : ℕ → ℕ → ℕ → ℕ) (first count : ℕ) (pixels : List ℕ) → first + count ≤ t.head.height → ShowsFirst t (length t.intervals) marks f
     → ((b : BoardValue) → HasFirst t (length t.intervals) b → pixels ≡ next_lines_of t.head (samples_of b) first count) → pixels ≡ next_lines_of t.head f first count
 of_picture t marks f first count pixels high shows are =
@@ -40,7 +40,7 @@ of_picture t marks f first count pixels high shows are =
     let b = first_board outcome t n (omega arith) in
     are b.0 b.1 ∙ one_lines t n (marks_of b.0) marks (samples_of b.0) f first count high (shows_first t n b.0 b.1 shows.lawful) shows
 
--- a row whose data units are the picture's is painted as it
+-- a row whose data units are the image's is painted as the image
 module _ (t : ScanValue) (n row : ℕ) (groups : List (List ℕ)) (lawful : IsLawful t.head) (inside : row < mcus_down t.head)
     (shown : ShowsFirstUnits t n (row * mcus_across t.head) (mcus_across t.head) (units_in t.head groups)) (b : BoardValue) (first : HasFirst t n b) where
   abbrev h : HeadValue

@@ -1,4 +1,4 @@
--- The lines of settled rows of MCUs are those of every picture that the bytes can become.
+-- The lines of final rows of MCUs are those of every image that the bytes can become.
 use Rattle.std.proofs.Common.{◌≡◌, ◌≢◌, ℕ, ◌+◌, ◌*◌, ◌/◌, ◌%◌, ◌<◌, ◌≤◌, inl, inr, List, [], ◌++◌, length, get_or, take, refl, sym, ap, subst, ◌∙◌, arith}
 use Rattle.std.specs.Prelude.{ℤ}
 use Rattle.std.proofs.lemmas.Bool.{cases_lt}
@@ -35,7 +35,7 @@ use Rattle.jr_arrival.proofs.ScansGoOn.{interval_is, scan_is_final}
 
 -- ---- one interval
 
--- a longer front begins with a shorter one
+-- a longer prefix begins with a shorter one
 front_begins : (i : IntervalValue) (j k : ℕ) (ys zs : List (List ℤ)) → k ≤ j → Front i j ys → Front i k zs → (n : ℕ) → n < length zs → (n < length ys) × (block_of ys n ≡ block_of zs n)
 front_begins i j k ys zs le a b n lt =
     let per = length (order_of i.head) in
@@ -73,7 +73,7 @@ never_shown i f Damaged not_blank p mcu n c x y held le =
     let past : p.front * length (order_of i.head) ≤ mcu * length (order_of i.head) = mul-le-mul_right (length (order_of i.head)) (omega (arith, count, n.few)) in
     p.behind c x y held (omega (arith, p.longest.front.mcus.0, past, le))
 
--- ---- two pictures
+-- ---- two images
 
 pub interval_more : (s t : ScanValue) (i : ℕ) (rest : List ℕ) → t.head ≡ s.head → get_or t.intervals i [] ≡ get_or s.intervals i [] ++ rest → interval_of t i ≡ with_more (interval_of s i) rest
 interval_more s t i rest h d = interval_is s t i (get_or s.intervals i [] ++ rest) h d
@@ -119,7 +119,7 @@ module _ (bytes : List ℕ) (s t : ScanValue) (n : ℕ) (k m : List Mark) (f g :
             p c x y held ∙ sym (q c x y held')
       ]
 
-  -- both pictures are grey, or blank, at an MCU that never becomes whole
+  -- both images are grey, or blank, at an MCU that never becomes whole
   never_sample : (c x y : ℕ) → Holds (interval_of s (interval_number h (spot_of h c x y).mcu)) c x y
       → IsNeverWhole (interval_of s (interval_number h (spot_of h c x y).mcu)) (within_interval h (spot_of h c x y).mcu) → f c x y ≡ g c x y
   never_sample c x y held never =
@@ -149,7 +149,7 @@ module _ (bytes : List ℕ) (s t : ScanValue) (n : ℕ) (k m : List Mark) (f g :
       let held : Holds i c x y = record { component = lt; column = left; line = top; interval = refl } in
       elim settled [ inl e ↦ ended_sample c x y held e | inr known ↦ elim known [ inl w ↦ front_sample c x y w.0 held w.1 | inr never ↦ never_sample c x y held never ] ]
 
-  -- the row of MCUs that has a line is settled
+  -- the row of MCUs that has a line is final
   abbrev LineIsSettled : ℕ → Type 0
   LineIsSettled line = RowIsSettled bytes s (line / (8 * vertical_max h))
 

@@ -1,4 +1,4 @@
--- How many bits an MCU has at most (T.81, F.1.2): ten data units, each of a code and eleven bits and 63 codes and ten bits each.
+-- The maximum number of bits of an MCU (T.81, F.1.2): ten data units, each of a code and eleven bits and 63 codes and ten bits each.
 use Rattle.std.proofs.Common.{◌≡◌, ℕ, suc, ◌+◌, ◌*◌, ◌<◌, ◌≤◌, Bool, List, [], ◌∷◌, ◌++◌, length, get_or, take, drop, replicate, inl, inr, sym, ap, ◌∙◌, length-append, arith}
 use Rattle.std.specs.Prelude.{ℤ, pos}
 use Rattle.std.proofs.lemmas.List.{take-append-drop, take-append-le}
@@ -58,14 +58,14 @@ mcus_short h start k zs all m =
     let short = parts_short b.parts (λ n lt. block_short (dc_of h (component h n)) (ac_of h (component h n)) (prediction h start zs (component h n) n) (block_of zs n) (get_or b.parts n []) (b.each n (omega (arith, lt, b.count)))) in
     omega (arith, short, ap length b.spelled, b.count, m.0)
 
--- what begins a list that goes on begins it, where it is long enough
+-- the beginning of a longer list begins the list if this is long enough
 front_of : (taken rest left more : List Bool) → left ++ more ≡ taken ++ rest → length taken ≤ length left → left ≡ taken ++ drop (length taken) left
 front_of taken rest left more e short =
     let front : take (length taken) left ≡ taken =
     sym (take-append-le (length taken) left more short) ∙ ap (take (length taken)) e ∙ take-append_seam taken rest in
     sym (take-append-drop (length taken) left) ∙ ap (λ (b : List Bool). b ++ drop (length taken) left) front
 
--- where so many bits begin with no MCU, none begins them with more data behind
+-- if 16650 bits begin with no MCU, none begins them with more data after them
 pub none_in_long : (i : IntervalValue) (more : List ℕ) (p : Place) → length (order_of i.head) ≤ 10 → p.bit ≤ 8 * length i.bytes → 16650 ≤ length (left_at i p) → HasNoMcu i p → HasNoMcu (with_more i more) p
 none_in_long i more p few within long none ys taken rest m e =
     let short : length taken ≤ 16650 = omega (arith, mcus_short i.head p.predictions 1 ys taken m, few) in

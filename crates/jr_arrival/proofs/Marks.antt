@@ -1,4 +1,4 @@
--- How many intervals have a decoding.
+-- The number of intervals that have a decoding.
 use Rattle.std.proofs.Common.{◌≡◌, ℕ, ◌+◌, ◌<◌, Bool, cond, length, sym, subst, ◌∙◌, arith}
 use Rattle.jr_head.specs.Geometry.{mcus_down, mcus_of}
 use Rattle.jr_scan.specs.IntervalValue.{IntervalValue}
@@ -10,7 +10,7 @@ use Rattle.jr_rows.proofs.CursorSteps.{outcome_tells}
 use Rattle.jr_rows.proofs.ReadRows.{counts_both, counts_one}
 use Rattle.jr_rows.proofs.Countings.{all_last, none_first}
 
--- the marks of one interval more
+-- the marks after one more interval
 pub counted : (t : ScanValue) (i : IntervalValue) (number : ℕ) (before one more : Marked) (is_sound : Bool) → number < length t.intervals → CountsMarks t (length t.intervals) 0 number before → interval_of t number ≡ i → TellsSound is_sound i
     → one.sound ≡ cond is_sound 1 0 → one.damaged ≡ cond is_sound 0 1 → more.sound ≡ before.sound + one.sound → more.damaged ≡ before.damaged + one.damaged → CountsMarks t (length t.intervals) 0 (number + 1) more
 counted t i number before one more is_sound inside so_far same told s d sums sumd =

@@ -25,11 +25,11 @@ front_is_final i more k zs f = record {
   spelled = bits_more i.bytes more ∙ ap (λ (b : List Bool). b ++ bits more) f.spelled ∙ append_assoc f.taken f.rest (bits more);
 }
 
--- the bits from a place on, where the place lies among those so far
+-- the bits starting at a position, if this is among those so far
 pub left_more : (i : IntervalValue) (more : List ℕ) (p : Place) → p.bit ≤ 8 * length i.bytes → left_at (with_more i more) p ≡ left_at i p ++ bits more
 left_more i more p within = ap (λ (b : List Bool). drop p.bit b) (bits_more i.bytes more) ∙ drop-append-le p.bit (bits i.bytes) (bits more) (omega (arith, within, length-bits i.bytes))
 
--- a run, where it ends so with more data too: its end lies among the bits so far as well
+-- a run stays one if it ends in the same way with more data: its end is among the bits so far
 pub run_more : (r : RunOf) (more : List ℕ) (zs : List (List ℤ)) (to : Place) (end : RunEnd) → r.from.bit ≤ 8 * length r.interval.bytes → (a : IsRun r zs to end) → EndsAs (run_with_more r more) a.count to end → IsRun (run_with_more r more) zs to end
 run_more r more zs to end within a ends =
     let low : to.bit ≤ 8 * length r.interval.bytes =

@@ -1,4 +1,4 @@
--- The lines of a row whose MCUs are the picture's.
+-- The lines of a row whose MCUs are the image's.
 use Rattle.std.proofs.Common.{◌≡◌, ℕ, ◌*◌, ◌<◌, List, length, take, sym, ap, ◌∙◌, arith}
 use Rattle.jr_head.specs.HeadValue.{HeadValue}
 use Rattle.jr_head.specs.Geometry.{mcus_down, vertical_max}

@@ -16,7 +16,7 @@ module _ (x : FilePart) (h : HeadValue) (whole : List ℕ) (t : ScanValue) (may 
       let rest = x.bytes ++ may.more in
       sym (drop-drop at x.from whole) ∙ ap (drop at) (ap (drop x.from) may.is ∙ ap (λ (k : ℕ). drop k (may.before ++ rest)) (sym may.from) ∙ drop-append_seam may.before rest)
 
-  -- the file from a byte of the part on
+  -- the file starting at a byte of the part
   pub drop_part : (at : ℕ) → at ≤ length x.bytes → drop (x.from + at) whole ≡ drop at x.bytes ++ may.more
   drop_part at within = drop_whole at ∙ drop-append-le at x.bytes may.more within
 
@@ -26,7 +26,7 @@ module _ (x : FilePart) (h : HeadValue) (whole : List ℕ) (t : ScanValue) (may 
   pub length_part : x.from + length x.bytes ≤ length whole
   length_part = omega (arith, ap length may.is, length-append may.before (x.bytes ++ may.more), length-append x.bytes may.more, may.from)
 
-  -- what is left behind bytes of it that spell data
+  -- what is left after bytes of it that spell data
   pub on_part : (i at read : ℕ) (before found : List ℕ) → (g : GoesOnAt whole t i (x.from + at) before) → at + read ≤ length x.bytes → IsRaw (take read (drop at x.bytes)) found → OnBy whole t i (x.from + at + read) before found g.rest
   on_part i at read before found g within raw =
       on_by whole t i (x.from + at) read before found g (omega (arith, within, length_part)) (subst (λ (y : List ℕ). IsRaw y found) (sym (take_part at read within)) raw)

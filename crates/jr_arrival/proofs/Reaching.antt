@@ -1,4 +1,4 @@
--- How many rows of MCUs the bytes so far settle, by where the reading of a scan stands.
+-- The number of rows of MCUs that the bytes so far make final, by the position of the reading in the scan.
 use Rattle.std.proofs.Common.{◌≡◌, ◌≢◌, ℕ, ◌+◌, ◌-◌, ◌*◌, ◌/◌, ◌<◌, ◌≤◌, ◌⊎◌, min, inl, inr, List, Option, Some, None, refl, sym, ap, subst, ◌∙◌, arith}
 use Rattle.std.proofs.lemmas.Bool.{cases_lt}
 use Rattle.std.proofs.lemmas.Nat.{div-mul-add}
@@ -23,7 +23,7 @@ use Rattle.jr_arrival.specs.Settled.{GivesSettled, HasRows}
 use Rattle.jr_arrival.proofs.Knowing.{IsLimit, front_few, limit_of, never_few, not_known}
 use Rattle.jr_arrival.proofs.SettledRows.{before_later, has_rows}
 
--- ---- no MCU is read past those that are settled of the interval that has begun last
+-- ---- no MCU is read past the final ones of the interval that has begun last
 
 -- which is not over
 is_open : (part : PartialScanValue) (i : ℕ) → part.scan.ended ≡ EndOfFile → i + 1 ≡ part.segments → IsOver part.scan part.segments i → ⊥
@@ -54,7 +54,7 @@ module _ (part : PartialScanValue) (v : PartialRowValue) (i limit : ℕ) (c : Is
         omega (arith, le, ap (λ (n : ℕ). n * h.restart) same)
   ]
 
-  -- where no further MCU is settled, all that are have been read
+  -- if no further MCU is final, all that are have been read
   all_read_there : HasNoMore part v → v.cursor.number * h.restart + v.cursor.mcu ≡ first_mcu_of h i + limit
   all_read_there none =
       let same : i ≡ v.cursor.number = elim (cases_lt v.cursor.number i) [ inl l ↦ absurd (none.going (inr (omega (arith, l, last)))) | inr k ↦ omega (arith, k, not_later) ] in
@@ -66,7 +66,7 @@ module _ (part : PartialScanValue) (v : PartialRowValue) (i limit : ℕ) (c : Is
       ] in
       omega (arith, few, most, ap (λ (n : ℕ). n * h.restart) same)
 
--- ---- the lines that a look gives
+-- ---- the lines that a look returns
 
 ended_or_not : (e : ScanEnd) → (e ≡ EndOfFile) ⊎ (e ≢ EndOfFile)
 ended_or_not EndOfFile = inl refl
@@ -75,7 +75,7 @@ ended_or_not (OtherMarker code at) = inr (λ e. absurd cc)
 ended_or_not (OutOfStep found expected at) = inr (λ e. absurd cc)
 ended_or_not (ExtraRestart at) = inr (λ e. absurd cc)
 
--- a look has given lines up to those of a row, all that have room or all that are there
+-- a look has returned lines up to those of a row, all that fit or all that are there
 pub record HasLooked (part : PartialScanValue) (v : PartialRowValue) (first n most : ℕ) : Type 0 where
   pub lines : v.lines ≡ first + n
   pub few : n ≤ min most (part.scan.head.height - first)
@@ -94,7 +94,7 @@ module _ (part : PartialScanValue) (v : PartialRowValue) (lawful : IsLawful part
   row_high : first_line s.head v.row < s.head.height
   row_high = below_div_ceil v.row s.head.height deep positive c.stands.row
 
-  -- no more lines are given than are in the rows before the place
+  -- at most the lines of the rows before the position are returned
   lines_few : (rows : ℕ) → (v.row * mcus_across s.head + v.done) / mcus_across s.head ≤ rows → 0 < mcus_across s.head → v.lines ≤ min s.head.height (rows * deep)
   lines_few rows le some = elim (cases_lt v.done (mcus_across s.head)) [
     | inl l ↦
@@ -114,7 +114,7 @@ module _ (part : PartialScanValue) (v : PartialRowValue) (lawful : IsLawful part
     | inr g ↦ omega (arith, g, looked.few, looked.lines, le, few)
   ]
 
-  -- where these are the lines of settled rows
+  -- if these are the lines of final rows
   gives : (bytes : List ℕ) (rows room : ℕ) → most ≡ room / line_size s.head → HasRows bytes s rows → v.lines ≤ min s.head.height (rows * deep) → (n < min most (s.head.height - first) → v.lines ≡ min s.head.height (rows * deep)) → GivesSettled bytes s first n room
   gives bytes rows room is has few all = record {
     rows = rows;

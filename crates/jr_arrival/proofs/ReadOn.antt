@@ -86,7 +86,7 @@ module _ (whole : List ℕ) (t : ScanValue) (i mcu at left : ℕ) (found rest : 
         longest = runs.longest one_run runs_meet shorter_front all lawful mcu r.blocks (behind before p) r.next 0 1 [] here (omega (arith, few)) (omega arith);
       }
 
-  -- which may become whole where the data end there and fewer bits are left than an MCU has at most
+  -- which may become whole if the data end there and fewer bits are left than the maximum of an MCU
   pub grows_on : rest ≡ [] → mcu ≤ mcus_in h i → HasNoFurtherMcu t i mcu → length (left_at near p) < MCU_BITS → MayGrow (interval_of t i) mcu
   grows_on end few none short =
       let all = interval_of t i in
@@ -109,7 +109,7 @@ reads_first whole t i at p e on =
     let start = runs.at_start (interval_of t i) in
     subst (ReadsAt whole t i 0 at) (sym e) (record { before = []; on = on; blocks = start.blocks; next = start.next start_of_interval refl })
 
--- no bits are taken where no MCUs are
+-- a run of no MCUs uses no bits
 pub nothing_taken : (i : IntervalValue) (p q : Place) (ys : List (List ℤ)) → IsRun (run_from i p 0) ys q AllRead → q.bit ≡ p.bit
 nothing_taken i p q ys a =
     let none : length ys ≡ 0 * length (order_of i.head) = a.mcus.0 ∙ ap (λ (k : ℕ). k * length (order_of i.head)) a.ends in
@@ -120,7 +120,7 @@ nothing_taken i p q ys a =
     go [] n e = ap length e
     go (b ∷ bs) n e = absurd (omega (arith, n))
 
--- no data is of no MCU
+-- an interval without data has no further MCU
 pub nothing_whole : (t : ScanValue) (i mcu : ℕ) → 0 < blocks_of t.head → get_or t.intervals i [] ≡ [] → HasNoFurtherMcu t i mcu
 nothing_whole t i mcu some none = record {
   front = 0;

@@ -1,4 +1,4 @@
--- What is read of a row of MCUs is that of whatever the scan may become.
+-- What is read of a row of MCUs is that of every scan that the scan may become.
 use Rattle.std.proofs.Common.{◌≡◌, ℕ, ◌+◌, ◌*◌, ◌<◌, ◌≤◌, inl, inr, Option, Some, None, List, [], ◌∷◌, ◌++◌, length, get_or, refl, sym, ap, subst, ◌∙◌, append_assoc, length-append, arith}
 use Rattle.std.specs.Prelude.{ℤ}
 use Rattle.std.proofs.lemmas.Bool.{cases_lt}
@@ -82,7 +82,7 @@ becomes_more old new t a b = record {
   end = λ n. b.end (λ e. n (sym (a.becomes.end n) ∙ e)) ∙ a.becomes.end n;
 }
 
--- ---- where the reading stands
+-- ---- the position of the reading
 
 next_stays : (i : IntervalValue) (more : List ℕ) (first : ℕ) (zs : List (List ℤ)) (p : Place) → IsNext i first zs p → IsNext (with_more i more) first zs p
 next_stays i more first zs p n = record {
@@ -90,7 +90,7 @@ next_stays i more first zs p n = record {
   can = (omega (arith, n.can.0, length-append i.bytes more), n.can.1);
 }
 
--- a longest front that stays it is that of whatever the scan may become, and stays it there
+-- a longest prefix that stays it is that of every scan that the scan may become, and stays it there
 stays_longest : (old new : PartialScanValue) (number front : ℕ) (zs : List (List ℤ)) → IsLawful old.scan.head → Grows old new → StaysLongest old number front zs → StaysLongest new number front zs
 stays_longest old new number front zs lawful b l = elim l.final [
   | inl over ↦ record { longest = subst (λ (i : IntervalValue). LongestFront i front zs) (sym (b.becomes.whole number over)) l.longest; final = inl (over_stays old new number b over) }
@@ -136,14 +136,14 @@ module _ (part : PartialScanValue) (v : PartialRowValue) (lawful : IsLawful part
   per_mcu : length (order_of part.scan.head) ≡ blocks_of part.scan.head
   per_mcu = length-order 0 part.scan.head.components
 
-  -- further MCUs of the interval, which are the outcomes' in whatever the scan may become
+  -- further MCUs of the interval, which are the outcomes' in every scan that the scan may become
   module _ (n : ℕ) (place : Option Place) (w : SampleRowValue) (within : v.done + n ≤ mcus_across part.scan.head) (few : v.cursor.mcu + n ≤ mcus_in part.scan.head v.cursor.number) (room : HasSampleRoom part.scan.head w) (reads : ReadsTo part v.cursor.number (v.cursor.mcu + n) place)
       (kept : (k : ℕ) → k < v.done * blocks_of part.scan.head → get_or (units_in part.scan.head w.lines.groups) k [] ≡ get_or (units_in part.scan.head v.samples.lines.groups) k [])
       (codes : (t : ScanValue) → GrowsInto part t → (o : PieceValue) → o.interval ≡ interval_of t v.cursor.number → IsOutcome o → (k : ℕ) → k < n * blocks_of part.scan.head → get_or (units_in part.scan.head w.lines.groups) (v.done * blocks_of part.scan.head + k) [] ≡ unit_in_piece o (v.cursor.mcu * blocks_of part.scan.head + k)) where
     abbrev new : PartialRowValue
     new = record { row = v.row; done = v.done + n; cursor = record { number = v.cursor.number; mcu = v.cursor.mcu + n; place = place }; samples = w; lines = v.lines; marked = v.marked }
 
-    -- by the head of whatever the scan may become
+    -- with the header of a scan that the scan may become
     module _ (t : ScanValue) (b : GrowsInto part t) where
       abbrev KeptBy : HeadValue → Type 0
       KeptBy g = (k : ℕ) → k < v.done * blocks_of g → get_or (units_in g w.lines.groups) k [] ≡ get_or (units_in g v.samples.lines.groups) k []
@@ -239,21 +239,21 @@ next_inside part v c all more =
     let next = next_there part.scan.head v.cursor.number v.cursor.mcu c.stands.number all (omega (arith, c.stands.at, more, inside)) in
     mcus_in_some part.scan.head (v.cursor.number + 1) (omega (arith, more, inside)) next.0
 
--- ---- where the reading ends
+-- ---- the end of the reading
 
--- a reader that reads nothing stands there
+-- a reader that reads nothing has reached the longest prefix
 pub nothing_follows : (i : IntervalValue) (first left : ℕ) (zs ys : List (List ℤ)) (p : Place) → IsLawful i.head → IsNext i first zs p → FirstMcus (run_from i p left) 0 ys → 0 < left → first ≤ i.mcus → HasLongestFront i (first + 0)
 nothing_follows i first left zs ys p lawful next here some few =
     (zs ++ ys, runs.longest one_run runs_meet shorter_front i lawful first zs p next 0 left ys here (omega (arith, few)) some)
 
--- the grey MCUs of an interval are past a longest front that stays it
+-- the grey MCUs of an interval are past a longest prefix that stays it
 pub far_front : (part : PartialScanValue) (number mcu : ℕ) (place : Option Place) → ReadsTo part number mcu place → ReadsAll part.scan number mcu place → IsFinal part number place → (front : ℕ) × (zs : List (List ℤ)) × (front ≤ mcu) × StaysLongest part number front zs
 far_front part number mcu (Some p) r all (inl over) = (mcu, all.0, omega arith, record { longest = all.1; final = inl over })
 far_front part number mcu (Some p) r all (inr long) =
     (mcu, all.0, omega arith, record { longest = all.1; final = inr (omega (arith, long, ap length (rest_left (interval_of part.scan number) mcu all.0 r.0 p all.1.front r.1.run))) })
 far_front part number mcu None r all final = (r.0, r.1, omega (arith, r.2), r.3)
 
--- where it may become longer, no further MCU is settled
+-- if it may become longer, no further MCU is final
 pub no_more : (part : PartialScanValue) (v : PartialRowValue) → ReadsTo part v.cursor.number v.cursor.mcu v.cursor.place → ReadsAll part.scan v.cursor.number v.cursor.mcu v.cursor.place → (IsFinal part v.cursor.number v.cursor.place → ⊥) → HasNoMore part v
 no_more part v = go v.cursor.place
   where
@@ -294,7 +294,7 @@ step_row part v c some whole lines given more =
       counts = c.counts;
     }
 
--- lines that are given of it
+-- lines that are returned of it
 pub step_lines : (part : PartialScanValue) (v : PartialRowValue) (n : ℕ) → IsPartialRow part v → v.done ≡ mcus_across part.scan.head → v.lines + n ≤ first_line part.scan.head v.row + line_count part.scan.head v.row → (v.lines + n < part.scan.head.height → v.lines + n < first_line part.scan.head v.row + line_count part.scan.head v.row)
     → IsPartialRow part (record { row = v.row; done = v.done; cursor = v.cursor; samples = v.samples; lines = v.lines + n; marked = v.marked })
 step_lines part v n c whole few left = record {
@@ -306,7 +306,7 @@ step_lines part v n c whole few left = record {
   counts = c.counts;
 }
 
--- the row's samples are painted as the picture's
+-- the row's samples are painted as the image's
 module _ (part : PartialScanValue) (v : PartialRowValue) (lawful : IsLawful part.scan.head) (c : IsPartialRow part v) (whole : v.done ≡ mcus_across part.scan.head) (n : ℕ) (few : v.lines + n ≤ first_line part.scan.head v.row + line_count part.scan.head v.row) (t : ScanValue) (b : GrowsInto part t) (board : BoardValue) (first : HasFirst t (length t.intervals) board) where
   abbrev groups : List (List ℕ)
   groups = v.samples.lines.groups
@@ -347,7 +347,7 @@ begins_partial part v b down some high deep =
       counts = λ t becomes. counts_none t (length t.intervals) 0 v.cursor.number v.marked b.sound b.damaged (sym number);
     }
 
--- what is read of a row does not hang on what else its memory holds
+-- what is read of a row does not depend on the rest of its memory
 pub same_lines : (part : PartialScanValue) (v : PartialRowValue) (w : SampleRowValue) → IsPartialRow part v → w.lines ≡ v.samples.lines → HasSampleRoom part.scan.head w
     → IsPartialRow part (record { row = v.row; done = v.done; cursor = v.cursor; samples = w; lines = v.lines; marked = v.marked })
 same_lines part v w c same room = record {

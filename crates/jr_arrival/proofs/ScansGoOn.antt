@@ -1,4 +1,4 @@
--- More bytes keep the head, and the data of each interval.
+-- More bytes keep the header, and the data of each interval.
 use Rattle.std.proofs.Common.{◌≡◌, ◌≢◌, ℕ, zero, suc, ◌-◌, ◌<◌, ◌≤◌, ◌⊎◌, List, [], ◌∷◌, ◌++◌, length, replicate, drop, get_or, refl, sym, ap, subst, ◌∙◌, inl, inr, length-append, arith}
 use Rattle.std.proofs.lemmas.List.{append-nil, drop-append-le}
 use Rattle.jr_arrival.specs.PartialRows.{GrowsInto}
@@ -16,7 +16,7 @@ use Rattle.jr_arrival.specs.LongerFile.{GrowsTo, HasScan, IsOver, KeepsScan}
 use Rattle.jr_arrival.proofs.HeadsStay.{head_is_final}
 use Rattle.jr_arrival.proofs.CutsGoOn.{cut_is_final}
 
--- ---- the head
+-- ---- the header
 
 one_head : (file : List ℕ) (g h : HeadValue) → HasOneHead file ⊎ HasOneFault file → HeadOf file g → HeadOf file h → g ≡ h
 one_head file g h (inl one) a b = one.only g a ∙ sym (one.only h b)
@@ -27,7 +27,7 @@ same_head bytes file g h can a b = one_head file h g (one_head_or_one_fault file
 
 -- ---- the intervals' data
 
--- behind the segments there is nothing
+-- after the segments there is nothing
 get_padded : (ds : List (List ℕ)) (m i : ℕ) → get_or (ds ++ replicate m []) i [] ≡ get_or ds i []
 get_padded [] m i = none_in m i
 get_padded (d ∷ ds) m zero = refl
@@ -47,7 +47,7 @@ get_ended [] last last' others i lt = absurd (omega (arith, lt))
 get_ended (e ∷ ended) last last' others zero lt = refl
 get_ended (e ∷ ended) last last' others (suc i) lt = get_ended ended last last' others i (omega (arith, lt))
 
--- an interval of a scan with the same head, by its data
+-- an interval of a scan with the same header, by its data
 pub interval_is : (s t : ScanValue) (i : ℕ) (bytes : List ℕ) → t.head ≡ s.head → get_or t.intervals i [] ≡ bytes → interval_of t i ≡ record { number = i; mcus = mcus_in s.head i; bytes = bytes; head = s.head }
 interval_is s t i bytes h d =
     ap (λ (g : HeadValue). (let v : IntervalValue = record { number = i; mcus = mcus_in g i; bytes = get_or t.intervals i []; head = g } in v)) h

@@ -1,4 +1,4 @@
--- The rows of MCUs that the bytes so far settle.
+-- The rows of MCUs that the bytes so far make final.
 use Rattle.std.proofs.Common.{◌≡◌, ℕ, ◌+◌, ◌-◌, ◌*◌, ◌/◌, ◌%◌, ◌<◌, ◌≤◌, min, Bool, cond, inl, inr, List, [], length, drop, get_or, sym, ap, subst, ◌∙◌, length-append, arith}
 use Rattle.std.specs.Int.{div_ceil}
 use Rattle.std.proofs.lemmas.Bool.{cases_lt}
@@ -23,7 +23,7 @@ use Rattle.jr_arrival.proofs.Knowing.{IsLimit}
 use Rattle.jr_arrival.proofs.ReadOn.{nothing_whole}
 use Rattle.jr_arrival.proofs.ScansGoOn.{data_at}
 
--- an interval's MCUs stand before those of the later ones
+-- an interval's MCUs are before those of the later ones
 pub before_later : (h : HeadValue) (i j mcu : ℕ) → i < j → j < intervals_of h → mcu ≤ mcus_in h i → i * h.restart + mcu ≤ j * h.restart
 before_later h i j mcu lt few le = elim (eqb_tells h.restart 0) [
   | inl t ↦
@@ -35,7 +35,7 @@ before_later h i j mcu lt few le = elim (eqb_tells h.restart 0) [
       omega (arith, low, next, add-mul i 1 h.restart)
 ]
 
--- the MCUs of an interval are some of the picture's
+-- the MCUs of an interval are some of the image's
 mcus_few : (h : HeadValue) (i n : ℕ) → 0 < mcus_of h → i < intervals_of h → n ≤ mcus_in h i → first_mcu_of h i + n ≤ mcus_of h
 mcus_few h i n some few le = elim (cases_lt 0 n) [
   | inl l ↦ let last = inside h i (n - 1) few (omega (arith, l, le)) in omega (arith, l, last)
@@ -82,7 +82,7 @@ module _ (bytes : List ℕ) (s : ScanValue) (c : IsScanOf bytes s) (i : ℕ) (en
   no_data : get_or s.intervals (i + 1) [] ≡ []
   no_data = data_at s c.segments (intervals_of h - length c.segments) (i + 1) c.intervals ∙ get_or_past c.segments (i + 1) [] (omega (arith, last))
 
-  -- no data settle no MCU
+  -- an interval without data has no final MCU
   not_known_there : (j : ℕ) → IsLawful h → get_or s.intervals j [] ≡ [] → (mcu : ℕ) → IsKnown (interval_of s j) mcu → ⊥
   not_known_there j lawful none mcu (inl w) =
       let some = units_some h.components (some_there h.kind h.components lawful.components.count) lawful.components.sampled in
@@ -94,7 +94,7 @@ module _ (bytes : List ℕ) (s : ScanValue) (c : IsScanOf bytes s) (i : ℕ) (en
       let empty : length (bits (get_or s.intervals j [])) ≡ length (bits []) = ap (λ (b : List ℕ). length (bits b)) none in
       omega (arith, n.long, empty, ap length f.spelled, length-append f.taken f.rest)
 
-  -- an MCU of it that its data do not settle is not settled; past its last one none is
+  -- an MCU of it that its data do not make final is not final; past its last one none is
   pub not_settled : (mcu : ℕ) → mcu ≤ mcus_in h i → (mcu < mcus_in h i → IsKnown (interval_of s i) mcu → ⊥) → IsLawful h → first_mcu_of h i + mcu < mcus_of h → IsSettled bytes s (first_mcu_of h i + mcu) → ⊥
   not_settled mcu few none lawful more settled =
       let m = first_mcu_of h i + mcu in
@@ -115,7 +115,7 @@ module _ (bytes : List ℕ) (s : ScanValue) (c : IsScanOf bytes s) (i : ℕ) (en
             ]
       ]
 
-  -- the MCUs before it and those that its data settle are
+  -- the MCUs before it and those that its data make final are final
   module _ (limit : ℕ) (l : IsLimit (interval_of s i) limit) where
     settled_before : (m : ℕ) → m < mcus_of h → m < first_mcu_of h i + limit → IsSettled bytes s m
     settled_before m there lt =

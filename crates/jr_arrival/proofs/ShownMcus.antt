@@ -1,4 +1,4 @@
--- What MCUs of an interval show.
+-- What a board shows of MCUs of an interval.
 use Rattle.std.proofs.Common.{◌≡◌, ℕ, ◌+◌, ◌*◌, ◌/◌, ◌%◌, ◌<◌, ◌≤◌, Some, List, [], get_or, sym, ap, ◌∙◌, arith}
 use Rattle.std.proofs.lemmas.Nat.{div-add-mod'}
 use Rattle.std.proofs.Math.Nat.{add-mul, div-lt_iff_lt-mul}
@@ -15,7 +15,7 @@ use Rattle.jr_rows.specs.Rows.{ShowsBehind, ShowsFirstUnits}
 use Rattle.jr_rows.proofs.IntervalPlaces.{interval_at}
 use Rattle.jr_rows.proofs.ReadRows.{posted_there, shown_more}
 
--- where data units are those of each outcome of an interval, they are those that a board shows
+-- data units that are those of each outcome of an interval are those that a board shows
 module _ (t : ScanValue) (n number mcu mcus before : ℕ) (units : List (List ℕ)) (some : 0 < blocks_of t.head) (number_few : number < intervals_of t.head) (marked : number < n) (few : mcu + mcus ≤ mcus_in t.head number)
     (codes : (o : PieceValue) → o.interval ≡ interval_of t number → IsOutcome o → (k : ℕ) → k < mcus * blocks_of t.head → get_or units (before + k) [] ≡ unit_in_piece o (mcu * blocks_of t.head + k)) where
   abbrev h : HeadValue
@@ -40,7 +40,7 @@ module _ (t : ScanValue) (n number mcu mcus before : ℕ) (units : List (List �
       unit ∙ ap (unit_in_piece p.piece) per ∙ turned
       ∙ ap (λ (g : HeadValue). unit_shown_of g (k % m) (piece_at b (interval_number g (number * h.restart + mcu + j))) (within_interval g (number * h.restart + mcu + j) * blocks_of g + k % m)) (ap (λ (u : ScanValue). u.head) (sym first.scan_is))
 
--- more of the row behind what is shown of it
+-- more of the row after the part that is shown
 pub shown_on : (t : ScanValue) (n from done more at : ℕ) (old new : List (List ℕ)) → 0 < blocks_of t.head → at ≡ from + done → ShowsFirstUnits t n from done old
     → ((k : ℕ) → k < done * blocks_of t.head → get_or new k [] ≡ get_or old k []) → ShowsBehind t n at (done * blocks_of t.head) more new → ShowsFirstUnits t n from (done + more) new
 shown_on t n from done more at old new some e before kept there b first =

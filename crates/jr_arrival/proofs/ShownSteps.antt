@@ -87,7 +87,7 @@ module _ (keeps : Bool) (h : HeadValue) (c : ScanCursor) (lawful : IsLawful h) (
       go IsStuck out means = means.no_more
       go HasEnded out means = nothing_whole t c.interval c.mcu (some_t from at whole t may before) (means c.interval (omega arith))
 
--- ---- steps one behind the other
+-- ---- steps one after the other
 
 -- a step of the cursor alone
 pub walks_by : (keeps : Bool) (h : HeadValue) (a b : ScanCursor) (done : ℕ) (groups : List (List ℕ)) → PassesOver h a b 0 → StaysTrue h a b → done ≤ mcus_across h → Walks keeps h a b done 0 groups groups

@@ -13,7 +13,7 @@ front_whole bytes more at read within =
     ap (take read) (drop-append-le at bytes more (omega (arith, within)))
     ∙ take-append-le read (drop at bytes) more (omega (arith, within, length-drop at bytes))
 
--- as many bytes as are asked for spell what the first ones do
+-- all bytes that spell this number of bytes of data spell the same
 pub same_spelled : (raw found more front : List ℕ) (read all : ℕ) → IsRaw (take read raw) front → length front ≤ length found → (length front < length found → IsStop (drop read raw)) → IsRaw (take all raw) (found ++ more) → front ≡ found
 same_spelled raw found more front read all is few stop begin =
     let e : take read raw ++ drop read raw ≡ take all raw ++ drop all raw = take-append-drop read raw ∙ sym (take-append-drop all raw) in

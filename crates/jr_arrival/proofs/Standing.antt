@@ -1,4 +1,4 @@
--- Where a cursor stands, by its numbers.
+-- The position of a cursor, by its numbers.
 use Rattle.std.proofs.Common.{◌≡◌, ℕ, zero, suc, ◌+◌, ◌-◌, ◌/◌, ◌<◌, ◌≤◌, List, refl, sym, ap, subst, ◌∙◌, arith}
 use Rattle.std.specs.Prelude.{ℤ, min}
 use Rattle.std.specs.List.{All}
@@ -52,7 +52,7 @@ place_true whole t c p f file w low s at_is bit predictions interval mcu state =
           (subst (λ (k : ℕ). MeansAt whole t (reading_number c.reading) k p.mcu (c.file.from + c.at) q) (sym interval) (subst (λ (k : ℕ). MeansAt whole t (reading_number c.reading) c.interval k (c.file.from + c.at) q) (sym mcu) here)));
     }
 
--- a place's state by its number; predictions count where the interval goes on
+-- a position's state by its number; predictions count if the interval continues
 pub opened : (whole : List ℕ) (t : ScanValue) (n i m at : ℕ) (r : Reading) (p q : Place) → reading_number r ≡ min n 2 → q.bit ≡ p.bit → (All IsInDcRange p.predictions → q.predictions ≡ p.predictions) → MeansAt whole t n i m at p → MeansAt whole t (reading_number r) i m at q
 opened whole t zero i m at r p q e bit predictions means =
     let zero_is : reading_number r ≡ 0 = omega (arith, e) in

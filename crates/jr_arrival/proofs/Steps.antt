@@ -38,14 +38,14 @@ use Rattle.jr_arrival.proofs.ReadOn.{grows_on, none_on, reads_first, reads_on}
 use Rattle.jr_cut.proofs.Slices.{split_at}
 use Rattle.jr_arrival.proofs.Windows.{window_long}
 
--- ---- one step behind the other
+-- ---- one step after the other
 
 pub true_on : (h : HeadValue) (a b c : ScanCursor) → b.file ≡ a.file → StaysTrue h a b → StaysTrue h b c → StaysTrue h a c
 true_on h a b c same ab bc whole t may s = bc whole t (subst (λ (f : FileBytes). MayBe (part_of f) h whole t) (sym same) may) (ab whole t may s)
 
 -- ---- over MCUs of its interval
 
--- over those that no whole one follows
+-- over those after which no whole one follows
 stuck_on : (whole : List ℕ) (t : ScanValue) (i m at n : ℕ) → IsStuckAt whole t i m at → IsStuckAt whole t i (m + n) at
 stuck_on whole t i m at n stuck = record { before = stuck.before; on = stuck.on; no_more = record { front = stuck.no_more.front; blocks = stuck.no_more.blocks; few = omega (arith, stuck.no_more.few); longest = stuck.no_more.longest } }
 
@@ -114,7 +114,7 @@ moved h c at q off w bit predictions whole t may = go c.reading
     go IsStuck means = record { before = means.before ++ front; on = on means.before means.on; no_more = means.no_more }
     go HasEnded means = means
 
--- ---- behind its data
+-- ---- after its data
 
 module _ (h : HeadValue) (c : ScanCursor) (w : HasWindow c) (end read : ℕ) (found : List ℕ) (there : end ≡ c.at + read) (within : end ≤ length c.file.bytes.now) (raw : IsRaw (take read (drop c.at c.file.bytes.now)) found) where
   there_whole : c.file.from + c.at + read ≡ c.file.from + end
@@ -130,7 +130,7 @@ module _ (h : HeadValue) (c : ScanCursor) (w : HasWindow c) (end read : ℕ) (fo
         let same = one_stop (take spells.read (drop c.at bytes)) (window c) (take read (drop c.at bytes)) found (drop (c.at + spells.read) bytes) (drop (c.at + read) bytes) spells.spelled raw (sym (split_at bytes c.at spells.read) ∙ split_at bytes c.at read) (spells.stop ends) (subst (λ (k : ℕ). IsStop (drop k bytes)) there here) in
         (o.on.rest, o.is ∙ ap (λ (x : List ℕ). x ++ o.on.rest) same.0, o.none (subst (λ (k : ℕ). IsStop (drop k whole)) (sym there_whole) stop))
 
-  -- where no further MCU is whole, and as many bits are left as an MCU has at most, or the data end there
+  -- if no further MCU is whole, and at least the maximum number of bits of an MCU is left, or the data end there
   pub stuck_true : IsIn h c.interval c.mcu → IsLawful h → NoneFollows h c → c.reading ≡ GoesOn → IsStop (drop end c.file.bytes.now) → (whole : List ℕ) (t : ScanValue) (may : MayBe (part_of c.file) h whole t)
       → IsStop (drop (c.file.from + end) whole) ⊎ (MCU_BITS ≤ length (left_at (in_window h c) c.place)) → IsCursorIn whole t c → IsStuckAt whole t c.interval c.mcu (c.file.from + end)
   stuck_true is_in lawful none going here whole t may final s =
@@ -158,7 +158,7 @@ module _ (h : HeadValue) (c : ScanCursor) (w : HasWindow c) (end read : ℕ) (fo
             ];
       }
 
-  -- or where it may become whole
+  -- or if it may become whole
   pub grows_true : IsIn h c.interval c.mcu → IsLawful h → NoneFollows h c → c.reading ≡ GoesOn → length (left_at (in_window h c) c.place) < MCU_BITS → IsStop (drop end c.file.bytes.now) → (whole : List ℕ) (t : ScanValue) (may : MayBe (part_of c.file) h whole t)
       → IsStop (drop (c.file.from + end) whole) → IsCursorIn whole t c → MayGrow (interval_of t c.interval) c.mcu
   grows_true is_in lawful none going short here whole t may stop s =
@@ -191,7 +191,7 @@ module _ (h : HeadValue) (c : ScanCursor) (w : HasWindow c) (end read : ℕ) (fo
       go IsStuck some means = on means.before means.on
       go HasEnded some means = absurd (some refl)
 
-  -- the next one begins behind its marker
+  -- the next one begins after its marker
   pub next_true : (whole : List ℕ) (t : ScanValue) (may : MayBe (part_of c.file) h whole t) → c.reading ≢ HasEnded → IsCursorIn whole t c → (more : ℕ) → c.interval + 1 < intervals_of h → drop end c.file.bytes.now ≡ marker more (RST0 + c.interval % 8) ++ drop (more + 2) (drop end c.file.bytes.now)
       → end + (more + 2) ≤ length c.file.bytes.now → (p : Place) → p ≡ start_of_interval → ReadsAt whole t (c.interval + 1) 0 (c.file.from + end + (more + 2)) p
   next_true whole t may over s more room starts inside p first =
@@ -216,7 +216,7 @@ module _ (h : HeadValue) (c : ScanCursor) (w : HasWindow c) (end read : ℕ) (fo
       let there = its_end whole t may (ending_stop (intervals_of h) c.interval end tail e there_too) over s in
       ended_on whole t c.interval (c.file.from + end) there.0 there.1 there.2 end e (subst (λ (g : HeadValue). IsEnding (intervals_of g) c.interval end tail e) (sym may.head) there_too)
 
--- where a reader of the window has ended and MCUs are left, none follows
+-- if a reader of the window has ended and MCUs are left, none follows
 pub none_left : (h : HeadValue) (c : ScanCursor) (r r' : McuReaderValue) (n : ℕ) (q : Place) → r.run ≡ run_from (in_window h c) c.place (mcus_in h c.interval - c.mcu) → r.mcu ≡ 0 → r'.run ≡ r.run → r'.mcu ≡ r.mcu + n → q ≡ r'.place → readers.HasEnded r'
     → (d : ScanCursor) → d ≡ record c { mcu = c.mcu + n; place = q } → d.mcu < mcus_in h d.interval → HasNoMcu (in_window h d) d.place
 none_left h c r r' n q run zero_is same mcu place ended d is more =
@@ -225,11 +225,11 @@ none_left h c r r' n q run zero_is same mcu place ended d is more =
       | inr stuck ↦ subst (HasNoMcu (in_window h c)) (sym place) (subst (λ (o : RunOf). HasNoMcu o.interval r'.place) (same ∙ run) stuck)
     ]) more
 
--- the bits of the window from there on
+-- the bits of the window starting there
 pub window_left : (h : HeadValue) (c : ScanCursor) → HasWindow c → length (left_at (in_window h c) c.place) ≡ 8 * (c.found - c.from) - c.place.bit
 window_left h c w = omega (arith, window_long c w, length-drop c.place.bit (bits (window c)), length-bits (window c))
 
--- and to the end of the data, or by more bits than an MCU has
+-- and to the end of the data, or by more bits than the maximum of an MCU
 pub none_follows : (h : HeadValue) (c : ScanCursor) → HasWindow c → HasNoMcu (in_window h c) c.place → (c.ends ≡ true) ⊎ (16650 + c.place.bit ≤ 8 * (c.found - c.from)) → NoneFollows h c
 none_follows h c w none far = record {
   none = none;

@@ -1,4 +1,4 @@
--- The tests of a marker segment that answer without a missing byte, and what stands behind.
+-- The tests of a marker segment whose results need no missing byte, and what follows it.
 use Rattle.std.proofs.Common.{◌≡◌, ◌≢◌, inl, inr, ℕ, zero, suc, ◌+◌, ◌-◌, ◌<◌, ◌≤◌, Bool, true, false, ltb, List, [], ◌∷◌, ◌++◌, length, take, drop, refl, sym, ap, subst, ◌∙◌, arith}
 use Rattle.std.specs.Prelude.{Option, Some, None, ◌==◌}
 use Rattle.std.specs.List.{prefix_len}
@@ -14,7 +14,7 @@ use Rattle.jr_segments.specs.Segments.{Segment, segment_at, fill_count, at_code,
 use Rattle.jr_segments.proofs.TestLaws.{passes_first, passes_parts, first_append, first_front, none_both}
 use Rattle.jr_head.specs.Heads.{segment_tests, payload_tests}
 
--- what the tests of the bytes so far answer, but for EndsEarly, is what those of more bytes do
+-- the result of the tests of the bytes so far, unless it is EndsEarly, is that of the tests of more bytes
 pub record Stay (so_far longer : List Test) : Type 0 where
   pub passes : first_fault so_far ≡ None → first_fault longer ≡ None
   pub fails : (f : Refusal) → f ≢ EndsEarly → first_fault so_far ≡ Some f → first_fault longer ≡ Some f
@@ -61,7 +61,7 @@ prefix_more : (bytes more : List ℕ) → prefix_len (λ b. b == PREFIX) bytes <
 prefix_more [] more h = absurd (omega (arith, h))
 prefix_more (b ∷ bs) more h = prefix_step b bs more (b == PREFIX) refl h (λ l. prefix_more bs more l)
 
--- where a code is there, it is there with more bytes
+-- a code that is there stays with more bytes
 pub record HasCode (bytes longer : List ℕ) (more : List ℕ) : Type 0 where
   pub fill : fill_count longer ≡ fill_count bytes
   pub code : at_code longer ≡ at_code bytes ++ more
@@ -131,7 +131,7 @@ marker_stays at (b ∷ bs) more = marker_stays_by at (b ∷ bs) more (omega arit
 fails_third : (a b c d : Test) → first_fault (a ∷ b ∷ c ∷ d ∷ []) ≡ None → c.fails ≡ false
 fails_third a b c d h = (passes_first c (d ∷ []) (passes_first b (c ∷ d ∷ []) (passes_first a (b ∷ c ∷ d ∷ []) h).1).1).0
 
--- where the marker's tests pass there is a code
+-- if the marker's tests pass there is a code
 pub code_there : (at : ℕ) (bytes : List ℕ) → first_fault (marker_tests at bytes) ≡ None → 0 < length (at_code bytes)
 unfolding marker_tests
 code_there at bytes h = elim (cases_lt 0 (length (at_code bytes))) [

@@ -8,7 +8,7 @@ use Rattle.jr_cut.proofs.Spellings.{up_to_stop}
 pub spelled_first : (raw found : List ℕ) (end read : ℕ) → read ≤ end → IsRaw (take read (take end raw)) found → IsRaw (take read raw) found
 spelled_first raw found end read few is = subst (λ (x : List ℕ). IsRaw x found) (take-take read end raw few) is
 
--- data up to a stop has as much as any other bytes spell
+-- data up to a stop is at least as long as what any other bytes spell
 pub some_found : (raw found front : List ℕ) (end read n : ℕ) → n ≤ end → IsRaw (take n raw) front → IsRaw (take read (take end raw)) found → IsStop (drop read (take end raw)) → length front ≤ length found
 some_found raw found front end read n few is spelled stop =
     let first = take end raw in

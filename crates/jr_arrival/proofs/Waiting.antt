@@ -1,4 +1,4 @@
--- Where a cursor finds no end of its interval's data, the bytes do not settle its next MCU.
+-- If a cursor finds no end of its interval's data, the bytes do not make its next MCU final.
 use Rattle.std.proofs.Common.{◌≡◌, ◌≢◌, ℕ, ◌+◌, ◌*◌, ◌<◌, ◌≤◌, List, length, drop, refl, sym, subst, ◌∙◌, arith}
 use Rattle.std.proofs.Math.Nat.{add-mul}
 use Rattle.jr_cut.specs.Cut.{IsStop}
@@ -38,7 +38,7 @@ module _ (h : HeadValue) (c : ScanCursor) (is : IsCursor h c) (lawful : IsLawful
   abbrev x : FilePart
   x = part_of c.file
 
-  -- in a file that ends with them
+  -- in a file that ends with these bytes
   module _ (so_far : List ℕ) (s : ScanValue) (may : MayBe (last_part x) h so_far s) where
     end_is : drop (c.file.from + end) so_far ≡ drop end bytes
     end_is = drop_last x h so_far s may end still.within
@@ -68,7 +68,7 @@ module _ (h : HeadValue) (c : ScanCursor) (is : IsCursor h c) (lawful : IsLawful
   pub waits_behind : c.mcu ≡ mcus_in h c.interval → c.reading ≢ HasEnded → Waits h c
   waits_behind all over = waits over (λ so_far s may stands lt known. let here : c.mcu < mcus_in h c.interval = subst (λ (g : HeadValue). c.mcu < mcus_in g c.interval) may.head lt in omega (arith, here, all))
 
--- so the row in which it waits is not settled
+-- so the row in which it waits is not final
 pub row_waits : (h : HeadValue) (a d : ScanCursor) (row done : ℕ) → d.file ≡ a.file → StaysTrue h a d → mcus_before_place h d.interval d.mcu ≡ row * mcus_across h + done → done < mcus_across h → row < mcus_down h → Waits h d → LeavesRow h a row
 row_waits h a d row done file stays at lt inside waiting so_far s may stands settled =
     let m = mcus_before_place h d.interval d.mcu in

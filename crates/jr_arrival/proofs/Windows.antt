@@ -56,7 +56,7 @@ bit_there bytes at bit n found front b low is stop le = elim (cases_lt (length f
 pub window_bits : (c : ScanCursor) → HasWindow c → HasBits c.file.bytes.now c.at c.place.bit
 window_bits c w = record { read = w.spells.read; found = window c; within = w.spells.within; spelled = w.spells.spelled; few = omega (arith, window_long c w, w.bit) }
 
--- as many bytes of the file as spell so many of the window's
+-- the file bytes that spell `byte` bytes of data spell the first `byte` bytes of the window
 pub offset_spelled : (bytes found : List ℕ) (ends : Bool) (at byte n : ℕ) (s : Spells bytes at found ends) → byte ≤ length found → (front : List ℕ) → IsRaw (take n (drop at bytes)) front → length front ≤ byte → (length front < byte → IsStop (drop n (drop at bytes)))
     → IsRaw (take n (drop at bytes)) (take byte found)
 offset_spelled bytes found ends at byte n s few front is short stop =
@@ -65,7 +65,7 @@ offset_spelled bytes found ends at byte n s few front is short stop =
     let same = same_spelled (drop at bytes) (take byte found) (drop byte found) front n s.read is (omega (arith, short, long)) (λ lt. stop (omega (arith, lt, long))) begin in
     subst (λ (xs : List ℕ). IsRaw (take n (drop at bytes)) xs) same is
 
--- a byte of data takes a byte of the file
+-- a byte of data takes at least one byte of the file
 spelled_few : (raw found : List ℕ) → IsRaw raw found → length found ≤ length raw
 spelled_few raw found is = omega (arith, ap length is.means, length-map is.parts byte_spelled, ap length is.spelled, go is.parts)
   where
@@ -127,7 +127,7 @@ module _ (c : ScanCursor) (w : HasWindow c) (at : ℕ) (off : IsOffset c (c.plac
     full = w.full;
   }
 
--- where an MCU is not whole, a window at a later byte of the file leaves less of it, and so does one that reaches further
+-- if an MCU is not whole, a window at a later byte of the file leaves less of it, and so does one that reaches further
 pub left_less : (long at at' reach next reach' from byte found bit : ℕ) → at + byte ≤ at' → at' ≤ long → 8 * byte ≤ bit → bit < 8 * byte + 8 → 8 * (found - from) < 16650 + bit → (long ≤ reach → found ≡ 16384) → (from + byte ≡ 0 → reach + 1 < 2 ^ 64 → reach < next) → reach ≤ next → next ≤ reach' → long < 2 ^ 64
     → (long - at') + (long - reach') + 0 < (long - at) + (long - reach) + from
 left_less long at at' reach next reach' from byte found bit later within low high few full further on more small = elim (cases_lt 0 (from + byte)) [

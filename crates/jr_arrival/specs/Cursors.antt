@@ -20,7 +20,7 @@ use Rattle.jr_arrival.specs.Meaning.{MayBe, MeansAt}
 use Rattle.jr_arrival.specs.Parts.{last_part, part_of}
 use Rattle.jr_arrival.specs.Places.{IsIn, mcus_before_place}
 
--- the bytes from that offset on spell this data, and all of it up to a marker or the end if it ends there
+-- the bytes starting at that offset spell this data, and all of it up to a marker or the end if it ends there
 pub record Spells (bytes : List ℕ) (at : ℕ) (found : List ℕ) (ends : Bool) : Type 0 where
   pub read : ℕ
   pub within : at + read ≤ length bytes
@@ -65,7 +65,7 @@ pub record PassesOver (h : HeadValue) (old new : ScanCursor) (mcus : ℕ) : Type
 abbrev pub in_window : HeadValue → ScanCursor → IntervalValue
 in_window h c = record { number = c.interval; mcus = mcus_in h c.interval - c.mcu; bytes = window c; head = h }
 
--- no MCU follows in the window, which reaches to the end of the interval's data or by as many bits as an MCU has at most
+-- no MCU follows in the window, which reaches to the end of the interval's data or has at least the maximum number of bits of an MCU left
 pub record NoneFollows (h : HeadValue) (c : ScanCursor) : Type 0 where
   pub none : HasNoMcu (in_window h c) c.place
   pub far : (c.ends ≡ true) ⊎ (MCU_BITS ≤ length (left_at (in_window h c) c.place))

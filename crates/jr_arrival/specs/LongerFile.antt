@@ -12,7 +12,7 @@ use Rattle.jr_paint.specs.Lines.{next_lines_of}
 use Rattle.jr_rows.specs.Rows.{first_line, line_count}
 use Rattle.jr_arrival.specs.declared.cursor.TheConstants.{MCU_BITS}
 
--- of the segments that bytes are cut into, all but the last are kept by more bytes; the last one's data may go on, and others follow
+-- of the segments that bytes are cut into, all but the last are kept by more bytes; the last one's data may continue, and others follow
 pub record GrowsTo (datas longer : List (List ℕ)) : Type 0 where
   pub ended : List (List ℕ)
   pub last : List ℕ
@@ -21,7 +21,7 @@ pub record GrowsTo (datas longer : List (List ℕ)) : Type 0 where
   pub is : datas ≡ ended ++ last ∷ []
   pub longer_is : longer ≡ ended ++ (last ++ more) ∷ others
 
--- the head of these bytes, and the scan that they are cut into
+-- the header of these bytes, and the scan that they are cut into
 pub record HasScan (bytes : List ℕ) (s : ScanValue) : Type 0 where
   pub head : HeadOf bytes s.head
   pub scan : IsScanOf bytes s

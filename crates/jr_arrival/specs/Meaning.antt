@@ -1,4 +1,4 @@
--- What a place is in a file (T.81, B.1.1.5 and E.1.4).
+-- What a position in a file means (T.81, B.1.1.5 and E.1.4).
 use Rattle.std.specs.Prelude.{◌≡◌, ℕ, zero, suc, ◌+◌, ◌-◌, ◌*◌, ◌^◌, ◌<◌, ◌≤◌, max, true, List, [], ◌∷◌, ◌++◌, length, replicate, take, drop, ℤ, slice_index_or}
 use Rattle.jr_cut.specs.Cut.{CutFrom, IsRaw}
 use Rattle.jr_head.specs.HeadValue.{HeadValue}
@@ -78,17 +78,17 @@ pub record HasBits (bytes : List ℕ) (at bit : ℕ) : Type 0 where
   pub spelled : IsRaw (take read (drop at bytes)) found
   pub few : bit ≤ 8 * length found
 
--- the offset that a place has: none before the scan's first byte
+-- the offset that a position has: none before the scan's first byte
 abbrev pub offset_in : HeadValue → RowPlace → ℕ
 offset_in h p = max p.at h.scan_at
 
--- it is a place of the whole file, at a byte of the part or after its last one, and the bits before it are there
+-- it is a position of the whole file, at a byte of the part or after its last one, and the bits before it are there
 pub record IsPlaceIn (x : FilePart) (whole : List ℕ) (t : ScanValue) (p : RowPlace) : Type 0 where
   pub bit : p.bit < 8
   pub from : x.from ≤ offset_in t.head p
   pub come : HasBits x.bytes (offset_in t.head p - x.from) p.bit
   pub means : MeansAt whole t p.state p.interval p.mcu (offset_in t.head p) (record { bit = p.bit; predictions = p.predictions })
 
--- the place before the first row
+-- the position before the first row
 abbrev pub top : RowPlace
 top = record { at = 0; bit = 0; row = 0; interval = 0; mcu = 0; predictions = no_predictions; state = 0 }

@@ -1,4 +1,4 @@
--- An interval whose data goes on (T.81, E.1.4).
+-- An interval whose data continues (T.81, E.1.4).
 use Rattle.std.specs.Prelude.{ℕ, List, ◌++◌}
 use Rattle.jr_scan.specs.IntervalValue.{IntervalValue}
 use Rattle.jr_scan.specs.Run.{RunOf}

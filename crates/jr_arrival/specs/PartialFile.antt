@@ -13,7 +13,7 @@ pub record PartialImageValue : Type 0 where
   pub bytes : ℕ
   pub row : PartialRowValue
 
--- these bytes have a head, and are cut into that scan
+-- these bytes have a header, and are cut into that scan
 abbrev pub HasBegun : PartialImageValue → List ℕ → Type 0
 HasBegun c bytes = HeadOf bytes c.partial_scan.scan.head × HasCome c.partial_scan bytes × (c.bytes ≡ length bytes)
 

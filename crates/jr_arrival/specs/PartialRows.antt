@@ -39,8 +39,8 @@ pub record PartialRowValue : Type 0 where
   pub lines : ℕ
   pub marked : Marked
 
--- these whole MCUs are the longest prefix of an interval, and stay so: the interval is over, or at least as many bits are left after
--- them as an MCU has at most
+-- these whole MCUs are the longest prefix of an interval, and stay so: the interval is over, or at least the maximum number of bits of
+-- an MCU is left after them
 pub record StaysLongest (g : PartialScanValue) (number front : ℕ) (zs : List (List ℤ)) : Type 0 where
   pub longest : LongestFront (interval_of g.scan number) front zs
   pub final : IsOver g.scan g.segments number ⊎ (MCU_BITS ≤ length longest.front.rest)
@@ -55,7 +55,7 @@ abbrev pub ReadsAll : ScanValue → (number mcu : ℕ) → Option Place → Type
 ReadsAll s number mcu (Some p) = HasLongestFront (interval_of s number) mcu
 ReadsAll s number mcu None = ⊤
 
--- no MCU becomes whole at that place: the interval is over, or at least as many bits are left there as an MCU has at most
+-- no MCU becomes whole at that position: the interval is over, or at least the maximum number of bits of an MCU is left there
 abbrev pub IsFinal : PartialScanValue → (number : ℕ) → Option Place → Type 0
 IsFinal g number (Some p) = IsOver g.scan g.segments number ⊎ (MCU_BITS ≤ length (left_at (interval_of g.scan number) p))
 IsFinal g number None = ⊤
@@ -95,7 +95,7 @@ pub record IsPartialRow (g : PartialScanValue) (v : PartialRowValue) : Type 0 wh
   pub shows : (t : ScanValue) → GrowsInto g t → ShowsFirstUnits t (length t.intervals) (v.row * mcus_across t.head) v.done (units_in t.head v.samples.lines.groups)
   pub counts : (t : ScanValue) → GrowsInto g t → CountsMarks t (length t.intervals) 0 v.cursor.number v.marked
 
--- the interval is not over, and its MCUs are passed, or the next one is not whole and may become so
+-- the interval is not over, and its MCUs are all read, or the next one is not whole and may become so
 pub record HasNoMore (g : PartialScanValue) (v : PartialRowValue) : Type 0 where
   pub going : IsOver g.scan g.segments v.cursor.number → ⊥
   pub next : (v.cursor.mcu ≡ mcus_in g.scan.head v.cursor.number) ⊎ MayGrow (interval_of g.scan v.cursor.number) v.cursor.mcu

@@ -1,4 +1,4 @@
--- Places between two rows of MCUs of a file's picture.
+-- Positions between two rows of MCUs of a file's image.
 use Rattle.std.specs.Prelude.{◌≡◌, ℕ, ◌+◌, ◌-◌, ◌*◌, ◌/◌, ◌<◌, ◌≤◌, nat_le, min, if◌then◌else◌}
 use Rattle.jr_head.specs.HeadValue.{HeadValue}
 use Rattle.jr_head.specs.Geometry.{mcus_across, mcus_down, vertical_max}
@@ -15,7 +15,7 @@ pub record IsIn (h : HeadValue) (interval mcu : ℕ) : Type 0 where
 abbrev pub mcus_before_place : HeadValue → (interval mcu : ℕ) → ℕ
 mcus_before_place h interval mcu = interval * h.restart + mcu
 
--- the place has numbers of the picture: a row of MCUs, and the interval and MCU that begin it
+-- the position has numbers of the image: a row of MCUs, and the interval and MCU that begin it
 pub record IsPlaceOf (h : HeadValue) (p : RowPlace) : Type 0 where
   pub row : p.row ≤ mcus_down h
   pub is_in : IsIn h p.interval p.mcu
@@ -30,7 +30,7 @@ abbrev pub lines_between : HeadValue → (from to : ℕ) → ℕ
 lines_between h from to = lines_above h to - lines_above h from
 
 -- the number of rows of MCUs, starting at one, whose lines fit into the given number of bytes: all that are left, or those that fit if
--- each has as many lines as a row that is not the last
+-- each has the number of lines of a row that is not the last
 abbrev pub rows_with_room : HeadValue → (row bytes : ℕ) → ℕ
 rows_with_room h row bytes = let lines = bytes / line_size h in
     if nat_le (h.height - lines_above h row) lines then mcus_down h - row else lines / (8 * vertical_max h)

@@ -38,7 +38,7 @@ pub(crate) const WINDOW: usize = 16384;
 /// end a window here, and a caller that asks for one row at a time reads no more of them.
 const REACH: usize = 2 * WINDOW;
 
-/// Maximum number of bits of an MCU (T.81, F.1.2): where as many begin with no whole MCU, none begins them whatever data follow.
+/// Maximum number of bits of an MCU (T.81, F.1.2): if this many begin with no whole MCU, none does with more data.
 pub(crate) const MCU_BITS: u64 = 16650;
 
 /// How the interval continues in which a cursor is.
@@ -169,7 +169,7 @@ impl<'a> ScanCursor<'a> {
         Ok(cursor)
     }
 
-    /// Fills the window starting at an offset of the file's bytes, where `bit` bits of the first byte of data are taken.
+    /// Fills the window starting at an offset of the file's bytes, where `bit` bits of the first byte of data are used.
     fn go_to(&mut self, at: usize, bit: u64)
         requires room { length self.old.room.items ≡ WINDOW }
         requires in_range { All IsInDcRange self.old.place.predictions }
@@ -322,8 +322,8 @@ impl<'a> ScanCursor<'a> {
         self.file.are_all
     }
 
-    /// Returns whether the next MCU, which is not whole in the window, never becomes so: the window has as many bits from there on as
-    /// an MCU has at most, or the interval's data end at `end` whatever follows the bytes.
+    /// Returns whether the next MCU, not whole in the window, never becomes so: the window has the maximum number of
+    /// bits of an MCU left, or the interval's data end at `end` whatever follows the bytes.
     fn is_stuck_at(&self, end: usize) -> bool
         requires window { HasWindow self.now }
         requires within { end ≤ length self.now.file.bytes.now }
@@ -438,7 +438,7 @@ impl<'a> ScanCursor<'a> {
         self.place.predictions = [0; 3];
     }
 
-    /// Moves to the next interval if all MCUs of this one are passed. Returns `false` if its end has not come.
+    /// Moves to the next interval if all MCUs of this one are read. Returns `false` if its end has not come.
     pub(crate) fn advance(&mut self, head: &Head) -> bool
         requires cursor { IsCursor head.now self.old }
         requires more { mcus_before_place head.now self.old.interval self.old.mcu < mcus_of head.now }

@@ -1,4 +1,4 @@
-//! What the bytes so far of a file settle of every file that they can become.
+//! What the bytes so far of a file make final in every file that they can become.
 
 ghost use Rattle.std.specs.Prelude.{◌≡◌, ◌≢◌, ℕ, ℤ, ◌*◌, ◌≤◌, List, ◌++◌, length};
 ghost use Rattle.jr_segments.specs.declared.refusal.Refusal.{Refusal};
@@ -30,13 +30,13 @@ pub fn fault_is_final()
     ensures { (bytes file : List ℕ) (f : Refusal) → CanBecome bytes file → IsFinalFault bytes f → RefusalOf bytes f → RefusalOf file f }
 {}
 
-/// States that what is too long stays too long.
+/// States that a file that is too long stays too long.
 pub fn too_long_is_final()
     ensures { (bytes more : List ℕ) → RefusalOf bytes TooLong → RefusalOf (bytes ++ more) TooLong }
 {}
 
 /// The segments that the bytes so far have ended are those that more bytes are cut into, and the last one's data begins its data
-/// there; where a marker has ended the scan, nothing is added (T.81, B.1.1.5).
+/// there; if a marker has ended the scan, nothing is added (T.81, B.1.1.5).
 pub fn cut_is_final()
     ensures { (n at : ℕ) (bytes more : List ℕ) (a : Cutting n at bytes) (b : Cutting n at (bytes ++ more)) → GrowsTo a.datas b.datas × (a.end ≢ EndOfFile → (b.datas ≡ a.datas) × (b.end ≡ a.end)) }
 {}

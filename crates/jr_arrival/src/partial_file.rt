@@ -23,14 +23,14 @@ use std::marker::Model;
 /// A file that is still arriving. Its bytes are pushed as they come, in any splitting, and the lines of its image are
 /// returned as soon as the bytes so far make them final, each once and in their order.
 ///
-/// Each byte is read once: each look reads on in the header from the first segment that was not whole, and then in the
+/// Each byte is read once: each look continues in the header at the first segment that was not whole, and then in the
 /// scan from where the last look ended. It uses memory for the data of the scan and for a row of MCUs.
 #[derive(Drop)]
 pub struct PartialFile {
     /// Empty once the scan has begun.
     head: PartialHead,
     partial_image: Option<PartialImage>,
-    /// Of all bytes that have come, those among them that are too many and not kept.
+    /// The number of bytes that have come, those included that are too many and not kept.
     count: u64,
 }
 
@@ -80,8 +80,8 @@ fn give(partial_image: &mut Option<PartialImage>, pixels: &mut [u8]) -> u32
     }
 }
 
-/// Returns the scan of a file of which all bytes have come: the one that has begun, or else that of the bytes that are
-/// kept, which it copies.
+/// Returns the scan of a file of which all bytes have come: the one that has begun, otherwise that of the bytes that
+/// are kept, which it copies.
 fn begun(
     alloc: Global,
     kept: &[u8],

@@ -151,7 +151,7 @@ impl PartialImage {
         ensures counts { IfOk result (λ r. HasCounts self.partial_scan.scan (length self.partial_scan.scan.intervals) r.counts) }
     {
         let PartialImage { scan, row, .. } = self;
-        // By its contract a picture has an MCU.
+        // By its contract an image has an MCU.
         let _some = scan.head().mcus();
         let marked = row.marks(&scan);
         let scan = scan.into_scan(alloc)?;

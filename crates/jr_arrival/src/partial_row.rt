@@ -190,7 +190,7 @@ impl PartialRow {
     }
 
     /// Returns whether the interval's next MCU, which is not whole, never becomes so: the interval is over, or the data
-    /// so far have as many bits from there on as an MCU has at most (T.81, F.1.2).
+    /// so far have the maximum number of bits of an MCU left there (T.81, F.1.2).
     fn is_final(&self, scan: &PartialScan) -> bool
         requires partial_row { IsPartialRow scan.now self.now }
         ensures never { result ≡ true → IsFinal scan.now self.now.cursor.number self.now.cursor.place }
@@ -310,7 +310,7 @@ impl PartialRow {
         ensures painted { AreFinalLines scan.now self.old.lines count pixels.new }
     {
         let head = scan.head();
-        // By its contract the row's lines are the picture's.
+        // By its contract the row's lines are the image's.
         let _lines = lines_of(head, self.row);
         self.samples.paint_some(head, self.lines, count, pixels);
         self.pass_lines(scan, count);

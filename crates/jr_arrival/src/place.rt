@@ -1,4 +1,4 @@
-//! A place between two rows of MCUs.
+//! A position between two rows of MCUs.
 
 ghost use Rattle.std.specs.Prelude.{◌≡◌, true, false};
 ghost use Rattle.jr_arrival.specs.Places.{IsPlaceOf};
@@ -12,7 +12,7 @@ use jr_head::Head;
 pub struct RowPlace {
     /// The offset in the file of the byte that has the next bit; before the scan's first byte, that one is meant.
     pub at: u64,
-    /// Number of bits of that byte that are taken, 0 to 7.
+    /// Number of bits of that byte that are used, 0 to 7.
     pub bit: u32,
     /// Number of rows of MCUs before it.
     pub row: u32,

@@ -20,7 +20,7 @@ take_two m n bs =
     ∙ ap (λ z. take m (take (m + n) bs) ++ z) (sym (drop-take m n bs))
     ∙ take-append-drop m (take (m + n) bs)
 
--- what a write took of what was left
+-- the bytes that a write took of what was left
 pub sent_more : (a b c : Option (List ℕ)) (m n : ℕ) (bs : List ℕ) → Appends a b (take m bs) → Appends b c (take n (take (length bs - m) (drop m bs))) → Appends a c (take (m + n) bs)
 sent_more a b c m n bs p q = rw (← take_two m n bs) (then a b c (take m bs) (take n (drop m bs)) p (rw take_rest at q))
 
@@ -40,7 +40,7 @@ on_err (Err e) P p = p
 pub from_err : {T E : Type 0} (r : Result T E) (e : E) (P : Type 0) → r ≡ Err e → OnErr r P → P
 from_err r e P is p = rw is at p
 
--- a front of the first piece
+-- a prefix of the first piece
 pub front_first : {a b : Option (List ℕ)} (xs ys : List ℕ) → AppendsBeginning a b xs → AppendsBeginning a b (xs ++ ys)
 front_first xs ys f = record {
   sent = f.sent;
@@ -49,7 +49,7 @@ front_first xs ys f = record {
   appended = f.appended;
 }
 
--- the first piece, and a front of the second
+-- the first piece, and a prefix of the second
 pub front_after : (a b c : Option (List ℕ)) (xs ys : List ℕ) → Appends a b xs → AppendsBeginning b c ys → AppendsBeginning a c (xs ++ ys)
 front_after a b c xs ys p f = record {
   sent = xs ++ f.sent;
@@ -58,7 +58,7 @@ front_after a b c xs ys p f = record {
   appended = then a b c xs f.sent p f.appended;
 }
 
--- a front of a text, where the pieces before ys were sent, and then a front of ys
+-- a prefix of a text, if the pieces before ys were sent, and then a prefix of ys
 pub front_of : (a b c : Option (List ℕ)) (xs ys zs whole : List ℕ) → whole ≡ xs ++ ys ++ zs → Appends a b xs → AppendsBeginning b c ys → AppendsBeginning a c whole
 front_of a b c xs ys zs whole e p f = rw e (front_first (xs ++ ys) zs (front_after a b c xs ys p f))
 

@@ -10,7 +10,7 @@ use Rattle.std.proofs.lemmas.List.FromFn.{get_or-range_with_len}
 use Rattle.jr_base.specs.Blocks.{at, in_zigzag_order, in_natural_order}
 use Rattle.jr_base.specs.Zigzag.{natural_indexes, places, natural_index, zigzag_place}
 
--- what a test says of each of 64 numbers
+-- the result of a test of each of 64 numbers
 at_each : (test : ℕ → Bool) → list_all test (range_with_len 0 64) ≡ true → (k : ℕ) → k < 64 → test k ≡ true
 at_each test all k h =
     elim (cases_Bool (test k)) [
@@ -59,7 +59,7 @@ pub at_natural : (xs : List ℤ) (n : ℕ) → n < 64 → at (in_natural_order x
 unfolding in_natural_order zigzag_place
 at_natural xs n h = get_or-map (at xs) places n 0 (pos 0) h
 
--- told in zigzag order, numbers in natural order stand at their places
+-- a number in natural order is at its zigzag position in zigzag order
 pub at_place : (xs : List ℤ) (n : ℕ) → n < 64 → at xs n ≡ at (in_zigzag_order xs) (zigzag_place n)
 at_place xs n h = sym (at_zigzag xs (zigzag_place n) (place_below n h) ∙ ap (at xs) (natural_of_place n h))
 
@@ -67,7 +67,7 @@ natural_count : (ys : List ℤ) → length (in_natural_order ys) ≡ 64
 unfolding in_natural_order
 natural_count ys = refl
 
--- numbers in natural order, told in zigzag order and back again
+-- numbers in natural order, rearranged in zigzag order and back
 pub natural_again : (xs : List ℤ) → length xs ≡ 64 → in_natural_order (in_zigzag_order xs) ≡ xs
 natural_again xs long =
     let count : length (in_natural_order (in_zigzag_order xs)) ≡ 64 = natural_count (in_zigzag_order xs) in
@@ -87,7 +87,7 @@ set_at xs k v j long h c =
       | inr n ↦ get_or-set_other xs (natural_index k) (natural_index j) v (pos 0) (λ e. n (one_index j k c h e)) ∙ sym (at_zigzag xs j c) ∙ sym (get_or-set_other (in_zigzag_order xs) k j v (pos 0) n)
     ]
 
--- a number is put at its index of either order
+-- a number is written at its index of either order
 pub set_zigzag : (xs : List ℤ) (k : ℕ) (v : ℤ) → length xs ≡ 64 → k < 64 → in_zigzag_order (set xs (natural_index k) v) ≡ set (in_zigzag_order xs) k v
 set_zigzag xs k v long h =
     ext_get_or (pos 0) (in_zigzag_order (set xs (natural_index k) v)) (set (in_zigzag_order xs) k v)

@@ -14,7 +14,7 @@ has_failed t = t.has_failed
 abbrev pub known_in : {T : Type 0} → (T → Option (List ℕ)) → Tally T → Option (List ℕ)
 known_in known t = known t.inner
 
--- a write answered an error, or took none of at least one byte
+-- a write returned an error, or took none of at least one byte
 abbrev pub took_none : {E : Type 0} → Result ℕ E → List ℕ → Bool
 took_none (Ok n) buf = (n == 0) && nat_lt 0 (length buf)
 took_none (Err e) buf = true

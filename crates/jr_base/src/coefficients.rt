@@ -45,7 +45,7 @@ impl Coefficients {
         self.natural[natural_at(index)] = value;
     }
 
-    /// Returns the first coefficient, that of the mean.
+    /// Returns the DC coefficient, that of the mean.
     #[inline(always)]
     pub fn first(&self) -> i16
         ensures { result ≡ at self.now 0 }

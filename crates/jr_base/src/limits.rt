@@ -1,4 +1,4 @@
-//! The greatest numbers that this decoder takes.
+//! The limits of this decoder.
 
 /// The most bytes of a file: 1 GiB, a limit of this decoder.
 pub const MAX_FILE_BYTES: usize = 1_073_741_824;

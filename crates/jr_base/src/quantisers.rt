@@ -13,7 +13,7 @@ use std::marker::Model;
 /// makes numbers of sixteen bits of them, as 61214 * 1096 + 1024 is below 32768 * 2048.
 pub const MAX_PRODUCT: u16 = 1096;
 
-/// The elements of a quantisation table (T.81, B.2.4.1), as a file has them and as the transform takes them.
+/// The elements of a quantisation table (T.81, B.2.4.1), in the file's order and in the transform's.
 #[derive(Drop)]
 pub struct Quantisers {
     /// In zigzag order.

@@ -6,7 +6,7 @@ ghost use Rattle.jr_base.specs.Tally.{Writes, WritesBeginning, has_failed};
 use crate::tally::Tally;
 use std::io::Write;
 
-/// The writer failed: it answered an error, or took none of at least one byte.
+/// The writer failed: it returned an error, or took none of at least one byte.
 #[derive(Clone, Copy, PartialEq, Eq)]
 pub struct WriteFault;
 

@@ -1,4 +1,4 @@
--- What counts of that which notes know.
+-- What counts among what notes know.
 use Rattle.std.proofs.Common.{◌≡◌, ◌≢◌, ℕ, zero, suc, ◌+◌, List, [], ◌∷◌, Option, Some, None, length, get_or, replicate, sym, refl, ap, ◌∙◌, arith}
 use Rattle.std.proofs.lemmas.List.{ext_get_or}
 use mathlib.Core.Logic.{dite}
@@ -27,14 +27,14 @@ module _ {X V : Type 0} (counts : ℕ → Option X → Option V) (empty : (i : �
   known_there j None v e = absurd (let z : None ≡ Some v = sym (empty j) ∙ e in cc)
   known_there j (Some x) v e = (x, refl, e)
 
-  -- where nothing known is lost, nothing that counts is
+  -- if nothing known is lost, nothing that counts is
   pub later : (old new : List (Option X)) → ((i : ℕ) (x : X) → get_or old i None ≡ Some x → get_or new i None ≡ Some x)
       → (i : ℕ) (v : V) → get_or (counted counts 0 old) i None ≡ Some v → get_or (counted counts 0 new) i None ≡ Some v
   later old new keep i v e =
       let k = known_there i (get_or old i None) v (sym (there old i) ∙ e) in
       counts_there new i k.0 v (keep i k.0 k.1) k.2
 
-  -- where what is known agrees, what counts does
+  -- if notes agree, what counts agrees
   pub agreed : (one two : List (Option X)) → ((i : ℕ) (x y : X) → get_or one i None ≡ Some x → get_or two i None ≡ Some y → x ≡ y)
       → (i : ℕ) (v w : V) → get_or (counted counts 0 one) i None ≡ Some v → get_or (counted counts 0 two) i None ≡ Some w → v ≡ w
   agreed one two same i v w e f =
@@ -53,7 +53,7 @@ module _ {X V : Type 0} (counts : ℕ → Option X → Option V) (empty : (i : �
   same_there at x None n e keep f = (ap (counts at) e ∙ f, empty at)
   same_there at x (Some y) n e keep f = (ap (counts at) e ∙ f, ap (counts at) (sym (keep y refl)) ∙ ap (counts at) e ∙ f)
 
-  -- where what is found doesn't count, nothing that counts was known there, and what counts elsewhere is as it was
+  -- if what is found does not count, nothing that counts was known there, and what counts elsewhere is unchanged
   pub unseen : (old new : List (Option X)) (at : ℕ) (x : X) → length new ≡ length old
       → ((i : ℕ) (y : X) → get_or old i None ≡ Some y → get_or new i None ≡ Some y)
       → ((i : ℕ) → i ≢ at → get_or new i None ≡ get_or old i None)

@@ -30,7 +30,7 @@ as_many ns names e = sym (length-names ns) ∙ ap length e
 pub within_notes : {X : Type 0} (ns : List (Note X)) (cs : List (Global × ℕ)) (at : ℕ) → names_of ns ≡ map cell_name cs → at < length cs → at < length ns
 within_notes ns cs at e h = omega (arith, h, as_many ns (map cell_name cs) e, length-map cs cell_name)
 
--- the note at a place is that of the cell there
+-- the note at an index is that of the cell there
 pub same_name : {X : Type 0} (ns : List (Note X)) (cs : List (Global × ℕ)) (at : ℕ) (n : Note X) (c : Global × ℕ) → names_of ns ≡ map cell_name cs → at < length cs → n ≡ get_or ns at n → c ≡ get_or cs at c → n.cell ≡ cell_name c
 same_name {X} ns cs at n c e short a b =
     let long = within_notes ns cs at e short in
@@ -55,7 +55,7 @@ pub here : {X : Type 0} (ns : List (Note X)) (at : ℕ) (new : Note X) → at < 
 here {X} ns at new h =
     ap (λ (l : List (Option X)). get_or l at None) (map-set (λ (m : Note X). m.known) ns at new) ∙ get_or-set_same (known_of ns) at new.known None (omega (arith, h, length-known ns))
 
--- and elsewhere what was known
+-- and elsewhere what was known is known
 pub elsewhere : {X : Type 0} (ns : List (Note X)) (at : ℕ) (new : Note X) → KeepOthers at ns (set ns at new)
 elsewhere {X} ns at new j apart = ap (λ (l : List (Option X)). get_or l j None) (map-set (λ (m : Note X). m.known) ns at new) ∙ get_or-set_other (known_of ns) at j new.known None apart
 
@@ -80,7 +80,7 @@ pub missed : {X : Type 0} (ns : List (Note X)) (at : ℕ) (old new : Note X) (r 
 missed {X} ns at old new None h e m = (map-set_same (λ (k : Note X). k.known) ns at new old (m.1 ∙ sym m.0 ∙ ap (λ (k : Note X). k.known) e), was ns at old h e ∙ m.0)
 missed ns at old new (Some b) h e m = tt
 
--- what was found at each place up to now
+-- two lists of notes agree at each index below n
 abbrev pub AgreeBelow : {X : Type 0} → ℕ → List (Note X) → List (Note X) → Type 0
 AgreeBelow {X} n a b = (i : ℕ) (x y : X) → i < n → KnowAt a i x → KnowAt b i y → x ≡ y
 
@@ -100,7 +100,7 @@ agree_more a b i m n e f same below j x y h kx ky = dite (ℕ_discrete j i)
     both_know m.known n.known x y same (sym (was a i m (known_within a i x kx') e) ∙ kx') (sym (was b i n (known_within b i y ky') f) ∙ ky'))
     (λ apart. below j x y (omega arith) kx ky)
 
--- a note that is put back as it was
+-- a note that is written back unchanged
 pub set_back : {X : Type 0} (l : List (Note X)) (i : ℕ) (m n : Note X) → n ≡ get_or l i n → m ≡ n → set l i m ≡ l
 set_back {X} l i m n e f = ap (λ (k : Note X). set l i k) (f ∙ e) ∙ set-get_or l i n
 

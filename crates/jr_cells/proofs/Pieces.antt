@@ -36,18 +36,18 @@ counts_not i p e = ap (λ (b : Bool). cond b (Some (arc_value p)) None) (ne_eqb 
 pub known_piece : (ns : List CellNote) (i : ℕ) (p : Arc PieceValue Global) → KnowAt ns i p → (arc_value p).interval.number ≡ i → Knows (seen ns) i (arc_value p)
 known_piece ns i p k e = counts_there piece_in_cell empty (known_of ns) i p (arc_value p) k (counts_here i p e)
 
--- what a look that found nothing leaves
+-- the sight after a look that found nothing
 pub missed_piece : (old new : List CellNote) (i : ℕ) → names_of new ≡ names_of old → (known_of new ≡ known_of old) × KnowNothingAt old i → (seen new ≡ seen old) × KnowsNothing (seen old) i
 missed_piece old new i names m = (λ j. record { cells = names j; pieces = counted piece_in_cell 0 (m.0 j) }, there piece_in_cell empty (known_of old) i ∙ ap (piece_in_cell i) m.1)
 
--- what one that found a piece of another number leaves
+-- the sight after a look that found a piece of another number
 pub strange_piece : (old new : List CellNote) (i : ℕ) (p : Arc PieceValue Global) → names_of new ≡ names_of old → KeepAll old new → KeepOthers i old new → KnowAt new i p → (arc_value p).interval.number ≢ i → (seen new ≡ seen old) × KnowsNothing (seen old) i
 strange_piece old new i p names keep others k e =
     let long : length (known_of new) ≡ length (known_of old) = length-known new ∙ as_many new (names_of old) names ∙ length-names old ∙ sym (length-known old) in
     let s = unseen piece_in_cell empty (known_of old) (known_of new) i p long keep others k (counts_not i p e) in
     (λ j. record { cells = names j; pieces = s.0 j }, s.1)
 
--- a piece of the cell's number that was hung is known
+-- a piece of the cell's number that was published (`hang`) is known
 pub hung : {E : Type 0} (ns : List CellNote) (i : ℕ) (p : Arc PieceValue Global) (r : Result (Unit {0}) E) → (arc_value p).interval.number ≡ i → IfOk r (λ _. KnowAt ns i p) → IfOk r (λ _. Knows (seen ns) i (arc_value p))
 hung ns i p (Ok u) e k = known_piece ns i p k e
 hung ns i p (Err x) e k = tt

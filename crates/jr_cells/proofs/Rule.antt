@@ -29,7 +29,7 @@ pub times-append : (x : ℕ) (xs ys : List ℕ) → times x (xs ++ ys) ≡ times
 times-append x [] ys = omega arith
 times-append x (z ∷ zs) ys = let r = times-append x zs ys in omega arith
 
--- one more number below the bound
+-- one more number is below the bound
 pub once_more : (x m : ℕ) → once_below x (m + 1) ≡ once_below x m + cond (eqb m x) 1 0
 once_more x m = grind (arith, nat_tests)
 
@@ -159,7 +159,7 @@ module _ (g : SeatView → ℕ) where
   none_left f [] e h = refl
   none_left f (x ∷ xs) e h = let a = h zero x refl (omega arith) in let r = none_left f xs (omega arith) (λ i. h (suc i)) in omega arith
 
-  -- one view has all of g, and f is nothing where g is nothing
+  -- one view has all of g, and f is nothing wherever g is nothing
   pub lone : (f : SeatView → ℕ) (l : List SeatView) (id : ℕ) (v : SeatView) → get_elem? l id ≡ some v → total g l ≡ g v → ((i : ℕ) (u : SeatView) → get_elem? l i ≡ some u → g u ≡ 0 → f u ≡ 0) → total f l ≡ f v
   lone f [] id v at e h = absurd (some-ne-none v (sym at))
   lone f (x ∷ xs) zero v at e h =
@@ -168,7 +168,7 @@ module _ (g : SeatView → ℕ) where
   lone f (x ∷ xs) (suc id) v at e h =
       let a = total_at xs id v at in let b = h zero x refl (omega arith) in let r = lone f xs id v at (omega arith) (λ i. h (suc i)) in omega arith
 
--- who has all seats has all that was drawn
+-- a view that has all seats has all that was drawn
 pub has_all : (n k : ℕ) (s : State (Unit {0}) SeatView) (id : ℕ) (v : SeatView) → Dealt n k s → get_elem? s.views id ≡ some v → v.seats ≡ k → (x : ℕ) → times x v.drawn ≡ once_below x (min (get_or s.words 0 0) n)
 has_all n k s id v r at all x =
     let a = lone (λ (u : SeatView). u.seats) (λ (u : SeatView). times x u.drawn) s.views id v at (r.seats ∙ sym all) (λ i u e none. ap (times x) ((r.each i u e).idle none)) in

@@ -1,4 +1,4 @@
--- How many cells the strips of so many MCUs take.
+-- The number of cells for the strips of some MCUs.
 use Rattle.std.proofs.Common.{ℕ, zero, suc, ◌*◌, ◌<◌, ◌≤◌, arith}
 use Rattle.std.specs.Int.{div_ceil}
 use Rattle.std.proofs.Math.Nat.{mul-le-mul_right, le-mul_of_pos_right}
@@ -18,6 +18,6 @@ no_more mcus each some = go (div_ceil mcus each) (omega arith)
     go zero h = omega arith
     go (suc n) h = omega (arith, begins_within mcus each n some (omega (arith, h)), le-mul_of_pos_right n some)
 
--- where so many MCUs take so much room, they do
+-- if memory suffices for that number of MCUs, it suffices for the cells
 pub room_of_cells : (cells mcus each room : ℕ) → cells ≤ mcus → mcus * each ≤ room → cells * each ≤ room
 room_of_cells cells mcus each room few h = let up : cells * each ≤ mcus * each = mul-le-mul_right each few in omega (arith, up, h)

@@ -40,26 +40,26 @@ module _ (number each : ℕ) where
   stands_not first s (inl e) = ap (λ (b : Bool). b && (s.first == first)) (ne_eqb s.interval.number number e)
   stands_not first s (inr e) = ap (λ (b : Bool). b && (s.first == first)) (eq-eqb s.interval.number number e.0) ∙ ne_eqb s.first first e.1
 
-  -- the interval's strip from that MCU on, which notes know, is known
+  -- a strip of the interval that notes know is known if it starts at its cell's MCU
   pub known_strip : (ns : List StripNote) (place : ℕ) (s : Arc StripValue Global) → KnowAt ns place s → (arc_value s).interval.number ≡ number → (arc_value s).first ≡ place * each
       → KnowsStrip (seen ns) place (arc_value s)
   known_strip ns place s k e f =
       counts_there in_cell empty (known_of ns) place s (arc_value s) k (ap (λ (b : Bool). cond b (Some (arc_value s)) None) (stands (place * each) (arc_value s) e f))
 
-  -- such a strip that was hung is known
+  -- such a strip that was published (`hang`) is known
   pub hung : {E : Type 0} (ns : List StripNote) (place : ℕ) (s : Arc StripValue Global) (r : Result (Unit {0}) E) → (arc_value s).interval.number ≡ number → (arc_value s).first ≡ place * each
       → IfOk r (λ _. KnowAt ns place s) → IfOk r (λ _. KnowsStrip (seen ns) place (arc_value s))
   hung ns place s (Ok u) e f k = known_strip ns place s k e f
   hung ns place s (Err x) e f k = tt
 
-  -- what a look that found nothing leaves
+  -- the sight after a look that found nothing
   pub missed_strip : (old new : List StripNote) (place : ℕ) → names_of new ≡ names_of old → (known_of new ≡ known_of old) × KnowNothingAt old place → (seen new ≡ seen old) × KnowsNoStrip (seen old) place
   missed_strip old new place names m = (
     λ j. record { cells = record { number = number; each = each; cells = names j }; strips = counted in_cell 0 (m.0 j) },
     there in_cell empty (known_of old) place ∙ ap (in_cell place) m.1,
   )
 
-  -- what one that found another strip leaves
+  -- the sight after a look that found another strip
   pub strange_strip : (old new : List StripNote) (place : ℕ) (s : Arc StripValue Global) → names_of new ≡ names_of old → KeepAll old new → KeepOthers place old new → KnowAt new place s
       → ((arc_value s).interval.number ≢ number) ⊎ (((arc_value s).interval.number ≡ number) × ((arc_value s).first ≢ place * each)) → (seen new ≡ seen old) × KnowsNoStrip (seen old) place
   strange_strip old new place s names keep others k e =
@@ -68,13 +68,13 @@ module _ (number each : ℕ) where
       let u = unseen in_cell empty (known_of old) (known_of new) place s long keep others k not in
       (λ j. record { cells = record { number = number; each = each; cells = names j }; strips = u.0 j }, u.1)
 
--- of which cells a sight is
+-- the cells of a sight
 pub of_cells : (number each : ℕ) (ns : List StripNote) (s : StripSightValue) (v : StripCellsValue) → seen number each ns ≡ s → s.cells ≡ v → (number ≡ v.number) × (each ≡ v.each)
 of_cells number each ns s v e f =
     let g : cells_seen number each ns ≡ v = ap (λ (t : StripSightValue). t.cells) e ∙ f in
     (ap (λ (c : StripCellsValue). c.number) g, ap (λ (c : StripCellsValue). c.each) g)
 
--- sights of the same cells agree where their notes do
+-- sights of the same cells agree if their notes do
 pub agree_alike : (n m each e : ℕ) (one two : List StripNote) → n ≡ m → each ≡ e → NotesAgree one two → AgreeOnStrips (seen n each one) (seen m e two)
 agree_alike n m each e one two a b same =
     subst (λ (k : ℕ). AgreeOnStrips (seen n each one) (seen k e two)) a (subst (λ (k : ℕ). AgreeOnStrips (seen n each one) (seen n k two)) b (agree n each one two same))

@@ -17,7 +17,7 @@ abbrev pub piece_in_cell : ℕ → Option (Arc PieceValue Global) → Option Pie
 piece_in_cell i None = None
 piece_in_cell i (Some p) = cond ((arc_value p).interval.number == i) (Some (arc_value p)) None
 
--- the pieces that notes know in the cells from the first on
+-- the pieces that notes know in the cells, starting at the first
 abbrev pub pieces_of : List CellNote → List (Option PieceValue)
 pieces_of ns = counted piece_in_cell 0 (known_of ns)
 

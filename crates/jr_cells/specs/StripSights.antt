@@ -21,11 +21,11 @@ abbrev pub strip_in_cell : ℕ → ℕ → Option (Arc StripValue Global) → Op
 strip_in_cell number first None = None
 strip_in_cell number first (Some s) = cond (stands_at number first (arc_value s)) (Some (arc_value s)) None
 
--- the strips that notes know in the cells from the first on
+-- the strips that notes know in the cells, starting at the first
 abbrev pub strips_of : ℕ → ℕ → List StripNote → List (Option StripValue)
 strips_of number each ns = counted (λ place. strip_in_cell number (place * each)) 0 (known_of ns)
 
--- the sight knows this strip in the cell of this place
+-- the sight knows this strip in the cell at this index
 abbrev pub KnowsStrip : StripSightValue → ℕ → StripValue → Type 0
 KnowsStrip s place strip = slice_index_or s.strips place None ≡ Some strip
 

@@ -16,6 +16,6 @@ pub record SeatValue : Type 0 where
 abbrev pub desk_of : TableId → ℕ → ℕ → DeskValue
 desk_of table limit seats = record { table = table; limit = limit; seats = seats }
 
--- the seat at this place, which has drawn nothing
+-- the seat at this index, which has drawn nothing
 abbrev pub fresh : DeskValue → ℕ → SeatValue
 fresh desk place = record { desk = desk; place = place; drawn = []; ended = false }

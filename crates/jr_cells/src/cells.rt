@@ -34,7 +34,7 @@ impl Model for Cells {
     ghost invariant = { λ c. length c.cells.items < 2 ^ 32 };
 }
 
-/// A record of what one thread has seen of some cells. It takes no bytes: it is what a proof knows of each cell.
+/// A record of what one thread has seen of some cells. It has no bytes: it is what a proof knows of each cell.
 #[derive(Drop)]
 pub struct Sight {
     notes: Vec<Note<Arc<Piece>>>,

@@ -86,7 +86,7 @@ impl Model for Desk {
     ghost invariant = { λ d. (d.table.shared.table_id.words ≡ 2) × (d.table.shared.table_id.slots ≡ 0) × (d.table.shared.key ≡ (d.limit, d.seats)) × (0 < d.seats) };
 }
 
-/// A place at a desk, which claims.
+/// A thread's access to a desk, which claims.
 #[derive(Drop)]
 pub struct Seat {
     pass: Pass,
@@ -146,7 +146,7 @@ impl Drawn {
 
 type SharedTable = Shared<(), SeatView, (u64, u64), Rules>;
 
-// A seat for each place, of which the first view is cut.
+// Makes a seat for each index, of which the first view is cut.
 fn deal(
     alloc: Global,
     table: &SharedTable,

@@ -40,7 +40,7 @@ impl Model for StripCells {
     ghost invariant = { λ c. (0 < c.each) × (length c.cells.items < 2 ^ 32) × ((place : ℕ) → place < length c.cells.items → place * c.each < 2 ^ 32) };
 }
 
-/// A record of what one thread has seen of an interval's strips. It takes no bytes: it is what a proof knows of each
+/// A record of what one thread has seen of an interval's strips. It has no bytes: it is what a proof knows of each
 /// cell.
 #[derive(Drop)]
 pub struct StripSight {

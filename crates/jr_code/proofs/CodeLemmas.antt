@@ -1,4 +1,4 @@
--- The words of a code table: where they stand, what they are, and that none begins another.
+-- The codes of a code table: their positions, their bits, and that none begins another.
 use Rattle.std.specs.Prelude.{◌==◌}
 use Rattle.std.specs.Bool.{Decides}
 use Rattle.std.specs.Cmp.Lexicographic.{bytes_decides, pointwise}
@@ -39,7 +39,7 @@ pub space-append : (xs ys : List ℕ) → space (xs ++ ys) ≡ space xs + space 
 unfolding space
 space-append xs ys = sum_by-append room xs ys
 
--- the words of one length stand together, behind all shorter ones
+-- the codes of one length follow each other, after all shorter ones
 pub lengths_split : (cs : List ℕ) (i : ℕ) → i < length cs
     → lengths cs ≡ lengths (take i cs) ++ (replicate (get_or cs i 0) (i + 1) ++ lengths_from (i + 2) (drop (i + 1) cs))
 lengths_split cs i h =
@@ -59,7 +59,7 @@ space_more cs i h =
     ∙ ap (λ t. space (lengths (take i cs)) + space t) (append-nil (replicate (get_or cs i 0) (i + 1)))
     ∙ ap (λ n. space (lengths (take i cs)) + n) (space-replicate (get_or cs i 0) (i + 1))
 
--- the k-th word of i + 1 bits: where it stands, and the room before it
+-- the k-th code of i + 1 bits: its position, and the space before it
 pub record Stands (cs : List ℕ) (i k place : ℕ) : Type 0 where
   pub long : slice_get (lengths cs) place ≡ Some (i + 1)
   pub before : space (take place (lengths cs)) ≡ space (lengths (take i cs)) + k * room (i + 1)
@@ -98,7 +98,7 @@ stands cs i k place h small e =
           ∙ ap (λ n. space front + n) (space-replicate k (i + 1));
     }
 
--- each place is that of some word
+-- each position is that of some code
 pub record Found (cs : List ℕ) (place : ℕ) : Type 0 where
   pub i : ℕ
   pub k : ℕ
@@ -115,7 +115,7 @@ found (c ∷ cs) place h = ⊎_elim
     record { i = suc f.i; k = f.k; within = omega (arith, f.within); small = f.small; at = omega (arith, f.at, sum_by-cons (λ x. x) c (take f.i cs)) })
     (cases_lt place c)
 
--- the room of all shorter words is whole rooms of the next length
+-- the space of all shorter codes is a multiple of that of a code of i bits
 pub record Whole (cs : List ℕ) (i : ℕ) : Type 0 where
   pub times : ℕ
   pub is : space (lengths (take i cs)) ≡ times * room i
@@ -144,12 +144,12 @@ whole cs (suc i) h short =
           ∙ doubled w.times (room (i + 1)) (get_or cs i 0));
     }
 
--- ---- the words
+-- ---- the codes
 
 pub room_pos : (l : ℕ) → 0 < room l
 room_pos l = pow_pos (16 - l)
 
--- a word of i + 1 bits, by its number among those
+-- a code of i + 1 bits, by its number among those
 pub record Spelled (t : Table) (word : List Bool) (i k place : ℕ) : Type 0 where
   pub within : i < length t.counts
   pub small : k < get_or t.counts i 0
@@ -196,7 +196,7 @@ spelled t word s w =
       },
     )
 
--- a word's room lies before each later place
+-- a code's space lies before each later position
 space_later : (ls : List ℕ) (p q l : ℕ) → p < q → slice_get ls p ≡ Some l → space (take p ls) + room l ≤ space (take q ls)
 unfolding space
 space_later ls p q l h e =
@@ -207,7 +207,7 @@ space_later ls p q l h e =
     let le : sum_by room (take (p + 1) (take q ls)) ≤ sum_by room (take q ls) = sum_by-take-le room (take q ls) (p + 1) in
     omega (arith, ap (λ t. sum_by room t) front)
 
--- rooms of a word and of what it begins
+-- the space of a code is a multiple of that of a longer one
 room_inside : (a z : ℕ) → a + z ≤ 16 → room a ≡ 2 ^ z * room (a + z)
 room_inside a z h =
     let e : 16 - a ≡ z + (16 - (a + z)) = omega arith in
@@ -218,7 +218,7 @@ room_all l h =
     let e : 0 + l ≡ l = omega arith in
     room_inside 0 l (omega arith) ∙ ap (λ n. 2 ^ l * room n) e
 
--- where the room of the longer word begins
+-- where the space of the longer code begins
 number_inside : (a z : List Bool) → length a + length z ≤ 16
     → (number (a ++ z) * room (length (a ++ z)) ≡ number a * room (length a) + number z * room (length a + length z))
     × (number z * room (length a + length z) < room (length a))
@@ -234,7 +234,7 @@ number_inside a z h =
       omega arith,
     )
 
--- a word that begins another stands at the same place
+-- a code that begins another has the same position
 same_place : (t : Table) (a z : List Bool) (s u : ℕ) (v : IsWord t a s) (w : IsWord t (a ++ z) u) → v.place ≡ w.place
 same_place t a z s u v w =
     let long : length a + length z ≤ 16 = omega (arith, w.short, length-append a z) in
@@ -247,7 +247,7 @@ same_place t a z s u v w =
     o)
     (cases_order v.place w.place)
 
--- a list that goes on after another, where both begin one list, the first no longer than the second
+-- of two prefixes of one list, the longer one begins with the shorter
 go_on : {X : Type 0} (a b x y : List X) → length a ≤ length b → a ++ x ≡ b ++ y → b ≡ a ++ drop (length a) b
 go_on [] b x y h e = refl
 go_on (p ∷ a) [] x y h e = absurd (omega (arith, h))
@@ -261,14 +261,14 @@ length_zero : {X : Type 0} (a z : List X) → length (a ++ z) ≡ length a → a
 length_zero a [] e = append-nil a
 length_zero a (x ∷ z) e = absurd (omega (arith, e, length-append a (x ∷ z)))
 
--- one place has one word and one symbol
+-- one position has one code and one symbol
 same_word : (t : Table) (a b : List Bool) (s u : ℕ) (v : IsWord t a s) (w : IsWord t b u) → v.place ≡ w.place → (length a ≡ length b) × (s ≡ u)
 same_word t a b s u v w e = (
   same_some (length a) (length b) (slice_get (lengths t.counts) w.place) (ap (λ p. slice_get (lengths t.counts) p) (sym e) ∙ v.long) w.long,
   same_some s u (slice_get t.symbols w.place) (ap (λ p. slice_get t.symbols p) (sym e) ∙ v.known) w.known,
 )
 
--- no word is the front of another, where the first is no longer
+-- no code begins another, if the first is no longer
 one_word_ordered : (t : Table) (a b x y : List Bool) (s u : ℕ) → IsWord t a s → IsWord t b u → length a ≤ length b → a ++ x ≡ b ++ y → (a ≡ b) × (s ≡ u)
 one_word_ordered t a b x y s u v w le e =
     let on : b ≡ a ++ drop (length a) b = go_on a b x y le e in
@@ -278,14 +278,14 @@ one_word_ordered t a b x y s u v w le e =
     let same = same_word t a (a ++ drop (length a) b) s u v w' place in
     (sym (on ∙ length_zero a (drop (length a) b) (sym same.0)), same.1)
 
--- what begins with two words begins with one
+-- what begins with two codes begins with one
 pub one_word : (t : Table) (a b x y : List Bool) (s u : ℕ) → IsWord t a s → IsWord t b u → a ++ x ≡ b ++ y → (a ≡ b) × (s ≡ u)
 one_word t a b x y s u v w e = ⊎_elim
     (λ le. one_word_ordered t a b x y s u v w (omega (arith, le)) e)
     (λ ge. let r = one_word_ordered t b a y x u s w v ge (sym e) in (sym r.0, sym r.1))
     (cases_lt (length a) (length b))
 
--- each place of a lawful table has a word
+-- each position of a valid table has a code
 pub word_exists : (t : Table) (place s : ℕ) → IsLawfulTable t.counts t.symbols → slice_get t.symbols place ≡ Some s
     → (word : List Bool) × (w : IsWord t word s) × (w.place ≡ place)
 unfolding space
@@ -319,7 +319,7 @@ word_exists t place s lawful known =
       refl,
     )
 
--- the test of two tables tells whether they are one
+-- the test of two tables decides whether they are one
 pub tables_decide : (s t : Table) → Decides (same_table s t) (s ≡ t)
 tables_decide s t =
     let c = bytes_decides s.counts t.counts in

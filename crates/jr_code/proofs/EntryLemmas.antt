@@ -1,4 +1,4 @@
--- The windows that begin with a word, and the words of one length.
+-- The windows that begin with a code, and the codes of one length.
 use Rattle.std.proofs.Common.{◌≡◌, ◌≢◌, ℕ, ◌+◌, ◌-◌, ◌*◌, ◌/◌, ◌^◌, ◌<◌, ◌≤◌, Bool, List, [], length, drop, take, get_or, replicate, refl, sym, ◌∙◌, ap, arith, subst, length-append, ⊎_elim, get_or-set_same, get_or-set_other}
 use Rattle.std.specs.Prelude.{slice_get, slice_index_or, slice_set, Option, Some, None, sum}
 use Rattle.std.proofs.lemmas.Nat.{pow-add, pow_pos, shr_high, shr_below}
@@ -14,13 +14,13 @@ use Rattle.jr_code.proofs.RegisterLemmas.{take-held}
 use Rattle.jr_code.proofs.CodeLemmas.{lengths-append, space-append, room_all, room_pos, same_times, spelled}
 use Rattle.jr_code.proofs.ReadLemmas.{word_found, word_not_empty, full_more}
 
--- so many of the windows of n bits begin with a word
+-- the number of the windows of n bits that begin with a code
 pub windows_of : (n long : ℕ) → long ≤ n → 2 ^ n / 2 ^ long ≡ 2 ^ (n - long)
 windows_of n long h =
     let e : n - long + long ≡ n = omega arith in
     ap (λ k. 2 ^ k / 2 ^ long) (sym e) ∙ ap (λ x. x / 2 ^ long) (pow-add 2 (n - long) long) ∙ mul-div_left (2 ^ (n - long)) (pow_pos long)
 
--- those behind each other from the word's first one on
+-- they follow each other, starting at the code's first one
 pub begins : (k b code : ℕ) → code * 2 ^ k ≤ b → b < code * 2 ^ k + 2 ^ k → b / 2 ^ k ≡ code
 begins k b code from to =
     let e : b ≡ code * 2 ^ k + (b - code * 2 ^ k) = omega arith in
@@ -43,9 +43,9 @@ windows_fit n long code h below =
 pub take-bits_of : (long n b : ℕ) → long ≤ n → take long (bits_of n b) ≡ bits_of long (b / 2 ^ (n - long))
 take-bits_of long n b h = ap (λ t. take long t) (sym (append-nil (bits_of n b))) ∙ take-held long n b [] h
 
--- ---- the words of i + 1 bits, where end is past the greatest of i bits
+-- ---- the codes of i + 1 bits, if `end` is past the greatest of i bits
 
--- the room of the words of at most so many bits
+-- the codes of the first i lengths fit into the code space
 room_within : (t : Table) (i : ℕ) → IsLawfulTable t.counts t.symbols → space (lengths (take i t.counts)) ≤ 65536
 room_within t i lawful =
     let split : space (lengths t.counts) ≡ space (lengths (take i t.counts)) + space (lengths_from (1 + length (take i t.counts)) (drop i t.counts)) =
@@ -94,12 +94,12 @@ slice_get-part xs a n k s h e =
           ∙ slice_get-append_left (take n ys) (drop n ys) k inside ∙ e,
     )
 
--- ---- what bytes look up
+-- ---- the table for bytes
 
 pub entries_none : (t : Table) → AreEntriesTo t 0 (replicate 256 None)
 entries_none t = λ byte h. rw (get_or-replicate {A = Option (ℕ × ℕ)} 256 byte None None h) (λ word rest s w e. word_not_empty t word s w)
 
--- a word more
+-- one more code is entered
 pub entries_more : (t : Table) (i code s : ℕ) (old new : List (Option (ℕ × ℕ))) → i < 8 → IsWord t (bits_of (i + 1) code) s
     → ((b : ℕ) → b / 2 ^ (8 - (i + 1)) ≡ code → slice_index_or new b None ≡ Some (s, i + 1))
     → ((b : ℕ) → b / 2 ^ (8 - (i + 1)) ≢ code → slice_index_or new b None ≡ slice_index_or old b None)
@@ -112,7 +112,7 @@ entries_more t i code s old new short w inside outside all = λ b h. ⊎_elim
     (λ other. rw (outside b other) (all b h))
     (cases_eq (b / 2 ^ (8 - (i + 1))) code)
 
--- a byte without an entry begins with none of the words that were entered
+-- a byte without an entry begins with none of the codes that were entered
 pub passed_more : (i first k s : ℕ) (old new : List (Option (ℕ × ℕ)))
     → ((b : ℕ) → b / 2 ^ (8 - (i + 1)) ≡ first + k → slice_index_or new b None ≡ Some (s, i + 1))
     → ((b : ℕ) → b / 2 ^ (8 - (i + 1)) ≢ first + k → slice_index_or new b None ≡ slice_index_or old b None)
@@ -146,7 +146,7 @@ entry_next t i first count b None short small all entry passed = λ word rest s 
     (λ ne. omega arith)
     (cases_eq (length word) (i + 1))
 
--- all words of i + 1 bits are entered
+-- all codes of i + 1 bits are entered
 pub entries_next : (t : Table) (i first count : ℕ) (entries : List (Option (ℕ × ℕ))) → i < 8
     → ((word : List Bool) (s : ℕ) → IsWord t word s → length word ≡ i + 1 → (k : ℕ) × (k < count) × (number word ≡ first + k))
     → AreEntriesTo t i entries
@@ -160,7 +160,7 @@ entry_all t b None entry = λ word rest s w e. omega (arith, entry word rest s w
 pub entries_all : (t : Table) (entries : List (Option (ℕ × ℕ))) → AreEntriesTo t 8 entries → AreEntries t entries
 entries_all t entries entered = λ b h. entry_all t b (slice_index_or entries b None) (entered b h)
 
--- ---- what eleven bits look up
+-- ---- the table for eleven bits
 
 pub pairs_none : (t : Table) → ArePairs t (replicate 2048 nothing)
 pairs_none t = λ window h. rw (get_or-replicate 2048 window nothing outside h) ((λ short. absurd (omega (arith, short))), (λ short. absurd (omega (arith, short))))
@@ -173,7 +173,7 @@ pairs_more t pairs i p all within pair entered = λ window h. ⊎_elim
     (λ ne. rw (get_or-set_other pairs i window p outside ne) (entered window h))
     (cases_eq window i)
 
--- the window's first bits are the word's
+-- the window's first bits are the code's
 pub word_ahead : (t : Table) (long window code s : ℕ) → long ≤ 11 → code * (2048 / 2 ^ long) ≤ window → window < code * (2048 / 2 ^ long) + 2048 / 2 ^ long
     → IsWord t (bits_of long code) s → IsWord t (take long (bits_of 11 window)) s
 word_ahead t long window code s h from to w =

@@ -1,4 +1,4 @@
--- How the words of a code table are read: by a window of eight bits, and by length.
+-- How the codes of a code table are read: by a window of eight bits, and by length.
 use Rattle.std.proofs.Common.{false, ◌≡◌, ℕ, ◌+◌, ◌-◌, ◌*◌, ◌/◌, ◌%◌, ◌^◌, ◌<◌, ◌≤◌, Bool, List, [], ◌++◌, length, drop, take, get_or, replicate, refl, sym, ◌∙◌, ap, arith, length-append, lit<, ⊎_elim, subst}
 use Rattle.std.specs.Prelude.{◌⊎◌, slice_get, Option, Some, None, IfSome, IfNone, sum}
 use Rattle.std.proofs.lemmas.Bool.{cases_order}
@@ -13,9 +13,9 @@ use Rattle.jr_code.proofs.BitLemmas.{length-bits_of, number-bits_of}
 use Rattle.jr_code.proofs.RegisterLemmas.{take-held}
 use Rattle.jr_code.proofs.CodeLemmas.{lengths-append, space-append, space_more, stands, room_halves, doubled, whole, room_pos, div_room, same_times, spelled, one_word}
 
--- ---- the words of one length
+-- ---- the codes of one length
 
--- code is the number of the first i + 1 bits; end is past the greatest word of i bits
+-- `code` is the number of the first i + 1 bits; `end` is past the greatest code of i bits
 pub word_found : (t : Table) (bs : List Bool) (i code end k s : ℕ) → i < 16 → i < length t.counts → i < length bs
     → end * room i ≡ space (lengths (take i t.counts)) → number (take (i + 1) bs) ≡ code → code ≡ 2 * end + k → k < get_or t.counts i 0
     → slice_get t.symbols (sum (take i t.counts) + k) ≡ Some s → IsWord t (take (i + 1) bs) s
@@ -33,7 +33,7 @@ word_found t bs i code end k s short within enough full is split small known =
       written = is ∙ split ∙ sym (ap (λ n. n / room (length (take (i + 1) bs))) sum_is ∙ ap (λ l. (2 * end + k) * room (i + 1) / room l) long ∙ div_room (2 * end + k) (i + 1));
     }
 
--- no front of i + 1 bits is a word, where the code is past the greatest of them
+-- no prefix of i + 1 bits is a code, if their number is past the greatest of them
 pub none_here : (t : Table) (bs word rest : List Bool) (i code end s : ℕ)
     → end * room i ≡ space (lengths (take i t.counts)) → number (take (i + 1) bs) ≡ code → ((k : ℕ) → k < get_or t.counts i 0 → code ≡ 2 * end + k → ⊥)
     → IsWord t word s → bs ≡ word ++ rest → i < length word → i + 1 < length word
@@ -50,7 +50,7 @@ none_here t bs word rest i code end s full is past w begins longer =
 pub word_not_empty : (t : Table) (word : List Bool) (s : ℕ) → IsWord t word s → 0 < length word
 word_not_empty t word s w = omega (arith, (spelled t word s w).2.long)
 
--- the symbol at a word's place
+-- the symbol at a code's position
 pub known_there : (t : Table) (symbols : List ℕ) (i k at s : ℕ) → symbols ≡ t.symbols → sum t.counts ≡ length t.symbols → i < length t.counts
     → k < get_or t.counts i 0 → at ≡ sum (take i t.counts) + k → s ≡ get_or symbols at s → slice_get t.symbols (sum (take i t.counts) + k) ≡ Some s
 known_there t symbols i k at s same each within small place read =
@@ -67,7 +67,7 @@ full_more t i end count after short within full is e =
     ∙ ap (λ n. space (lengths (take i t.counts)) + n * room (i + 1)) is
     ∙ sym (space_more t.counts i within)
 
--- a count shifted is its words' room
+-- a count shifted is the space of its codes
 pub shifted : (count i : ℕ) → count ≤ 255 → i < 16 → (count * 2 ^ (15 - i) % 4294967296 ≡ count * room (i + 1)) × (count * room (i + 1) ≤ 8355840)
 shifted count i small h =
     let e : 15 - i ≡ 16 - (i + 1) = omega arith in
@@ -77,19 +77,19 @@ shifted count i small h =
     let le : count * 2 ^ (15 - i) ≤ 255 * 2 ^ 15 = mul-le count (2 ^ (15 - i)) 255 (2 ^ 15) small pow in
     (mod-eq_of_lt (omega arith) ∙ same, omega arith)
 
--- ---- windows: the next n bits, where zeros stand for those that are missing
+-- ---- windows: the next n bits, with zeros instead of those that are missing
 
 take-window : (k n : ℕ) (bs : List Bool) → k ≤ n → k ≤ length bs → take k (window_of n bs) ≡ take k bs
 take-window k n bs h e = take-take k n (bs ++ replicate n false) h ∙ take-append-le k bs (replicate n false) e
 
--- a word that begins what is left, and is no longer than the window, begins the window
+-- a code that begins what is left, and is no longer than the window, begins the window
 begins_window : (n : ℕ) (bs word rest : List Bool) → bs ≡ word ++ rest → length word ≤ n → window_of n bs ≡ word ++ drop (length word) (window_of n bs)
 begins_window n bs word rest e h =
     let fits : length word ≤ length bs = omega (arith, ap length e, length-append word rest) in
     let front : take (length word) (window_of n bs) ≡ word = take-window (length word) n bs h fits ∙ ap (λ b. take (length word) b) e ∙ take_at word rest (length word) refl in
     sym (take-append-drop (length word) (window_of n bs)) ∙ ap (λ f. f ++ drop (length word) (window_of n bs)) front
 
--- a window's word is in front where it is whole; where it is cut off there is none, for no word is a front of another
+-- the bits begin with a window's code if it is whole; if it is cut off they begin with none, for no code begins another
 pub window_word : (n : ℕ) (t : Table) (bs : List Bool) (w s long : ℕ) → bits_of n w ≡ window_of n bs → long ≤ n → IsWord t (take long (bits_of n w)) s → IsFirstWordWhereWhole t bs s long
 window_word n t bs w s long e h is = (
   λ fits. rw (← take-window long n bs h fits, ← e) is,
@@ -101,25 +101,25 @@ window_word n t bs w s long e h is = (
       omega (arith, ap length same.0),
 )
 
--- no short word and no long one in front
+-- the bits begin with no short code and with no long one
 pub window_none : (t : Table) (bs : List Bool) (byte w : ℕ) → bits_of 8 byte ≡ window_of 8 bs → IsEntry t byte None → bits_of 16 w ≡ window_of 16 bs
     → ((word rest : List Bool) (s : ℕ) → IsWord t word s → bits_of 16 w ≡ word ++ rest → length word ≤ 8) → HasNoFirstWord t bs
 window_none t bs byte w e none f short = λ word rest s is begins.
     let few : length word ≤ 8 = short word (drop (length word) (window_of 16 bs)) s is (f ∙ begins_window 16 bs word rest begins is.short) in
     none word (drop (length word) (window_of 8 bs)) s is (e ∙ begins_window 8 bs word rest begins few)
 
--- the number of a front of a window
+-- the number of a window's first n bits
 pub number_window : (n w : ℕ) → n ≤ 16 → w < 65536 → number (take n (bits_of 16 w)) ≡ w / 2 ^ (16 - n)
 number_window n w h small =
     let e : n + (16 - n) ≡ 16 = omega arith in
     ap number (ap (λ t. take n t) (sym (append-nil (bits_of 16 w))) ∙ take-held n 16 w [] h) ∙ number-bits_of n (w / 2 ^ (16 - n))
     ∙ mod-eq_of_lt (shr_below w n (16 - n) (omega (arith, small, ap (λ k. 2 ^ k) e)))
 
--- no word of nine bits or more, as far as they were looked at
+-- the window begins with no code of 9 to 8 + k bits
 pub record Longer (t : Table) (window k : ℕ) : Type 0 where
   pub none : (word rest : List Bool) (s : ℕ) → IsWord t word s → bits_of 16 window ≡ word ++ rest → 8 < length word → 8 + k < length word
 
--- the least word of i + 1 bits is twice the end of those of i bits
+-- the least code of i + 1 bits is twice the end of those of i bits
 first_is : (t : Table) (i first : ℕ) → i < 16 → i < length t.counts → first * room (i + 1) ≡ space (lengths (take i t.counts))
     → (end : ℕ) × (first ≡ 2 * end) × (end * room i ≡ space (lengths (take i t.counts)))
 first_is t i first short within e =
@@ -129,7 +129,7 @@ first_is t i first short within e =
     e ∙ wh.is ∙ ap (λ n. wh.times * n) (room_halves i short) ∙ sym (mul_assoc wh.times 2 (room (i + 1))) ∙ ap (λ n. n * room (i + 1)) (mul_comm wh.times 2) in
     (wh.times, same_times first (2 * wh.times) (room (i + 1)) (room_pos (i + 1)) twice, sym wh.is)
 
--- twice that end is the least word of the next length
+-- twice that end is the least code of the next length
 pub first_of : (t : Table) (k end : ℕ) → k < 8 → end * room (k + 8) ≡ space (lengths (take (k + 8) t.counts)) → 2 * end * room (k + 9) ≡ space (lengths (take (k + 8) t.counts))
 first_of t k end short e =
     let nine : k + 8 + 1 ≡ k + 9 = omega arith in
@@ -173,14 +173,14 @@ pub no_word : (t : Table) (bs : List Bool) (byte w : ℕ) (r : Option (ℕ × �
 no_word t bs byte w None e none f short = window_none t bs byte w e none f short
 no_word t bs byte w (Some g) e none f short = short
 
--- a byte's word is in front where there are eight bits and more
+-- the bits begin with a byte's code if there are eight bits or more
 pub entry_word : (t : Table) (bs : List Bool) (byte count : ℕ) (r : Option (ℕ × ℕ)) → bits_of 8 byte ≡ window_of 8 bs → 8 ≤ count → count ≤ length bs → IsEntry t byte r
     → IfSome r (λ f. (f.1 ≤ count) × IsWord t (take f.1 bs) f.0)
 entry_word t bs byte count None e many all entry = tt
 entry_word t bs byte count (Some f) e many all entry =
     (omega (arith, entry.0, many), (window_word 8 t bs byte f.0 f.1 e entry.0 entry.1).0 (omega (arith, entry.0, many, all)))
 
--- what is in front of the bits of a register is in front of all, where these are as many as the longest word has or all there are
+-- if a register's bits begin with no code, all bits don't, if the register has enough bits for the longest or no bits follow
 pub held_none : (t : Table) (bs rest : List Bool) → (16 ≤ length bs) ⊎ (rest ≡ []) → HasNoFirstWord t bs → HasNoFirstWord t (bs ++ rest)
 held_none t bs rest many none = λ word after s w begins.
     ⊎_elim
@@ -201,7 +201,7 @@ pub if_none : {X : Type 0} (P : Type 0) (r : Option X) → P → IfNone r P
 if_none P None p = p
 if_none P (Some x) p = tt
 
--- a word's place among the symbols
+-- a code's position among the symbols
 pub place_within : (t : Table) (i shorter k : ℕ) → sum t.counts ≡ length t.symbols → i < length t.counts → shorter ≡ sum (take i t.counts) → k < get_or t.counts i 0
     → shorter + k < length t.symbols
 place_within t i shorter k each within is small = omega (arith, each, is, small, sum_by_more_le (λ n. n) t.counts i 0 within)

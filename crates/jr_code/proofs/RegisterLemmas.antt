@@ -1,4 +1,4 @@
--- The bits of a register: what a word behind it, a front of it and a rest of it are.
+-- The bits of a register: with a 32-bit word after them, their first bits, and the rest of them.
 use Rattle.std.proofs.Common.{Bool, false, ◌≡◌, ℕ, zero, suc, ◌+◌, ◌-◌, ◌*◌, ◌/◌, ◌%◌, ◌^◌, ◌<◌, ◌≤◌, ◌==◌, List, [], ◌∷◌, ◌++◌, length, drop, take, get_or, replicate, refl, sym, ◌∙◌, ap, arith, length-append, ⊎_elim}
 use Rattle.std.specs.Prelude.{bit_and, bit_or}
 use Rattle.std.specs.Int.{w32, from_be_bytes}
@@ -29,14 +29,14 @@ bits_of-split a b n =
     ∙ ap (λ x. x * 2 ^ b + number (bits_of b n)) (number-bits_of a (n / 2 ^ b))
     ∙ ap (λ x. n / 2 ^ b % 2 ^ a * 2 ^ b + x) (number-bits_of b n)))
 
--- a number behind another
+-- a number after another
 pub bits_of-join : (a b x y : ℕ) → y < 2 ^ b → bits_of (a + b) (x * 2 ^ b + y) ≡ bits_of a x ++ bits_of b y
 bits_of-join a b x y h =
     bits_of-split a b (x * 2 ^ b + y)
     ∙ ap (λ n. bits_of a n ++ bits_of b (x * 2 ^ b + y)) (shr_high x b y h)
     ∙ ap (λ t. bits_of a x ++ t) (bits_of-congr b (x * 2 ^ b + y) y (mod_low x b y h ∙ sym (mod-eq_of_lt h)))
 
--- k bits more behind those of a register of 64: bits above its count mean nothing
+-- k bits more after those of a register of 64: bits above its count mean nothing
 pub bits_of-push : (count k held w : ℕ) → count + k ≤ 64 → w < 2 ^ k → bits_of (count + k) (bit_or (held * 2 ^ k % 2 ^ 64) w) ≡ bits_of count held ++ bits_of k w
 bits_of-push count k held w fits small =
     let whole : 64 - k + k ≡ 64 = omega arith in
@@ -51,7 +51,7 @@ bits_of-push count k held w fits small =
     ∙ ap (λ n. bits_of count (held % 2 ^ n) ++ bits_of k w) (sym above)
     ∙ ap (λ t. t ++ bits_of k w) (bits_of-mod (64 - k - count) count held)
 
--- a byte more
+-- one more byte
 pub push_byte : (count held byte : ℕ) (rest : List ℕ) → count ≤ 56 → byte < 256
     → bits_of (count + 8) (bit_or (held * 2 ^ 8 % 2 ^ 64) byte) ++ bits rest ≡ bits_of count held ++ bits (byte ∷ rest)
 push_byte count held byte rest few small =
@@ -72,7 +72,7 @@ word_bits a b c d n ha hb hc hd is =
     ∙ append_assoc (bits_of 8 a) (bits_of 8 b) (bits_of 8 c ++ bits_of 8 d)
     ∙ ap (λ t. bits_of 8 a ++ (bits_of 8 b ++ (bits_of 8 c ++ t))) (sym (append-nil (bits_of 8 d)))
 
--- the first n bits of a register, and what is behind them
+-- the first n bits of a register, and what follows them
 split_at : (n count held : ℕ) → n ≤ count → bits_of count held ≡ bits_of n (held / 2 ^ (count - n)) ++ bits_of (count - n) held
 split_at n count held h =
     let e : n + (count - n) ≡ count = omega arith in
@@ -161,7 +161,7 @@ window_is n count held rest short few clean none =
     ∙ take_zeros (upper_bits count held) n (64 - count) n (omega (arith, length-first count held few, short, few)) (omega arith)
     ∙ ap (λ t. take n (t ++ replicate n false)) (sym all)
 
--- ---- bits that are taken
+-- ---- bits that are read
 
 shifted_out : (n count held : ℕ) → n ≤ count → count ≤ 64 → held * 2 ^ n % 2 ^ 64 / 2 ^ (64 - (count - n)) ≡ held / 2 ^ (64 - count) % 2 ^ (count - n)
 shifted_out n count held h few =
@@ -202,7 +202,7 @@ clean_behind n count held h few clean =
 held_is : (count held : ℕ) → held % 2 ^ (64 - count) ≡ 0 → held ≡ held / 2 ^ (64 - count) * 2 ^ (64 - count)
 held_is count held clean = omega (arith, div-add-mod' held (2 ^ (64 - count)), clean)
 
--- a word behind fewer than 32 bits
+-- a word after fewer than 32 bits
 with_word : (count held word : ℕ) → count < 32 → held % 2 ^ (64 - count) ≡ 0
     → held + word * 2 ^ (32 - count) ≡ (held / 2 ^ (64 - count) * 2 ^ 32 + word) * 2 ^ (32 - count)
 with_word count held word few clean =
@@ -212,7 +212,7 @@ with_word count held word few clean =
     ap (λ h. h + word * 2 ^ (32 - count)) (held_is count held clean ∙ ap (λ p. held / 2 ^ (64 - count) * p) pow ∙ sym (mul_assoc (held / 2 ^ (64 - count)) (2 ^ 32) (2 ^ (32 - count))))
     ∙ sym (add-mul (held / 2 ^ (64 - count) * 2 ^ 32) word (2 ^ (32 - count)))
 
--- it is put there by a shift; nothing is put there by a shift of 0
+-- a shift moves it there; a shift of 0 moves nothing there
 pub word_or : (count held word : ℕ) → count < 32 → held % 2 ^ (64 - count) ≡ 0 → word < 2 ^ 32
     → bit_or held (word * 2 ^ 32 % 2 ^ 64 / 2 ^ count) ≡ held + word * 2 ^ (32 - count)
 word_or count held word few clean small =
@@ -253,7 +253,7 @@ word_front count held word few clean small =
     ∙ bits_of-join count 32 (held / 2 ^ (64 - count)) word small
     ∙ ap (λ t. t ++ bits_of 32 word) (sym (first_is count held (omega (arith, few))))
 
--- a word of the next four bytes more
+-- one more word, the next four bytes
 pub push_word : (count held word : ℕ) (rest : List ℕ) → count < 32 → held % 2 ^ (64 - count) ≡ 0 → 4 ≤ length rest → word < 2 ^ 32
     → bits_of 32 word ≡ bits (get_or rest 0 0 ∷ get_or rest 1 0 ∷ get_or rest 2 0 ∷ get_or rest 3 0 ∷ [])
     → upper_bits (count + 32) (held + word * 2 ^ (32 - count)) ++ bits (drop 4 rest) ≡ upper_bits count held ++ bits rest
@@ -267,7 +267,7 @@ push_word count held word (a ∷ []) few clean long small is = absurd (omega (ar
 push_word count held word (a ∷ b ∷ []) few clean long small is = absurd (omega (arith, long))
 push_word count held word (a ∷ b ∷ c ∷ []) few clean long small is = absurd (omega (arith, long))
 
--- the last bytes more
+-- the last bytes are appended
 pub push_last : (count all held number : ℕ) (rest : List ℕ) → count < 32 → all ≡ count + 8 * length rest → all ≤ 64
     → ((k : ℕ) → k ≤ 32 → bits_of (k + 8 * length rest) number ≡ bits_of k (held / 2 ^ 32 / 2 ^ (32 - count)) ++ bits rest)
     → upper_bits all (number * 2 ^ (64 - all) % 2 ^ 64) ++ bits [] ≡ upper_bits count held ++ bits rest
@@ -294,7 +294,7 @@ last_clean all number fits =
     ∙ mod-mod-pow (number * 2 ^ (64 - all)) all (64 - all)
     ∙ mul-mod_left number (2 ^ (64 - all))
 
--- a register refilled: where it holds fewer than 32 bits by a word more, and else not at all
+-- a register refilled: with one more word if it holds fewer than 32 bits, otherwise unchanged
 pub refilled_bits : (count held word words after_held : ℕ) (rest after : List ℕ) → count < 64 → held % 2 ^ (64 - count) ≡ 0 → 4 ≤ length rest → word < 2 ^ 32
     → bits_of 32 word ≡ bits (get_or rest 0 0 ∷ get_or rest 1 0 ∷ get_or rest 2 0 ∷ get_or rest 3 0 ∷ [])
     → words ≡ (63 - count) / 32 → after ≡ take (length rest - 4 * words) (drop (4 * words) rest)

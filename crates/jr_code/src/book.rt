@@ -16,12 +16,12 @@ use jr_base::Memory;
 use std::alloc::Global;
 use std::marker::Model;
 
-/// A code table (T.81, Annex C) by which AC coefficients are read, word and additional bits at once. Two are equal if
+/// A code table (T.81, Annex C) by which AC coefficients are read, code and additional bits at once. Two are equal if
 /// their counts and symbols are.
 #[derive(Drop)]
 pub struct CodeBook {
     words: WordBook,
-    /// By eleven bits: the word that they begin with and its additional bits, if both are within them.
+    /// By eleven bits: the code that they begin with and its additional bits, if both are within them.
     pairs: [Packed; WINDOWS],
 }
 
@@ -53,8 +53,8 @@ impl CodeBook {
         self.words.is_same(&other.words)
     }
 
-    /// Builds the table of these counts, `counts[i]` of words of i + 1 bits, and of a symbol for each word in order
-    /// (T.81, B.2.4.2 and Annex C). A symbol may occur twice, the word of all ones may be assigned, and a table may be
+    /// Builds the table of these counts, `counts[i]` of codes of i + 1 bits, and of a symbol for each code in order
+    /// (T.81, B.2.4.2 and Annex C). A symbol may occur twice, the code of all ones may be assigned, and a table may be
     /// empty.
     pub fn new(alloc: Global, counts: &[u8; 16], symbols: &[u8]) -> Result<CodeBook, CodeFault>
         ensures book { IfOk result (λ b. b ≡ record { counts = counts.now; symbols = symbols.now }) }
@@ -69,7 +69,7 @@ impl CodeBook {
         CodeBook::with_symbols(alloc, counts, symbols)
     }
 
-    /// Returns the table of these counts and of one symbol for each word, for callers that have added up the counts.
+    /// Returns the table of these counts and of one symbol for each code, for callers that have added up the counts.
     pub fn with_symbols(
         alloc: Global,
         counts: &[u8; 16],
@@ -114,30 +114,30 @@ impl CodeBook {
         }
     }
 
-    /// For each eight bits the symbol and the length of the word of at most eight bits that begins them, None where there
-    /// is none.
+    /// For each eight bits the symbol and the length of the code of at most eight bits that begins them; `None` if
+    /// there is none.
     pub fn entries(&self) -> &[Option<(u8, u8)>; 256]
         ensures { AreEntries self.now result.now }
     {
         self.words.entries()
     }
 
-    /// Takes a word from the bits and returns its symbol (T.81, F.2.2.3, DECODE). If no word comes next, returns `None`
-    /// and takes nothing.
+    /// Reads a code from the bits and returns its symbol (T.81, F.2.2.3, DECODE). If no code comes next, returns `None`
+    /// and reads nothing.
     #[inline(always)]
     pub fn read(&self, bits: &mut Bits) -> Option<u8>
         ensures found { IfSome result (λ s. (word : List Bool) × IsWord self.now word s × (bits.old ≡ word ++ bits.new)) }
-        // No word is a prefix of what is left.
+        // No code is a prefix of what is left.
         ensures none { IfNone result ((word rest : List Bool) (s : ℕ) → IsWord self.now word s → bits.old ≢ word ++ rest) }
         ensures unmoved { IfNone result (bits.new ≡ bits.old) }
-        // Two words of this table that begin the same bits are one word with one symbol.
+        // Two codes of this table that begin the same bits are one code with one symbol.
         ensures one_word { IsPrefixFree self.now }
     {
         self.words.read(bits)
     }
 
-    /// Takes a word and as many additional bits as the lower four bits of its symbol say. Returns the symbol and the
-    /// value of these bits (T.81, F.2.2.1 and F.2.2.2). If they do not come next, returns `None` and takes nothing.
+    /// Reads a code, and the additional bits whose number is the low half of its symbol. Returns the symbol and
+    /// the value of these bits (T.81, F.2.2.1 and F.2.2.2). If they do not come next, returns `None` and reads nothing.
     #[inline(always)]
     pub fn read_extended(&self, bits: &mut Bits) -> Option<(u8, i32)>
         ensures found { IfSome result (λ r. TakesExtended self.now r.0 r.1 bits.old bits.new) }
@@ -147,8 +147,8 @@ impl CodeBook {
         self.words.read_extended(bits)
     }
 
-    /// Takes the code of an AC coefficient, or of the end of a block (T.81, F.1.2.2): a word and its additional bits.
-    /// If none comes next, returns `None` and takes nothing. It refills only if it must.
+    /// Reads an AC coefficient, or the end of a block (T.81, F.1.2.2): a code and its additional bits.
+    /// If none comes next, returns `None` and reads nothing. It refills only if it must.
     #[inline(always)]
     pub fn read_places(&self, bits: &mut Bits) -> Option<Packed>
         ensures found { IfSome result (λ p. TakesPlaces self.now p bits.old bits.new) }
@@ -166,8 +166,8 @@ impl CodeBook {
         Some(code)
     }
 
-    /// Does what `read_places` does, with a refill that overlaps the look-up and suffices for one more code that a
-    /// look-up holds.
+    /// Does what `read_places` does, with a refill that overlaps the look-up and suffices for one more coefficient that
+    /// a look-up holds.
     #[inline(always)]
     pub fn read_places_and_refill(&self, bits: &mut Bits) -> Option<Packed>
         ensures found { IfSome result (λ p. TakesPlaces self.now p bits.old bits.new) }
@@ -185,7 +185,7 @@ impl CodeBook {
         Some(next)
     }
 
-    /// Looks up the next eleven bits, zeros instead of those that the register lacks. Returns the word that comes next
+    /// Looks up the next eleven bits, zeros instead of those that the register lacks. Returns the code that comes next
     /// and its additional bits if the register has them all.
     #[inline(always)]
     fn pair(&self, register: Register) -> Packed
@@ -195,7 +195,7 @@ impl CodeBook {
         self.pairs[register.upper(LOOKED_UP as u32) as usize]
     }
 
-    /// Reads the code of an AC coefficient, or of the end of a block, that one look-up does not hold.
+    /// Reads an AC coefficient, or the end of a block, that one look-up does not hold.
     #[cold]
     #[inline(never)]
     fn rare_places(&self, held: u64, count: u32) -> Option<Packed>

@@ -1,4 +1,4 @@
-//! A word and its additional bits in one number, so that one load returns both.
+//! A code and its additional bits in one number, so that one load returns both.
 
 ghost use Rattle.std.specs.Prelude.{◌≡◌, ◌<◌, ◌≤ℤ◌, ℕ, pos, negsuc, IfSome, IfNone};
 ghost use Rattle.jr_code.specs.Code.{unpacked, places_in, GoesOn};
@@ -20,9 +20,9 @@ const SIXTEEN_ZEROS: u8 = 0xF0;
 /// Maximum number of additional bits of an AC coefficient.
 const MAX_ADDITIONAL_BITS: u8 = 10;
 
-/// An entry of a table. The lowest byte is the number of bits of the word and its additional bits, the next one the
-/// number of places of a block that they advance; the lower half of the third is the number of additional bits, the
-/// upper eleven bits are their value. Without a word the lowest byte is 255, longer than any register.
+/// An entry of a table. The lowest byte is the number of bits of the code and its additional bits, the next one the
+/// number of positions in a block that they advance; the lower half of the third is the number of additional bits, the
+/// upper eleven bits are their value. Without a code the lowest byte is 255, longer than any register.
 #[derive(Clone, Copy)]
 pub struct Packed {
     number: u32,
@@ -32,7 +32,7 @@ impl Packed {
     /// Nothing.
     pub(crate) const NONE: Packed = Packed { number: 255 };
 
-    /// Packs a word, its additional bits, and the number of places that they advance.
+    /// Packs a code, its additional bits, and the number of positions that they advance.
     pub(crate) fn of(both: Extended, places: u8) -> Packed
         requires places { GoesOn both.symbol places }
         requires least { negsuc 1023 ≤ℤ both.value }
@@ -47,7 +47,7 @@ impl Packed {
         }
     }
 
-    /// Returns the number of bits of the word and its additional bits.
+    /// Returns the number of bits of the code and its additional bits.
     #[inline(always)]
     pub(crate) fn long(self) -> u32
         ensures { result ≡ (unpacked self).long }
@@ -55,8 +55,8 @@ impl Packed {
         self.number % 256
     }
 
-    /// Returns the number of places of a block that they advance: a run of zeros and the coefficient after it; 128 to
-    /// the end of the block.
+    /// Returns the number of positions in a block that they advance: a run of zeros and the coefficient after it; 128
+    /// to the end of the block.
     #[inline(always)]
     pub fn places(self) -> u32
         ensures value { result ≡ places_in self }
@@ -74,9 +74,9 @@ impl Packed {
     }
 }
 
-/// Returns the number of places of a block that the code of a symbol advances (T.81, F.1.2.2): its upper four bits are
-/// a run of zeros, its lower four the number of additional bits of the coefficient after it. `None` if it is the symbol
-/// of no such code.
+/// Returns the number of positions in a block that the code of a symbol advances (T.81, F.1.2.2): its upper four bits
+/// are a run of zeros, its lower four the number of additional bits of the coefficient after it. `None` if it is the
+/// symbol of no such code.
 #[inline(always)]
 pub(crate) fn places_of(symbol: u8) -> Option<u8>
     ensures some { IfSome result (λ n. GoesOn symbol n) }

@@ -16,7 +16,7 @@ pub enum CodeFault {
     /// The counts add up to over 256, or not to the number of symbols.
     #[error("too many words, or not one symbol for each")]
     TooMany,
-    /// The sum of `2 ^ (16 - length)` over all words is over 65536.
+    /// The sum of `2 ^ (16 - length)` over all codes is over 65536.
     #[error("the words have no room")]
     Overfull,
     /// Allocation failed.
@@ -24,8 +24,8 @@ pub enum CodeFault {
     Memory,
 }
 
-/// A code table (T.81, Annex C) as it is defined: counts of words by length, and a symbol for each word. Decoding uses a
-/// book of it, which takes a hundred times longer to make.
+/// A code table (T.81, Annex C) as it is defined: counts of codes by length, and a symbol for each code. Decoding uses
+/// a book of it, which takes a hundred times longer to make.
 #[derive(Drop)]
 pub struct CodeTable {
     pub(crate) counts: [u8; 16],
@@ -43,7 +43,7 @@ impl Model for CodeTable {
 }
 
 impl CodeTable {
-    /// Returns the table of these counts, `counts[i]` of words of i + 1 bits, and of one symbol for each word in order
+    /// Returns the table of these counts, `counts[i]` of codes of i + 1 bits, and of one symbol for each code in order
     /// (T.81, B.2.4.2 and Annex C), for callers that have added up the counts.
     pub fn with_symbols(
         alloc: Global,
@@ -68,14 +68,14 @@ impl CodeTable {
         })
     }
 
-    /// Returns the book that words of this table are read by where they are those of other coefficients.
+    /// Returns the book by which codes of this table are read if they are those of AC coefficients.
     pub fn book(&self) -> Result<CodeBook, Memory>
         ensures { IfOk result (λ b. b ≡ self.now) }
     {
         Ok(CodeBook::of(self.try_clone()?))
     }
 
-    /// Returns the book that words of this table are read by where they are those of first coefficients.
+    /// Returns the book by which codes of this table are read if they are those of DC coefficients.
     pub fn word_book(&self) -> Result<WordBook, Memory>
         ensures { IfOk result (λ b. b ≡ self.now) }
     {
@@ -108,7 +108,7 @@ impl CodeTable {
     }
 }
 
-/// Returns the number of words, of which `counts[i]` have i + 1 bits.
+/// Returns the number of codes, of which `counts[i]` have i + 1 bits.
 pub fn word_count(counts: &[u8; 16]) -> u32
     ensures value { result ≡ sum counts.now }
     ensures few { result ≤ 4080 }
@@ -120,7 +120,7 @@ pub fn word_count(counts: &[u8; 16]) -> u32
     total
 }
 
-/// Returns the rooms of all words together.
+/// Returns the space of all codes together.
 fn space_of(counts: &[u8; 16]) -> u32
     ensures { result ≡ space (lengths counts.now) }
 {

@@ -1,4 +1,4 @@
-//! The words of a code table, read with their additional bits, for functions that are inlined.
+//! The codes of a code table, read with their additional bits, for functions that are inlined.
 
 ghost use Rattle.std.specs.Prelude.{◌≡◌, ◌≢◌, ◌<◌, ◌≤◌, ◌-◌, ◌%◌, ◌^◌, ◌↔◌, ◌++◌, ℕ, List, Bool, IsTrue, [], IfSome, IfNone, IfOk, take};
 ghost use Rattle.std.proofs.Common.{rules};
@@ -14,14 +14,14 @@ use crate::words::Extended;
 use jr_base::Memory;
 use std::marker::Model;
 
-/// A code table (T.81, Annex C), read by eight bits at once and, for longer words, by length. First coefficients are read by
-/// it. Two are equal where their counts and symbols are.
+/// A code table (T.81, Annex C), read by eight bits at once and, for longer codes, by length. DC coefficients are read
+/// by it. Two are equal if their counts and symbols are.
 #[derive(Drop)]
 pub struct WordBook {
     table: CodeTable,
-    /// By eight bits: the symbol and length of the word of at most eight bits that they begin with.
+    /// By eight bits: the symbol and length of the code of at most eight bits that they begin with.
     entries: [Option<(u8, u8)>; 256],
-    /// For each length from nine to sixteen bits: the least word, and the number of shorter words.
+    /// For each length from nine to sixteen bits: the least code, and the number of shorter codes.
     long: [(u32, u32); 8],
 }
 
@@ -86,23 +86,23 @@ impl WordBook {
         }
     }
 
-    /// For each eight bits the symbol and the length of the word of at most eight bits that begins them, None where there
-    /// is none.
+    /// For each eight bits the symbol and the length of the code of at most eight bits that begins them; `None` if
+    /// there is none.
     pub fn entries(&self) -> &[Option<(u8, u8)>; 256]
         ensures { AreEntries self.now result.now }
     {
         &self.entries
     }
 
-    /// Takes a word from the bits and returns its symbol (T.81, F.2.2.3, DECODE). If no word comes next, returns `None`
-    /// and takes nothing.
+    /// Reads a code from the bits and returns its symbol (T.81, F.2.2.3, DECODE). If no code comes next, returns `None`
+    /// and reads nothing.
     #[inline(always)]
     pub fn read(&self, bits: &mut Bits) -> Option<u8>
         ensures found { IfSome result (λ s. (word : List Bool) × IsWord self.now word s × (bits.old ≡ word ++ bits.new)) }
-        // No word is a prefix of what is left.
+        // No code is a prefix of what is left.
         ensures none { IfNone result ((word rest : List Bool) (s : ℕ) → IsWord self.now word s → bits.old ≢ word ++ rest) }
         ensures unmoved { IfNone result (bits.new ≡ bits.old) }
-        // Two words of this table that begin the same bits are one word with one symbol.
+        // Two codes of this table that begin the same bits are one code with one symbol.
         ensures one_word { IsPrefixFree self.now }
     {
         let register = bits.register.refilled();
@@ -118,8 +118,8 @@ impl WordBook {
         Some(symbol)
     }
 
-    /// Takes a word and as many additional bits as the lower four bits of its symbol say. Returns the symbol and the
-    /// value of these bits (T.81, F.2.2.1 and F.2.2.2). If they do not come next, returns `None` and takes nothing.
+    /// Reads a code, and the additional bits whose number is the low half of its symbol. Returns the symbol and
+    /// the value of these bits (T.81, F.2.2.1 and F.2.2.2). If they do not come next, returns `None` and reads nothing.
     #[inline(always)]
     pub fn read_extended(&self, bits: &mut Bits) -> Option<(u8, i32)>
         ensures found { IfSome result (λ r. TakesExtended self.now r.0 r.1 bits.old bits.new) }
@@ -144,7 +144,7 @@ impl WordBook {
         Some((both.symbol, value))
     }
 
-    /// Returns the word that the first `count` bits of `held` begin with and its additional bits, long ones or ones
+    /// Returns the code that the first `count` bits of `held` begin with and its additional bits, long ones or ones
     /// near the end of all bits. By value, so that no address of a reader leaves its loop.
     #[cold]
     #[inline(never)]
@@ -173,7 +173,7 @@ impl WordBook {
         })
     }
 
-    /// Returns the word of at most eight bits that comes next.
+    /// Returns the code of at most eight bits that comes next.
     #[inline(always)]
     fn short_word(&self, register: Register) -> Option<(u8, u8)>
         requires { 32 ≤ register.count }
@@ -182,7 +182,7 @@ impl WordBook {
         self.entries[register.first_bits(8) as usize]
     }
 
-    /// Returns the word that the first `count` bits of `held` begin with, a long one or one near the end of all bits.
+    /// Returns the code that the first `count` bits of `held` begin with, a long one or one near the end of all bits.
     /// In line with what it calls, since the results of calls go through memory.
     #[inline(always)]
     fn rare_word(&self, held: u64, count: u32) -> Option<(u8, u8)>
@@ -203,7 +203,7 @@ impl WordBook {
         Some((symbol, long))
     }
 
-    /// Returns the word that comes next if there are as many bits; `None` if there are fewer.
+    /// Returns the code that comes next if there are enough bits; `None` if there are fewer.
     #[inline(always)]
     fn first_word(&self, register: Register) -> Option<(u8, u8)>
         requires { register.rest.now ≡ [] }

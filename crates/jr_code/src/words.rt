@@ -1,4 +1,4 @@
-//! What a reader looks up, filled in by going over the words of a code table.
+//! What a reader looks up, filled in by going over the codes of a code table.
 
 ghost use Rattle.std.specs.Prelude.{◌≡◌, ◌≢◌, ◌<◌, ◌≤◌, ◌+◌, ◌-◌, ◌*◌, ◌/◌, ◌%◌, ◌^◌, ℕ, List, Bool, Some, None, slice_get, slice_index_or, length, IfSome, IfNone, take, sum, pos, negsuc, ◌≤ℤ◌};
 ghost use Rattle.jr_code.specs.Bits.{bits_of, number};
@@ -8,7 +8,7 @@ use crate::bits::extend;
 use crate::packed::{LOOKED_UP, Packed, WINDOWS, places_of};
 use crate::table::CodeTable;
 
-/// A word and its additional bits.
+/// A code and its additional bits.
 #[derive(Clone, Copy)]
 pub(crate) struct Extended {
     pub(crate) symbol: u8,
@@ -19,7 +19,7 @@ pub(crate) struct Extended {
 }
 
 impl CodeTable {
-    /// Returns for each byte the symbol and length of the word of at most eight bits that it begins with.
+    /// Returns for each byte the symbol and length of the code of at most eight bits that it begins with.
     pub(crate) fn entries(&self) -> [Option<(u8, u8)>; 256]
         ensures { AreEntries self.now result }
     {
@@ -30,7 +30,7 @@ impl CodeTable {
         entries
     }
 
-    /// Enters the words of i + 1 bits.
+    /// Enters the codes of i + 1 bits.
     fn enter_words(&self, entries: &mut [Option<(u8, u8)>; 256], i: u8)
         requires short { i < 8 }
         requires entered { AreEntriesTo self.now i entries.old }
@@ -42,7 +42,7 @@ impl CodeTable {
         }
     }
 
-    /// Returns for each eleven bits the word that they begin with and its additional bits, if they hold both.
+    /// Returns for each eleven bits the code that they begin with and its additional bits, if they hold both.
     pub(crate) fn pairs(&self) -> [Packed; WINDOWS]
         ensures { ArePairs self.now result }
     {
@@ -53,7 +53,7 @@ impl CodeTable {
         pairs
     }
 
-    /// Enters the words of i + 1 bits, each with all values of its additional bits.
+    /// Enters the codes of i + 1 bits, each with all values of its additional bits.
     fn enter_pairs(&self, pairs: &mut [Packed; WINDOWS], i: u8)
         requires short { i < LOOKED_UP }
         requires entered { ArePairs self.now pairs.old }
@@ -65,7 +65,7 @@ impl CodeTable {
         }
     }
 
-    /// Returns the words of i + 1 bits: the number of the first, which the others count on from, and the symbols of
+    /// Returns the codes of i + 1 bits: the number of the first, which the others count on from, and the symbols of
     /// all.
     fn words_of(&self, i: usize) -> (u32, &[u8])
         requires { i < 16 }
@@ -79,7 +79,7 @@ impl CodeTable {
         (2 * end, &self.symbols[from..from + count])
     }
 
-    /// Returns the word of nine bits or more that sixteen bits begin with.
+    /// Returns the code of nine bits or more that sixteen bits begin with.
     #[inline(always)]
     pub(crate) fn long_word(&self, long: &[(u32, u32); 8], window: u16) -> Option<(u8, u8)>
         requires { AreLong self.now long.now }
@@ -97,7 +97,7 @@ impl CodeTable {
         None
     }
 
-    /// For each length from nine to sixteen bits: the least word, and the number of shorter words.
+    /// For each length from nine to sixteen bits: the least code, and the number of shorter codes.
     pub(crate) fn long(&self) -> [(u32, u32); 8]
         ensures { AreLong self.now result }
     {
@@ -109,7 +109,7 @@ impl CodeTable {
         long
     }
 
-    /// Returns what follows the greatest word of that length, and the number of words that are not longer.
+    /// Returns what follows the greatest code of that length, and the number of codes that are not longer.
     fn up_to(&self, length: usize) -> (u32, u32)
         requires { length ≤ 16 }
         ensures end { result.0 * room length ≡ space (lengths (take length self.now.counts)) }
@@ -127,7 +127,7 @@ impl CodeTable {
     }
 }
 
-/// Enters a word: the bytes that begin with it look up its symbol and length.
+/// Enters a code: the bytes that begin with it look up its symbol and length.
 fn enter_word(entries: &mut [Option<(u8, u8)>; 256], code: usize, symbol: u8, long: u8)
     requires short { long ≤ 8 }
     requires fits { code < 2 ^ long }
@@ -141,7 +141,7 @@ fn enter_word(entries: &mut [Option<(u8, u8)>; 256], code: usize, symbol: u8, lo
     }
 }
 
-/// Enters the word of an AC code: the eleven bits that begin with it look up the word and its additional bits if they hold both.
+/// Enters the code of an AC symbol: the eleven bits that begin with it look it up, and its additional bits if they fit.
 fn enter_pair(pairs: &mut [Packed; WINDOWS], code: usize, symbol: u8, long: u8)
     requires short { long ≤ LOOKED_UP }
     requires fits { code < 2 ^ long }
@@ -160,7 +160,7 @@ fn enter_pair(pairs: &mut [Packed; WINDOWS], code: usize, symbol: u8, long: u8)
     }
 }
 
-/// Returns the word of that symbol and length that eleven bits begin with, and its additional bits.
+/// Returns the code of that symbol and length that eleven bits begin with, and its additional bits.
 #[inline(always)]
 fn pair(window: u64, symbol: u8, long: u8) -> Extended
     requires held { long + symbol % 16 ≤ LOOKED_UP }

@@ -1,4 +1,4 @@
--- A row buffer has room for the lines of each row.
+-- A row buffer has space for the lines of each row.
 use Rattle.std.proofs.Common.{◌≡◌, ℕ, ◌*◌, ◌≤◌, ◌++◌, List, length, take, drop, Option, Some, ap, sym, subst, arith, ◌∙◌}
 use Rattle.std.proofs.lemmas.List.{length-take-le}
 use Rattle.std.proofs.Math.Nat.{mul-le-mul_right}
@@ -24,7 +24,7 @@ lines_fit t h row count line pixels same counted long room =
     let is : count * line ≡ line_count t.head row * line_size t.head = ap (λ (n : ℕ). n * line) (counted ∙ ap (λ (x : HeadValue). line_count x row) same) ∙ ap (λ (n : ℕ). line_count t.head row * n) (long ∙ ap (λ (x : HeadValue). line_size x) same) in
     (is, omega (arith, row_fits t row pixels room, is))
 
--- a row's lines, once the bytes that were lent for them are given back
+-- a row's lines, after the bytes that were borrowed for them are written back
 pub first_lines : (t : ScanValue) (n row size : ℕ) (new old : List ℕ) → size ≡ line_count t.head row * line_size t.head → size ≤ length old → length new ≡ length (take size old)
     → ShowsLines t n row new → ShowsLines t n row (take (line_count t.head row * line_size t.head) (new ++ drop size old))
 first_lines t n row size new old is inside same lines b first =

@@ -33,7 +33,7 @@ impl<S: OneFirstIntervals> Model for Baton<S> {
     ghost invariant = { λ b. HaveNext S.part b.rows b.guesses };
 }
 
-/// Returns these rows, where one is left.
+/// Returns these rows, if one is left.
 fn baton_over<S: OneFirstIntervals>(part: &FirstIntervals<'_>, rows: Rows) -> Option<Baton<S>>
     requires part { S.part ≡ Some part.now }
     requires rows { AreRowsOf part.now rows }
@@ -57,7 +57,7 @@ impl<S: OneFirstIntervals> Baton<S> {
         baton_over(part, Rows::of(part))
     }
 
-    /// Returns the rows after the next one, which can be read before it where rows are whole intervals.
+    /// Returns the rows after the next one, which can be read before it if rows are whole intervals.
     pub(crate) fn behind(&self, part: &FirstIntervals<'_>) -> Option<Baton<S>>
         requires { S.part ≡ Some part.now }
     {

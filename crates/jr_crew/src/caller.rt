@@ -11,8 +11,8 @@ use jr_work::tuning::MAX_TASKS;
 use std::marker::Model;
 use std::sync::Wait;
 
-/// The calling thread: it takes row after row from a crew, and reads and paints where the row that comes next is not painted
-/// yet.
+/// The calling thread: it takes row after row from a crew, and reads and paints if the row that comes next is not
+/// painted yet.
 #[derive(Drop)]
 pub(crate) struct Caller<'a, 'b, R: Wait, G: Gate, S: OneFirstIntervals> {
     crew: &'b Crew<'a, S>,

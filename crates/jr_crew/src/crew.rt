@@ -98,7 +98,7 @@ impl<'a, S: OneFirstIntervals> Crew<'a, S> {
         &self.part
     }
 
-    /// Waits for something to do and returns it; frees memory if nothing else is to be done. `None` if nothing is left.
+    /// Waits for a task and returns it; frees memory if there is no other task. `None` if nothing is left.
     pub(crate) fn task<R: Wait>(&self, rt: &R) -> Option<RowTask<S>> {
         let scan = self.part.scan();
         let mut queue = self.queue.lock(rt);
@@ -169,7 +169,7 @@ impl<'a, S: OneFirstIntervals> Crew<'a, S> {
         self.put_painted(rt, baton.finish(&self.part, buffer, room));
     }
 
-    /// Wakes who waits for something to do.
+    /// Wakes a thread that waits for something to do.
     fn wake(&self, waiter: Option<Waiter>) {
         match waiter {
             Some(Waiter::Worker) => self.has_task.notify_one(),
@@ -223,7 +223,7 @@ impl<'a, S: OneFirstIntervals> Crew<'a, S> {
         }
     }
 
-    /// Does what can be done at once, where there is something.
+    /// Does what can be done at once, if there is something.
     fn do_ready<R: Wait, G: Gate>(&self, rt: &R, gate: &G, room: &mut PaintRoom<S>) {
         let task = self.queue.lock(rt).task(&self.part);
         if let Some(task) = task {

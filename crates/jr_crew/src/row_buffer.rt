@@ -45,7 +45,7 @@ fn decode_first(
     marked
 }
 
-/// Memory for the lines of a row of MCUs of the scan, and for its blocks and samples, where a row has been read by it.
+/// Memory for the lines of a row of MCUs of the scan, and for its blocks and samples, if a row has been read by it.
 #[derive(Drop)]
 pub struct RowBuffer<S: OneFirstIntervals> {
     work: Option<Row>,

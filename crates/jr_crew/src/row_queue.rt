@@ -50,7 +50,7 @@ pub(crate) struct BegunRow<S: OneFirstIntervals> {
 pub(crate) enum Waiter {
     /// One of the threads that wait for something to do.
     Worker,
-    /// The calling thread, where no other waits.
+    /// The calling thread, if no other waits.
     Caller,
 }
 
@@ -58,7 +58,7 @@ pub(crate) enum Waiter {
 /// that a wake-up is sent only if a thread waits.
 #[derive(Drop)]
 pub(crate) struct RowQueue<S: OneFirstIntervals> {
-    /// None before the first row may begin, while a thread reads by it, and where no row is left to read.
+    /// `None` before the first row may begin, while a thread reads by it, and if no row is left to read.
     baton: Option<Baton<S>>,
     /// Whether no row is left to begin.
     is_begun: bool,
@@ -121,7 +121,7 @@ impl<S: OneFirstIntervals> RowQueue<S> {
         Ok(queue)
     }
 
-    /// The first of these rows may begin, in the place of others.
+    /// Allows the first of these rows to begin, instead of others.
     pub(crate) fn start(&mut self, baton: Option<Baton<S>>) {
         drop(replace(&mut self.baton, baton));
     }
@@ -267,7 +267,7 @@ impl<S: OneFirstIntervals> RowQueue<S> {
         self.waiter()
     }
 
-    /// Who is to be woken where something can be done.
+    /// The thread to wake if something can be done.
     fn waiter(&self) -> Option<Waiter> {
         if self.is_waited_for() {
             return Some(Waiter::Worker);

@@ -33,7 +33,7 @@ fn send<R: Wait, W: Write, G: Gate, S: OneFirstIntervals>(
     ensures { IsSentBy W.contents crew.now out.old out.new result }
 {
     let scan = crew.part().scan();
-    // By their contracts a scan has as many intervals as its head says, and no more are decoded.
+    // By their contracts a scan has the number of intervals that its header says, and no more are decoded.
     let _counts = (scan.intervals(), crew.part().limit());
     let CallerRoom { paint, mut pixels } = room;
     let mut caller = Caller::of(crew, rt, gate, paint);
@@ -80,7 +80,7 @@ pub(crate) struct Sending<'s, 'w, 'a, R: Wait, W: Write, G: Gate, S: OneFirstInt
 
 impl<'s, 'w, 'a, R: Wait, W: Write, G: Gate, S: OneFirstIntervals> Beside
     for Sending<'s, 'w, 'a, R, W, G, S> {
-    /// The answer, `None` if allocation failed, and the writer.
+    /// The result, `None` if allocation failed, and the writer.
     type Answer = (Option<Result<Marked, WriteFault>>, &'w mut Tally<W>);
 
     ghost may = { λ s. has_failed s.out.now ≡ false };

@@ -1,4 +1,4 @@
--- Data that are put into a buffer, run by run.
+-- Data that are written into a buffer, run by run.
 use Rattle.std.proofs.Common.{◌≡◌, ◌≢◌, ℕ, ◌+◌, ◌-◌, ◌≤◌, ◌<◌, List, ◌++◌, length, take, drop, get_or, refl, sym, ap, subst, ◌∙◌, length-append, length-take-le, arith}
 use Rattle.std.proofs.lemmas.List.{take-append-drop, take-append-le}
 use Rattle.std.proofs.lemmas.Slice.{take-put_mid}
@@ -22,7 +22,7 @@ taken_more room part found k count within long few =
     ∙ ap (λ (m : ℕ). take (m + count) (take found room ++ part)) (sym found_long)
     ∙ take-append-add (take found room) part count
 
--- a run of plain bytes is put behind what was found
+-- a run of plain bytes is written after what was found
 pub run_put : (raw room part : List ℕ) (read found count : ℕ) → read ≤ length raw → found ≤ length room → read + count ≤ length raw → length part ≡ length room - found → count ≤ length part
     → take count part ≡ take count (take (length raw - read) (drop read raw)) → ((k : ℕ) → k < count → get_or (take (length raw - read) (drop read raw)) k 0 ≢ PREFIX)
     → IsRaw (take read raw) (take found room) → IsRaw (take (read + count) raw) (take (found + count) (put_mid found (length room - found) room part))

@@ -75,7 +75,7 @@ other_restart c j (inl l) h e = omega arith
 other_restart c j (inr (inl q)) h e = omega arith
 other_restart c j (inr (inr g)) h e = omega arith
 
--- what a marker of the next number is not
+-- an end of the scan is not a marker of the next number
 pub ending_not_next : (n k at : ℕ) (tail : List ℕ) (end : ScanEnd) → IsEnding n k at tail end → HasMarker tail (RST0 + k % 8) → k + 1 < n → ⊥
 ending_not_next n k at tail EndOfFile h m room = no_marker tail (RST0 + k % 8) h.0 m (λ e. omega arith) h.1
 ending_not_next n k at tail EndOfImage h m room = let e = same_marker tail EOI (RST0 + k % 8) h m (λ e. omega arith) (λ e. omega arith) in omega (arith, e)

@@ -1,4 +1,4 @@
--- CodedSegments: how they are read, and that there is one way.
+-- Coded segments: how they are read, and that there is one way.
 use Rattle.std.proofs.Common.{◌≡◌, ◌≢◌, ℕ, zero, suc, ◌+◌, ◌-◌, ◌⊎◌, ◌%◌, ◌<◌, ◌≤◌, List, [], ◌∷◌, ◌++◌, length, replicate, take, drop, get_or, refl, sym, ap, subst, ◌∙◌, inl, inr, append_assoc, length-append, length-drop, add-one, arith}
 use Rattle.std.specs.List.{flat_map, AllByRecursion}
 use Rattle.std.proofs.Math.Seq.{drop-cons, take-add}
@@ -18,7 +18,7 @@ all_push (q ∷ parts) p each is = (each.0, all_push parts p each.1 is)
 pub raw_none : IsRaw [] []
 raw_none = record { parts = []; each = tt; spelled = refl; means = refl }
 
--- one more spelling
+-- one more spelling is appended
 pub raw_more : (raw bytes : List ℕ) (p : Spelling) → IsRaw raw bytes → IsSpelling p → IsRaw (raw ++ spelling p) (bytes ++ byte_spelled p ∷ [])
 raw_more raw bytes p r is = record {
   parts = r.parts ++ p ∷ [];
@@ -77,7 +77,7 @@ pub cut_next_tail : (n k at at' more : ℕ) (bytes raw found rest : List ℕ) (d
 unfolding cut_next
 cut_next_tail n k at at' more bytes raw found rest datas end is e next c = refl
 
--- how far the cutter has come: it stands at segment k
+-- the progress of the cutter: it is at segment k
 pub record PartialCut (n start : ℕ) (bytes : List ℕ) (segments : List (List ℕ)) (at k : ℕ) : Type 0 where
   pub few : k < n
   pub within : at ≤ length bytes
@@ -90,15 +90,15 @@ partial_first n start bytes some = record {
   on = λ datas end c. let e : start + 0 ≡ start = omega arith in subst (λ (a : ℕ). CutFrom n 0 a bytes datas end) e c;
 }
 
--- FF bytes at the front, and what follows
+-- n FF bytes at the start, and what follows
 pub fill_split : (xs : List ℕ) (n : ℕ) → take n xs ≡ replicate n PREFIX → xs ≡ replicate n PREFIX ++ drop n xs
 fill_split xs n e = sym (take-append-drop n xs) ∙ ap (λ (x : List ℕ). x ++ drop n xs) e
 
--- the bytes from a place on, as the slice that they are read from
+-- the bytes starting at an offset, as the slice that they are read from
 pub rest_is : (xs : List ℕ) (n : ℕ) → take (length xs - n) (drop n xs) ≡ drop n xs
 rest_is xs n = take_all (length xs - n) (drop n xs) (omega (arith, length-drop n xs))
 
--- the bytes that a segment stops at, where the front has n FF bytes
+-- the bytes that a segment stops at, if they begin with n FF bytes
 pub stop_end : (bytes : List ℕ) (at n : ℕ) → at ≤ length bytes → take n (drop at bytes) ≡ replicate n PREFIX → length bytes ≤ at + n → IsStop (drop at bytes)
 stop_end bytes at n h full past =
     let none : drop n (drop at bytes) ≡ [] = drop_all n (drop at bytes) (omega (arith, length-drop at bytes)) in
@@ -130,7 +130,7 @@ raw_stuffed bytes found at (suc m) h full some zero_byte r =
     let whole : take (at + suc m + 1) bytes ≡ take at bytes ++ spelling (Stuffed m) = ap (λ (k : ℕ). take k bytes) e ∙ take-add at (suc m + 1) bytes ∙ ap (λ (x : List ℕ). take at bytes ++ x) t in
     subst (λ (x : List ℕ). IsRaw x (found ++ PREFIX ∷ [])) (sym whole) (raw_more (take at bytes) found (Stuffed m) r tt)
 
--- a run of FF bytes ends at one place
+-- a run of FF bytes ends at one offset
 pub run_same : (m n a b : ℕ) (x y : List ℕ) → a ≢ PREFIX → b ≢ PREFIX → replicate m PREFIX ++ (a ∷ x) ≡ replicate n PREFIX ++ (b ∷ y) → (m ≡ n) × (a ≡ b) × (x ≡ y)
 run_same zero zero a b x y ha hb e = (refl, cc, cc)
 run_same zero (suc n) a b x y ha hb e = let h : a ≡ PREFIX = cc in absurd (ha h)
@@ -155,7 +155,7 @@ stop_some tail n code after s e not_ff = go s.stops
         let r = run_same n s.more code c after aft not_ff not_prefix (sym e ∙ s.spelled ∙ ap (λ (x : List ℕ). replicate s.more PREFIX ++ x) is) in
         (omega (arith, r.0, some), λ z. not_0 (sym r.1 ∙ z))
 
--- a segment that was read at `at`, of len bytes
+-- a segment that was read at offset `at`, of `len` bytes
 pub record SegmentRead (bytes found : List ℕ) (at len : ℕ) : Type 0 where
   pub within : at + len ≤ length bytes
   pub raw : IsRaw (take len (drop at bytes)) found
@@ -168,7 +168,7 @@ segment_read bytes found at len h within raw stop = record {
   stop = subst IsStop (drop-drop len at bytes) stop;
 }
 
--- FF bytes and a code where a segment stops
+-- FF bytes and a code after a segment
 pub record MarkerRead (bytes : List ℕ) (at n : ℕ) : Type 0 where
   pub more : ℕ
   pub count : n ≡ suc more

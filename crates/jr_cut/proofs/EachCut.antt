@@ -30,7 +30,7 @@ run_of (b ∷ bs) = elim (cases_eq b PREFIX) [
       record { more = suc r.more; rest = r.rest; is = ap (λ (c : ℕ). c ∷ bs) ff ∙ ap (λ (x : List ℕ). PREFIX ∷ x) r.is; ends = r.ends }
 ]
 
--- the bytes that spell data at the front, and the tail at which these stop
+-- the bytes at the start that spell data, and the tail at which these stop
 record Segment (bytes : List ℕ) : Type 0 where
   raw : List ℕ
   found : List ℕ
@@ -57,7 +57,7 @@ segment_before bytes rest p e is s = record {
   stop = s.stop;
 }
 
--- where FF is next
+-- the next byte is FF
 at_prefix : (bs : List ℕ) → ((after : List ℕ) → length after ≤ length bs → Segment after) → Segment (PREFIX ∷ bs)
 at_prefix bs next =
     let r = run_of bs in
@@ -81,7 +81,7 @@ segment (suc k) (b ∷ bs) few = elim (cases_eq b PREFIX) [
   | inr differs ↦ segment_before (b ∷ bs) bs (Plain b) refl differs (segment k bs (omega (arith, few)))
 ]
 
--- ---- the marker where it stops
+-- ---- the marker at which it stops
 
 record Marked (tail : List ℕ) (code : ℕ) (after : List ℕ) : Type 0 where
   more : ℕ

@@ -1,4 +1,4 @@
--- The segment behind a marker.
+-- The segment after a marker.
 use Rattle.std.proofs.Common.{◌≡◌, ◌≢◌, ℕ, suc, ◌+◌, ◌%◌, List, ◌∷◌, ◌++◌, map, sym, ◌∙◌, append_assoc, arith}
 use Rattle.jr_base.specs.declared.marker.TheConstants.{PREFIX, RST0}
 use Rattle.jr_cut.specs.Cut.{marker, CodedSegment, with_markers, HasMarker, IsStop}
@@ -14,7 +14,7 @@ next_marker k p ps tail = (p.more, (p.raw ++ with_markers (suc k) ps) ++ tail, a
 pub next_stop : (k : ℕ) (p : CodedSegment) (ps : List CodedSegment) (tail : List ℕ) → IsStop (with_markers k (p ∷ ps) ++ tail)
 next_stop k p ps tail = marker_stop (with_markers k (p ∷ ps) ++ tail) (RST0 + k % 8) (next_marker k p ps tail) (λ e. omega arith) (λ e. omega arith)
 
--- what follows a marker of the next number is the next segment and those behind it
+-- what follows a marker of the next number is the next segment and those after it
 pub behind_marker : (k more : ℕ) (rest : List ℕ) (p : CodedSegment) (ps : List CodedSegment) (tail : List ℕ) → marker more (RST0 + k % 8) ++ rest ≡ with_markers k (p ∷ ps) ++ tail
     → (more ≡ p.more) × (rest ≡ p.raw ++ (with_markers (suc k) ps ++ tail))
 behind_marker k more rest p ps tail e =

@@ -11,13 +11,13 @@ use Rattle.jr_cut.proofs.Endings.{behind_marker, bytes_of, next_marker}
 use Rattle.jr_cut.proofs.Segments.{length_marker}
 use Rattle.jr_cut.proofs.Spellings.{nothing_spelled}
 
--- a restart marker lies in the bytes
+-- a restart marker lies within the bytes
 pub restart_within : (bytes : List ℕ) (end k count : ℕ) → end ≤ length bytes → BeginsWithRestart k (drop end bytes) count → end + count ≤ length bytes
 restart_within bytes end k count within b =
     let code = RST0 + k % 8 in
     omega (arith, within, b.long, ap length b.spelled, length-append (marker b.more code) (drop count (drop end bytes)), length_marker b.more code, length-drop count (drop end bytes), length-drop end bytes)
 
--- the segment behind one without data, and those that follow it
+-- the segment after one without data, and those that follow it
 pub record NextCut (n i at : ℕ) (bytes : List ℕ) (others : List (List ℕ)) (end : ScanEnd) : Type 0 where
   pub first : List ℕ
   pub behind : List (List ℕ)
@@ -70,7 +70,7 @@ module _ (n i at : ℕ) (tail : List ℕ) (others : List (List ℕ)) (end : Scan
       go [] are spelled few = are
       go (p ∷ ps) are spelled few = absurd (ending_not_next n i o tail e ending (subst (λ (x : List ℕ). HasMarker x (RST0 + i % 8)) (sym spelled) (next_marker i p ps c.tail)) (omega (arith, few)))
 
--- after a segment without data that only fill bytes follow the file ends
+-- if only fill bytes follow a segment without data, the file ends
 fill_no_marker : (n more code : ℕ) (rest : List ℕ) → replicate n PREFIX ≡ marker more code ++ rest → code ≡ PREFIX
 fill_no_marker zero more code rest e = absurd cc
 fill_no_marker (suc zero) zero code rest e = absurd cc

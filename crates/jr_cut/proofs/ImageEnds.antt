@@ -1,4 +1,4 @@
--- Where the bytes after an EOI marker begin.
+-- The offset at which the bytes after an EOI marker begin.
 use Rattle.std.proofs.Common.{◌≡◌, ◌≢◌, ℕ, zero, suc, ◌+◌, ◌-◌, ◌%◌, ◌<◌, List, [], ◌∷◌, ◌++◌, length, replicate, take, get_or, refl, sym, ap, subst, ◌∙◌, length-append, arith}
 use Rattle.jr_base.specs.declared.marker.TheConstants.{EOI, PREFIX, RST0}
 use Rattle.jr_cut.specs.declared.scan_end.ScanEnd.{ScanEnd}
@@ -9,7 +9,7 @@ use Rattle.jr_cut.specs.ImageEnd.{HasCutToRest, IsImageEnd}
 use Rattle.jr_cut.proofs.Cuts.{cut_last, cut_last_tail, cut_next, cut_next_tail}
 use Rattle.jr_cut.proofs.Segments.{length_marker, longer}
 
--- ---- the segments, and what is behind them
+-- ---- the segments, and what follows them
 
 record CutTo (n k at : ℕ) (bytes : List ℕ) (ds : List (List ℕ)) (end : ScanEnd) (tail : List ℕ) : Type 0 where
   pub cut : CutFrom n k at bytes ds end
@@ -44,7 +44,7 @@ all_cut start bytes c h =
 
 -- ---- the marker
 
--- as many FF bytes are before the code as the marker has
+-- the number of FF bytes before the code is that of the marker
 fill_of_marker : (n more code : ℕ) (xs after : List ℕ) → code ≢ PREFIX → take n xs ≡ replicate n PREFIX → (n < length xs → get_or xs n 0 ≢ PREFIX) → xs ≡ marker more code ++ after → n ≡ more + 1
 fill_of_marker zero more code xs after not_ff full next e = absurd (subst (λ (x : List ℕ). 0 < length x → get_or x 0 0 ≢ PREFIX) e next (omega arith) refl)
 fill_of_marker (suc zero) zero code xs after not_ff full next e = omega arith
@@ -58,7 +58,7 @@ fill_of_marker (suc (suc n)) (suc more) code (x ∷ xs) after not_ff full next e
     let r : xs ≡ marker more code ++ after = cc in
     omega (arith, fill_of_marker (suc n) more code xs after not_ff f (λ lt. next (omega (arith, lt))) r)
 
--- so many FF bytes and EOI are not read yet, and then comes what is behind the image
+-- `fill` FF bytes and EOI are not read yet, and then what follows the image
 pub record AfterFill (c : PartialCutValue) (start : ℕ) (bytes : List ℕ) (fill : ℕ) : Type 0 where
   pub within : fill < length c.rest
   pub is : IsImageEnd c.intervals start bytes (c.at + fill + 1)

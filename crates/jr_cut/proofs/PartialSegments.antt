@@ -16,7 +16,7 @@ use Rattle.jr_cut.proofs.Cuts.{marker_read, raw_none}
 use Rattle.jr_cut.proofs.Segments.{length_marker, segments_end, segments_grow, segments_next}
 use Rattle.jr_cut.proofs.Unstuffed.{raw_long, segments_kept}
 
--- ---- what stands behind a segment
+-- ---- what follows a segment
 
 -- FF bytes and a code
 pub record MarkerBegins (xs : List ℕ) (n : ℕ) : Type 0 where
@@ -64,7 +64,7 @@ restart_within k tail count b =
     let long : length tail ≡ count + (length tail - count) = omega (arith, ap length b.spelled, length-append (marker b.more (RST0 + k % 8)) (drop count tail), length_marker b.more (RST0 + k % 8), length-drop count tail, b.long) in
     (omega (arith, b.long), omega (arith, long))
 
--- the open one goes on
+-- the open one grows
 pub datas_grown : (old new : PartialSegments) (added : List ℕ) → AreOpen old → new.spans ≡ old.spans → new.begin ≡ old.begin → new.bytes.unstuffed ≡ old.bytes.unstuffed ++ added
     → datas_of new ≡ map (segment_data old.bytes.unstuffed) old.spans.items ++ (drop old.begin old.bytes.unstuffed ++ added) ∷ []
 datas_grown old new added is es eb eu =
@@ -190,7 +190,7 @@ cut_made start bytes o end is h ends =
       unread = λ e. (h.at, refl);
     }
 
--- and what is not read is what is behind the segments
+-- and what is not read is what follows the segments
 pub rest_made : (start : ℕ) (bytes : List ℕ) (o : PartialSegments) (end : ScanEnd) → AreOpen o → HaveRead start bytes o → IsEnding o.intervals (length o.spans.items) o.at o.bytes.rest end → HasCutToRest start bytes (cut_of o end)
 unfolding cut_made
 rest_made start bytes o end is h ends = record {
@@ -204,7 +204,7 @@ read_again start bytes o end e h =
     let u = h.unread e in
     record { read = h.read; are = h.are; spelled = h.spelled ∙ ap (λ (x : List ℕ). h.read ++ x) (sym u.1); at = u.0 }
 
--- these bytes are cut so
+-- these bytes are cut into these segments
 pub has_cut_is_cut : (start : ℕ) (bytes : List ℕ) (c : PartialCutValue) → HasCut start bytes c → IsCut c.intervals start bytes c.segments c.ended
 has_cut_is_cut start bytes c h =
     let j : suc (length c.segments - 1) ≡ 0 + length c.segments = omega (arith, some c.segments h.read h.are) in

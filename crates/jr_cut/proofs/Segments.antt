@@ -14,7 +14,7 @@ all_append : (ps qs : List Spelling) → AllByRecursion IsSpelling ps → AllByR
 all_append [] qs hp hq = hq
 all_append (p ∷ ps) qs hp hq = (hp.0, all_append ps qs hp.1 hq)
 
--- data goes on
+-- data grows
 pub raw_append : (r d s e : List ℕ) → IsRaw r d → IsRaw s e → IsRaw (r ++ s) (d ++ e)
 raw_append r d s e a b = record {
   parts = a.parts ++ b.parts;
@@ -26,7 +26,7 @@ raw_append r d s e a b = record {
 pub longer : (raw m others s read : List ℕ) → read ≡ raw ++ (m ++ others) → read ++ s ≡ raw ++ (m ++ (others ++ s))
 longer raw m others s read e = ap (λ (x : List ℕ). x ++ s) e ∙ append_assoc raw (m ++ others) s ∙ ap (λ (x : List ℕ). raw ++ x) (append_assoc m others s)
 
--- the last segment goes on
+-- the last segment grows
 pub segments_grow : (k : ℕ) (ds : List (List ℕ)) (last read s e : List ℕ) → AreSegments k read (ds ++ last ∷ []) → IsRaw s e → AreSegments k (read ++ s) (ds ++ (last ++ e) ∷ [])
 segments_grow k [] last read s e a r = raw_append read last s e a r
 segments_grow k (d ∷ []) last read s e (raw, more, others, is, first, a) r =
@@ -34,7 +34,7 @@ segments_grow k (d ∷ []) last read s e (raw, more, others, is, first, a) r =
 segments_grow k (d ∷ f ∷ ds) last read s e (raw, more, others, is, first, a) r =
     (raw, more, others ++ s, longer raw (marker more (RST0 + k % 8)) others s read is, first, segments_grow (suc k) (f ∷ ds) last others s e a r)
 
--- another one begins behind the marker of the next number
+-- another one begins after the marker of the next number
 pub segments_next : (k j more : ℕ) (ds : List (List ℕ)) (read : List ℕ) → AreSegments k read ds → suc j ≡ k + length ds → AreSegments k (read ++ marker more (RST0 + j % 8)) (ds ++ [] ∷ [])
 segments_next k j more [] read a e = absurd a
 segments_next k j more (d ∷ []) read a e =
@@ -46,7 +46,7 @@ segments_next k j more (d ∷ f ∷ ds) read (raw, m, others, is, first, a) e =
 pub length_marker : (more code : ℕ) → length (marker more code) ≡ more + 2
 length_marker more code = omega (arith, length-append (replicate more PREFIX) (code ∷ []), length-replicate {A = ℕ} more PREFIX)
 
--- what ends the scan stands behind them
+-- what ends the scan follows them
 pub segments_end : (n k j at : ℕ) (ds : List (List ℕ)) (read tail : List ℕ) (end : ScanEnd) → AreSegments k read ds → suc j ≡ k + length ds → j < n → IsEnding n j (at + length read) tail end → CutFrom n k at (read ++ tail) ds end
 segments_end n k j at [] read tail end a e few ends = absurd a
 segments_end n k j at (d ∷ []) read tail end a e few ends =

@@ -1,4 +1,4 @@
--- What is found in a slice of bytes stands in the bytes from its place on.
+-- What is found in a slice of bytes is in the bytes, starting at the slice's offset.
 use Rattle.std.proofs.Common.{◌≡◌, ◌≢◌, ℕ, ◌+◌, ◌-◌, ◌<◌, ◌≤◌, List, ◌++◌, length, take, drop, get_or, replicate, sym, ap, subst, ◌∙◌, length-drop, length-take-le, arith}
 use Rattle.std.proofs.lemmas.List.{get_or-drop, take-append-drop, drop-drop}
 use Rattle.jr_base.specs.declared.marker.TheConstants.{PREFIX}
@@ -24,7 +24,7 @@ module _ (bytes : List ℕ) (at n : ℕ) where
       let f = subst (λ (xs : List ℕ). n < length xs → get_or xs n 0 ≡ PREFIX) (rest_is bytes at) next in
       sym (get_or-drop at bytes n 0) ∙ f (omega (arith, length-drop at bytes))
 
--- ---- bytes from an offset on, in two parts
+-- ---- bytes starting at an offset, in two parts
 
 pub split_at : (bytes : List ℕ) (at read : ℕ) → drop at bytes ≡ take read (drop at bytes) ++ drop (at + read) bytes
 split_at bytes at read = sym (take-append-drop read (drop at bytes)) ∙ ap (λ (x : List ℕ). take read (drop at bytes) ++ x) (drop-drop read at bytes)

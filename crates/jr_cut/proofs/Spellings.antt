@@ -1,4 +1,4 @@
--- Bytes that spell data, beside others that begin as they do.
+-- Bytes that spell data, compared with others that have the same beginning.
 use Rattle.std.proofs.Common.{◌≡◌, ℕ, ◌≤◌, List, [], ◌∷◌, ◌++◌, length, map, take, drop, refl, sym, ap, subst, ◌∙◌, inl, inr, append_assoc, length-append, arith}
 use Rattle.std.specs.List.{flat_map, AllByRecursion}
 use Rattle.std.proofs.lemmas.Bool.{cases_lt}
@@ -29,7 +29,7 @@ none_behind : (others : List Spelling) (s t : List ℕ) → IsStop s → AllByRe
 none_behind [] s t stop each e = refl
 none_behind (p ∷ ps) s t stop each e = absurd (not_stop s (flat_map spelling ps ++ t) p stop each.0 (e ∙ append_assoc (spelling p) (flat_map spelling ps) t))
 
--- the data that is spelled further: none behind a stop
+-- the data that is spelled further: none after a stop
 pub record Further (r a q b s t : List ℕ) : Type 0 where
   pub raw : List ℕ
   pub added : List ℕ
@@ -57,7 +57,7 @@ module _ (r a q b s t : List ℕ) (hr : IsRaw r a) (hq : IsRaw q b) (e : r ++ s 
             (ap (map byte_spelled) empty, c.rest ∙ ap (λ (os : List Spelling). flat_map spelling os ++ t) empty);
       }
 
-  -- up to a stop as much is spelled as can be
+  -- up to a stop as much data as possible is spelled
   pub up_to_stop : IsStop s → length b ≤ length a
   up_to_stop stop = elim (cases_lt (length a) (length b)) [
     | inr g ↦ g
@@ -94,7 +94,7 @@ parts_few (p ∷ ps) = omega (arith, parts_few ps, some p, length-append (spelli
     some (Plain byte) = omega arith
     some (Stuffed more) = omega arith
 
--- they are no fewer
+-- the bytes are at least as many as the data
 pub found_few : (raw found : List ℕ) → IsRaw raw found → length found ≤ length raw
 found_few raw found is = omega (arith, parts_few is.parts, ap length is.spelled, ap length is.means, length-map is.parts byte_spelled)
 

@@ -1,4 +1,4 @@
--- What spells a front of a segment's data is cut off from it.
+-- What spells a prefix of a segment's data is cut off from it.
 use Rattle.std.proofs.Common.{◌≡◌, ℕ, ◌+◌, List, [], ◌∷◌, ◌++◌, length, map, refl, ap, subst, ◌∙◌, length-append, arith}
 use Rattle.jr_cut.specs.declared.scan_end.ScanEnd.{ScanEnd}
 use Rattle.jr_cut.specs.Cut.{IsRaw, CodedSegment, with_markers, IsEnding, CutFrom, IsStop}

@@ -63,7 +63,7 @@ segment_kept : (old added : List ℕ) (s : Span) → IsSpanOf old s → segment_
 segment_kept old added s w =
     ap (take (s.end - s.start)) (drop-append-le s.start old added (omega (arith, w.0, w.1))) ∙ take-append-le (s.end - s.start) (drop s.start old) added (omega (arith, length-drop s.start old, w.1))
 
--- the segments stay where others are put behind them
+-- the segments stay the same if others are written after them
 pub segments_kept : (old added : List ℕ) (spans : List Span) → All (IsSpanOf old) spans → map (segment_data (old ++ added)) spans ≡ map (segment_data old) spans
 segments_kept old added [] within = refl
 segments_kept old added (s ∷ ss) within =
@@ -89,7 +89,7 @@ within_more old added new spans spans' s e within from to pushed =
     push (t ∷ ss) w zero d lt = w 0 d (omega arith)
     push (t ∷ ss) w (suc k) d lt = push ss (λ j d lt. w (suc j) d (omega arith)) k d (omega arith)
 
--- a segment that was read at a place, and what is there with it
+-- a segment that was read at an offset, and what is there with it
 pub record SegmentMade (bytes old new : List ℕ) (spans spans' : List Span) (at count : ℕ) : Type 0 where
   pub found : List ℕ
   pub read : SegmentRead bytes found at count
@@ -113,7 +113,7 @@ segment_made bytes now left old new spans spans' at count s h few e room u behin
       few = omega (arith, long, length-take-le count (drop at bytes) room', ap length u'.joins, length-append old u'.added, few);
     }
 
--- what is not read yet is not touched where bytes are moved to the front
+-- the bytes that are not read yet are unchanged if bytes are moved to the start
 pub moved_rest : (bytes : List ℕ) (found at count n : ℕ) → found ≤ at → at ≤ length bytes → count ≤ length (drop at bytes) → n ≡ count → drop (at + count) (paste bytes found (drop at bytes) n) ≡ drop count (drop at bytes)
 moved_rest bytes found at count n before within few e =
     let more = at - found in
@@ -121,7 +121,7 @@ moved_rest bytes found at count n before within few e =
     let p = paste bytes found (drop at bytes) n in
     ap (λ (k : ℕ). drop k p) (sym place) ∙ sym (drop-drop more (found + n) p) ∙ ap (drop more) (drop-paste bytes found (drop at bytes) n (omega arith) (omega arith)) ∙ drop-drop more (found + n) bytes ∙ ap (λ (k : ℕ). drop k bytes) place ∙ sym (drop-drop count at bytes)
 
--- bytes that are data as they stand are read at a place, and what is left is behind them
+-- bytes other than FF are read at an offset, up to an FF byte or the end
 pub record RunMade (bytes old new rest : List ℕ) (at count : ℕ) : Type 0 where
   pub within : at + count ≤ length bytes
   pub is : Unstuffs (take (at + count) bytes) old new
@@ -144,7 +144,7 @@ run_made bytes old before now new rest slice at count h e u es room plain next w
       next = λ lt. plain_next bytes at count lt next';
     }
 
--- FF bytes behind it
+-- FF bytes after it
 pub record FillMade (bytes : List ℕ) (at n : ℕ) : Type 0 where
   pub full : take n (drop at bytes) ≡ replicate n PREFIX
   pub next : at + n < length bytes → get_or bytes (at + n) 0 ≢ PREFIX
@@ -158,18 +158,18 @@ fill_made bytes rest slice at n h e es full next =
       next = λ lt. fill_next bytes at n lt next';
     }
 
--- the byte behind them, as the slice that it is read from
+-- the byte after them, as the slice that it is read from
 pub code_in : (bytes rest slice : List ℕ) (at n : ℕ) → rest ≡ drop at bytes → slice ≡ rest → get_or slice n 0 ≡ get_or bytes (at + n) 0
 code_in bytes rest slice at n e es = ap (λ (x : List ℕ). get_or x n 0) (es ∙ e) ∙ get_or-drop at bytes n 0
 
 pub left_in : (bytes rest slice : List ℕ) (at : ℕ) → rest ≡ drop at bytes → slice ≡ rest → length slice ≡ length bytes - at
 left_in bytes rest slice at e es = ap length (es ∙ e) ∙ length-drop at bytes
 
--- what is left of bytes behind what is read of them
+-- what is left of bytes after what is read of them
 pub left_behind : (bytes now left : List ℕ) (at count : ℕ) → now ≡ drop at bytes → left ≡ drop count now → left ≡ drop (at + count) bytes
 left_behind bytes now left at count e behind = behind ∙ ap (drop count) e ∙ drop-drop count at bytes
 
--- further FF bytes behind FF bytes
+-- further FF bytes after FF bytes
 pub fill_more : (xs : List ℕ) (at n m : ℕ) → take n (drop at xs) ≡ replicate n PREFIX → take m (drop (at + n) xs) ≡ replicate m PREFIX → take (n + m) (drop at xs) ≡ replicate (n + m) PREFIX
 fill_more xs at n m before behind =
     take-add n m (drop at xs) ∙ ap (λ (l : List ℕ). l ++ take m (drop n (drop at xs))) before ∙ ap (λ (l : List ℕ). replicate n PREFIX ++ take m l) (drop-drop n at xs) ∙ ap (λ (l : List ℕ). replicate n PREFIX ++ l) behind ∙ joined n m

@@ -1,4 +1,4 @@
-//! The places where the restart markers of a scan are out of step.
+//! The positions at which the restart markers of a scan are out of step.
 
 use jr_base::marker::RST0;
 use std::fmt;

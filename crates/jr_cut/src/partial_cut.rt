@@ -117,7 +117,7 @@ impl PartialCut {
         self.segments.spans.len() as u32
     }
 
-    /// Returns the data of segment i, without stuffing; none where it has not begun.
+    /// Returns the data of segment i, without stuffing; none if it has not begun.
     pub fn data(&self, i: u32) -> &[u8]
         ensures bytes { result.now ≡ slice_index_or self.now.segments i [] }
         ensures few { length result.now ≤ length self.now.unstuffed }

@@ -19,7 +19,7 @@ use Rattle.jr_scan.proofs.McuReaders.{longest_read}
 use Rattle.jr_damage.specs.Fronts.{FrontTo}
 use Rattle.jr_damage.specs.Doubtful.{HasDoubtful, HasNoDoubtful, IsDoubtful, IsDoubtfulMcu, IsFirstDoubtful, NoneDoubtful, mcu_of}
 
--- ---- what a reader has read is a front up to where it stands
+-- ---- what a reader has read is a prefix up to its position
 
 own_run : (r : McuReaderValue) (i : IntervalValue) (zs : List (List ℤ)) → HasReadOf r i zs → IsRun (run_from i start_of_interval r.mcu) zs r.place AllRead
 own_run r i zs s = subst (λ (o : RunOf). IsRun (run_from o.interval o.from r.mcu) zs r.place AllRead) s.0 s.1.run
@@ -114,7 +114,7 @@ sought_all i r m lawful s ended = record {
   none = subst (NoneDoubtful i.head s.zs) (sym s.mcu) s.none;
 }
 
--- a reader takes one MCU where there is space for one
+-- a reader reads one MCU if there is space for one
 pub one_taken : (n per : ℕ) → 0 < n → 0 < per → n * per ≤ per → n ≡ 1
 one_taken n per some units fits =
     let one : n * per ≤ 1 * per = omega (arith, fits) in
@@ -136,7 +136,7 @@ natural_doubt z natural q factors values steps = (to, from)
         let step : slice_index q d.0 ≡ slice_index factors n = sym (steps n below ∙ ap (slice_index q) place) in
         (n, below, subst (λ (s : ℕ). IsDoubtful (at natural n) s) step (subst (λ (v : ℤ). IsDoubtful v (slice_index q d.0)) value d.2))
 
--- one more of some numbers
+-- one more of the numbers below n
 pub one_more : (P : ℕ → Type 0) (n : ℕ) (b c : Bool) → IsTrue b ↔ ((j : ℕ) × (j < n) × P j) → IsTrue c ↔ P n → IsTrue (b || c) ↔ ((j : ℕ) × (j < n + 1) × P j)
 one_more P n true c h g = (λ t. (let d = h.0 refl in (d.0, omega (arith, d.1), d.2)), λ d. refl)
 one_more P n false c h g = (

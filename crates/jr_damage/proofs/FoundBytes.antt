@@ -9,7 +9,7 @@ use Rattle.jr_cut.proofs.Spellings.{further, up_to_stop}
 use Rattle.jr_damage.specs.declared.segments.CodedSpan.{CodedSpan}
 use Rattle.jr_damage.specs.Offsets.{BeginsByte}
 
--- so many bytes are read, of which these are the data
+-- `read` bytes are read, and these `found` bytes are their data
 pub record HasFound (raw : List ℕ) (read found : ℕ) : Type 0 where
   pub bytes : List ℕ
   pub long : length bytes ≡ found
@@ -45,7 +45,7 @@ module _ (raw bytes : List ℕ) (read count : ℕ) (h : HasFound raw read count)
 pub stop_behind : (raw : List ℕ) (read n : ℕ) → IsStop (drop n (take (length raw - read) (drop read raw))) → IsStop (drop (read + n) raw)
 stop_behind raw read n stop = subst IsStop (drop-drop n read raw) (subst (λ (x : List ℕ). IsStop (drop n x)) (rest_is raw read) stop)
 
--- so many bytes of a segment, which spell the first ones of its data
+-- the first n bytes of a segment, which spell the first k of its data
 pub begins_byte : (file : List ℕ) (span : CodedSpan) (bytes : List ℕ) (k n : ℕ) → span.start ≤ span.end → span.end ≤ length file → n ≤ length (slice_range file span.start span.end)
     → IsRaw (take n (slice_range file span.start span.end)) (take k bytes) → IsRaw (drop n (slice_range file span.start span.end)) (drop k bytes) → BeginsByte file span bytes k (span.start + n)
 begins_byte file span bytes k n order within few before from =

@@ -35,7 +35,7 @@ module _ (file : List ℕ) (s : ScanValue) (i at len : ℕ) (found : List ℕ) (
   abbrev tail : List ℕ
   tail = drop end file
 
-  -- where it is segment i
+  -- if it is segment i
   module _ (b : BeginsAt file s i at) where
     split : SplitCut n i (at + length (take len (drop at file))) found tail b.segments s.ended
     split = split_cut n i at (take len (drop at file)) found tail b.segments s.ended raw (subst (λ (x : List ℕ). CutFrom n i at x b.segments s.ended) (split_at file at len) b.cut)
@@ -79,7 +79,7 @@ module _ (file : List ℕ) (s : ScanValue) (i at len : ℕ) (found : List ℕ) (
         ap (λ (k : ℕ). get_or s.intervals k []) (sym place) ∙ sym (get_or-drop (i + 1) s.intervals (j - (i + 1)) []) ∙ ap (λ (l : List (List ℕ)). get_or l (j - (i + 1)) []) (after ∙ ap (λ (x : List (List ℕ)). x ++ replicate b.empty []) others)
         ∙ none_in b.empty (j - (i + 1))
 
-  -- where the scan has ended before
+  -- if the scan has ended before
   module _ (h : HasEndedBefore file s i at) where
     no_data : found ≡ []
     no_data = no_bytes found (omega (arith, found_few (take len (drop at file)) found raw, length_front file at len within, within, h.last))
@@ -102,7 +102,7 @@ module _ (file : List ℕ) (s : ScanValue) (i at len : ℕ) (found : List ℕ) (
   is_segment (inl b) = record { begins = inl b; spelled = spelled_by (get_or s.intervals i []) (its_data b) }
   is_segment (inr h) = record { begins = inr h; spelled = spelled_by (get_or s.intervals i []) (h.none i (omega arith) ∙ sym (no_data h)) }
 
-  -- where the next one begins
+  -- the offset at which the next one begins
   pub next_is : (next : ℕ) → GoesOnAfter file n i end next ⊎ EndsAfter file n i end next → IsNextAt file s i at → IsNextAt file s (i + 1) next
   next_is next (inl m) (inl b) = inl (subst (BeginsAt file s (i + 1)) (sym m.is) (goes_on b m.count m.more m.due))
   next_is next (inl m) (inr h) = absurd (no_marker h m.count m.due)

@@ -14,7 +14,7 @@ use Rattle.jr_damage.specs.Lines.{first_mcu_of, AreRows, AreLinesOf}
 div_le : (a b n : ℕ) → 0 < n → a ≤ b → a / n ≤ b / n
 div_le a b n some le = (le-div_iff_mul-le {k = n} {x = a / n} {y = b} some).1 (omega (arith, div-mul-le_self a n, le))
 
--- the last row begins within the picture
+-- the last row begins within the image
 pub row_begins : (across high height first count : ℕ) → AreRows across high height first count → (first + count - 1) / across * high < height
 row_begins across high height first count r =
     let row = (first + count - 1) / across in
@@ -59,7 +59,7 @@ line_found across high height first count line r low up =
           record { mcu = first; from = omega arith; before = omega (arith, r.count_some); row = omega (arith, above, back) }
     ]
 
--- the rows of a head's picture
+-- the rows of an image with this header
 pub rows_of : (h : HeadValue) (across high height first count : ℕ) → across ≡ mcus_across h → 0 < across → high ≡ vertical_max h → 0 < high → height ≡ h.height → 0 < count → first + count ≤ mcus_of h → AreRows across (8 * high) height first count
 rows_of h across high height first count ea some_across eh some_high ey some within =
     let all : mcus_across h * mcus_down h ≡ across * div_ceil height (8 * high) = rw (ea, eh, ey) refl in

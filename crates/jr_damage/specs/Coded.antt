@@ -13,7 +13,7 @@ pub record IsSpelledAt (file : List ℕ) (s : CodedSpan) (bytes : List ℕ) : Ty
   pub raw : IsRaw (slice_range file s.start s.end) bytes
   pub stop : IsStop (drop s.end file)
 
--- segment i begins at that offset: the file from there on is this segment, those after it and what ends the scan
+-- segment i begins at that offset: the file starting there is this segment, those after it and what ends the scan
 pub record BeginsAt (file : List ℕ) (s : ScanValue) (i at : ℕ) : Type 0 where
   pub within : at ≤ length file
   pub segments : List (List ℕ)

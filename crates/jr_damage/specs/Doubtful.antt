@@ -45,7 +45,7 @@ pub record IsFirstDoubtful (i : IntervalValue) (m : McuBits) : Type 0 where
   pub is : IsDoubtfulMcu i.head (mcu_of i.head blocks m.number)
   pub first : NoneDoubtful i.head blocks m.number
 
--- no MCU of an interval's longest front is doubtful
+-- no MCU of an interval's longest prefix is doubtful
 pub record HasNoDoubtful (i : IntervalValue) : Type 0 where
   pub mcus : ℕ
   pub blocks : List (List ℤ)

@@ -10,7 +10,7 @@ pub record FrontTo (i : IntervalValue) (k : ℕ) (zs : List (List ℤ)) (bit : �
   pub front : Front i k zs
   pub ends : bit ≡ length front.taken
 
--- the bits of an interval's longest front end in the byte at that offset of the file, or before it
+-- the bits of an interval's longest prefix end in the byte at that offset of the file, or before it
 pub record IsDecodableEnd (i : IntervalValue) (file : List ℕ) (span : CodedSpan) (at : ℕ) : Type 0 where
   pub mcus : ℕ
   pub blocks : List (List ℤ)

@@ -21,7 +21,7 @@ pub record IsHull (s : ScanValue) (n : ℕ) (l : Lines) : Type 0 where
   pub last : DamageTouches s n l.last
   pub each : (line : ℕ) → DamageTouches s n line → HasLine l line
 
--- the same where they may touch none
+-- the same if they may touch none
 abbrev pub IsTouched : ScanValue → ℕ → Option Lines → Type 0
 IsTouched s n None = (line : ℕ) → DamageTouches s n line → ⊥
 IsTouched s n (Some l) = IsHull s n l
@@ -32,7 +32,7 @@ pub record IsVerdictOf (s : ScanValue) (n : ℕ) (v : Verdict) : Type 0 where
   pub lines : IsTouched s n v.lines
   pub few : v.damaged ≤ n
 
--- the head is the file's, and the intervals are those that its scan is cut into
+-- the header is the file's, and the intervals are those that its scan is cut into
 pub record IsFileScan (file : List ℕ) (s : ScanValue) : Type 0 where
   pub head : HeadOf file s.head
   pub cut : IsScanOf file s

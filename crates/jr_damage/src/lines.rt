@@ -31,7 +31,7 @@ pub fn mcus_of(head: &Head, i: u32) -> McuRange
     ensures within { result.first + result.count ≤ geometry.mcus_of head.now }
     ensures few { result.first + result.count ≤ MAX_MCUS }
 {
-    // By its contract a picture has so few MCUs that their numbers fit.
+    // By its contract an image has few enough MCUs that their numbers fit.
     let _mcus = head.mcus();
     McuRange {
         first: head.first_mcu(i),

@@ -1,4 +1,4 @@
--- Accepted frame headers give lawful components.
+-- Accepted frame headers have valid components.
 use Rattle.std.proofs.Common.{◌≡◌, ◌⊎◌, inl, inr, ℕ, zero, suc, ◌+◌, ◌*◌, ◌%◌, ◌<◌, ◌≤◌, Bool, true, false, List, [], ◌∷◌, length, take, drop, max, refl, sym, ap, ◌∙◌, arith}
 use Rattle.std.specs.Prelude.{All, Option, sum_by, slice_index_or, not, ◌||◌, ◌&&◌, ◌==◌, nat_lt, if◌then◌else◌}
 use Rattle.std.specs.Option.{option_map_or}
@@ -22,7 +22,7 @@ use Rattle.jr_head.specs.Definitions.{HasFactors, HaveFactors}
 use Rattle.jr_head.specs.Scans.{selectors_in, selectors}
 use Rattle.jr_head.proofs.SamplingLaws.{within_most, most_small, most_some}
 
--- ---- how many entries a scan header has
+-- ---- the number of entries of a scan header
 
 pairs_count : (n : ℕ) (s : List ℕ) → length s ≡ 2 * n → length (selectors_in s) ≡ n
 unfolding selectors_in
@@ -137,7 +137,7 @@ unfolding is_ill_sampled
 well_sampled fs three h =
     well_parts (list_all (λ (c : FrameComponent). divides c.horizontal (frame_across fs) && divides c.vertical (frame_down fs)) fs) (blocks fs) (rw three at h)
 
--- ---- lawful components
+-- ---- valid components
 
 abbrev Tests : List Component → Type 0
 Tests cs = All IsSampled cs × All (IsSubsampled (greatest_across cs) (greatest_down cs)) cs × (sum_by units_of cs ≤ 10)

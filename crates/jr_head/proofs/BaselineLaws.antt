@@ -1,4 +1,4 @@
--- What a reader of baseline frames alone accepts is accepted, with an equal head.
+-- A header that a reader of baseline frames alone accepts is accepted, and equal.
 use Rattle.std.proofs.Common.{◌≡◌, ℕ, zero, suc, ◌+◌, ◌*◌, ◌≤◌, Bool, true, false, List, [], ◌∷◌, ◌++◌, length, refl, sym, ap, subst, ◌∙◌, append_assoc, arith}
 use Rattle.std.specs.Prelude.{Option, Some, None, is_some, unwrap_or, map, sum, take, not, ◌||◌, ◌&&◌, ◌==◌, nat_lt, if◌then◌else◌}
 use Rattle.std.specs.List.{flat_map, list_any}

@@ -1,4 +1,4 @@
--- No test of a file answers for want of memory: its fault has a number from 1 to 18.
+-- No test of a file reports that memory ran out: its fault has a number from 1 to 18.
 use Rattle.std.proofs.Common.{◌≡◌, inl, inr, ℕ, ◌-◌, ◌<◌, Bool, true, false, List, [], ◌∷◌, ◌++◌, length, drop, refl, sym, subst, arith}
 use Rattle.std.specs.Prelude.{Some, ◌==◌, if◌then◌else◌}
 use Rattle.std.specs.List.{flat_map}

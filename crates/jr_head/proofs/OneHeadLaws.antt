@@ -1,4 +1,4 @@
--- A file has one head and no fault, or no head and one fault.
+-- A file has one header and no fault, or no header and one fault.
 use Rattle.std.proofs.Common.{◌≡◌, ◌≢◌, ◌⊎◌, inl, inr, ℕ, zero, suc, ◌+◌, ◌-◌, ◌<◌, ◌≤◌, Bool, true, false, eqb, List, [], ◌∷◌, ◌++◌, length, get_or, drop, refl, sym, ap, subst, ◌∙◌, append_assoc, arith}
 use Rattle.std.specs.Prelude.{All, Option, Some, None, Result, Ok, Err, is_none, not, ◌||◌, ◌&&◌, ◌==◌, if◌then◌else◌, nat_lt}
 use Rattle.std.specs.List.{AllZip, flat_map, list_any}
@@ -35,7 +35,7 @@ use Rattle.jr_head.proofs.ReadLaws.{rest_bytes}
 use Rattle.jr_head.proofs.StepLaws.{next_is}
 use Rattle.jr_segments.proofs.TestLaws.{passes_parts, passes_first}
 
--- ---- the segments define one head
+-- ---- the segments define one header
 
 same_some : {T : Type 0} (a b : T) → Some a ≡ Some b → a ≡ b
 same_some a b e = cc
@@ -81,7 +81,7 @@ same_head segments scan x y h k at =
     ∙ ap (λ n. head_by y.width y.height y.kind y.components n x.scan_at) (h.restart ∙ sym k.restart)
     ∙ ap (λ n. head_by y.width y.height y.kind y.components y.restart n) at
 
--- ---- where no table is missing, there is a head
+-- ---- if no table is missing, there is a header
 
 no_one : (b c : Bool) → (b || c) ≡ false → (b ≡ false) × (c ≡ false)
 no_one true c h = absurd cc
@@ -128,7 +128,7 @@ made_head segments p at h =
       refl,
     )
 
--- ---- what a chain comes to, where size is the file's length
+-- ---- the result of a chain, if size is the file's length
 
 record IsScanned (size : ℕ) (before : List Segment) (bytes : List ℕ) (h : HeadValue) : Type 0 where
   scan : Segment
@@ -150,7 +150,7 @@ record Walk (size : ℕ) (before : List Segment) (bytes : List ℕ) (r : Result 
   chain : IsChain before segments
   comes : Comes size (before ++ segments) rest r
 
--- ---- it comes to one thing
+-- ---- it has at most one result
 
 none_some : (o : Option Refusal) (f : Refusal) → o ≡ None → o ≡ Some f → ⊥
 none_some o f e h = absurd (let k = sym e ∙ h in cc)
@@ -174,7 +174,7 @@ one_end size before bytes (Err f) (Ok y) h k =
     absurd (none_some (first_fault (segment_tests before (size - length bytes) bytes)) f ((next_is before k.scan bytes k.rest k.passes k.is).passes (size - length bytes)) h)
 one_end size before bytes (Err f) (Err g) h k = ap Err (same_some f g (sym h ∙ k))
 
--- a chain does not end before a segment that passes and is no scan header
+-- a chain does not end before a segment that passes and is not a scan header
 goes_on : (size : ℕ) (before : List Segment) (bytes rest : List ℕ) (i : Segment) (r : Result HeadValue Refusal) → Passes before i → i.code ≢ SOS → bytes ≡ segment_bytes i ++ rest → Comes size before bytes r → ⊥
 goes_on size before bytes rest i (Ok h) ok other e c =
     let m = next_is before i bytes rest ok e in
@@ -212,7 +212,7 @@ one_outcome size before bytes (i ∷ xs) (j ∷ ys) u v r s d e p q h k =
 one_walk : (size : ℕ) (before : List Segment) (bytes : List ℕ) (r s : Result HeadValue Refusal) → Walk size before bytes r → Walk size before bytes s → r ≡ s
 one_walk size before bytes r s h k = one_outcome size before bytes h.segments k.segments h.rest k.rest r s h.is k.is h.chain k.chain h.comes k.comes
 
--- ---- it comes to something
+-- ---- it has a result
 
 abbrev SomeWalk : ℕ → List Segment → List ℕ → Type 0
 SomeWalk size before bytes = (r : Result HeadValue Refusal) × Walk size before bytes r
@@ -279,7 +279,7 @@ begins_so (a ∷ b ∷ rest) h =
     let second : b ≡ SOI = eqb-true b SOI both.1 in
     rw (first, second) refl
 
--- heads and faults are walks from behind SOI
+-- headers and faults are walks that start after SOI
 head_walk : (file : List ℕ) (h : HeadValue) → HeadOf file h → Walk (length file) [] (drop 2 file) (Ok h)
 head_walk file h k = record {
   segments = k.segments;
@@ -333,7 +333,7 @@ no_fault_beside : (file : List ℕ) (f : Refusal) (h : HeadValue) → first_faul
 no_fault_beside file f h starts w (inl g) = none_some (first_fault (start_tests file)) f starts g
 no_fault_beside file f h starts w (inr k) = ok_err h f (one_walk (length file) [] (drop 2 file) (Ok h) (Err f) w (fault_walk file f k))
 
--- the file does not begin as it must
+-- the file does not begin as required
 at_start : (file : List ℕ) (f : Refusal) → first_fault (start_tests file) ≡ Some f → OneOf file
 at_start file f e = inr record {
   fault = f;

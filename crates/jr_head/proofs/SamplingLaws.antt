@@ -76,7 +76,7 @@ units_some (c ∷ cs) h a =
     let one = mul-le 1 1 c.horizontal c.vertical s.across s.down in
     rw (sum_by-cons units_of c cs) (omega (arith, one))
 
--- few MCUs stand in a row or in a column of at most 65535 pixels
+-- the number of MCUs in a row or in a column of at most 65535 pixels is limited
 pub few_across : (n m : ℕ) → n < 65536 → 0 < m → m ≤ 4 → div_ceil n (8 * m) ≤ MAX_MCUS_ACROSS
 few_across n m h some few =
     let times = div_ceil_times n (8 * m) (omega arith) in

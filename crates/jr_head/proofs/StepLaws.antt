@@ -39,7 +39,7 @@ back_of : (p rest : List ℕ) → drop (length p) (p ++ rest) ≡ rest
 back_of [] rest = refl
 back_of (x ∷ p) rest = back_of p rest
 
--- the bytes from the code on
+-- the bytes starting at the code
 abbrev tail_of : ℕ → List ℕ → List ℕ → List ℕ
 tail_of c p rest = c ∷ ((length p + 2) / 256 % 256) ∷ ((length p + 2) % 256) ∷ (p ++ rest)
 

@@ -78,7 +78,7 @@ abbrev pub IsBaselineChain : List Segment → List Segment → Type 0
 IsBaselineChain before [] = Unit {0}
 IsBaselineChain before (i ∷ is) = PassesBaseline before i × (i.code ≢ SOS) × IsBaselineChain (before ++ i ∷ []) is
 
--- the head that such a reader accepts
+-- the header that such a reader accepts
 pub record BaselineHeadOf (file : List ℕ) (h : HeadValue) : Type 0 where
   pub segments : List Segment
   pub scan : Segment

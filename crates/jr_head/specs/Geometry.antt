@@ -1,4 +1,4 @@
--- Components, the data units of an MCU, and the MCUs of a picture (T.81, A.1.1 and A.2).
+-- Components, the data units of an MCU, and the MCUs of an image (T.81, A.1.1 and A.2).
 use Rattle.std.specs.Prelude.{◌≡◌, ℕ, suc, ◌*◌, ◌%◌, ◌<◌, ◌≤◌, List, [], ◌∷◌, ◌++◌, length, replicate, take, sum_by, max, slice_index_or}
 use Rattle.std.specs.List.{fold, All}
 use Rattle.std.specs.Int.{div_ceil}
@@ -74,7 +74,7 @@ order_from c (k ∷ ks) = replicate (units_of k) c ++ order_from (suc c) ks
 abbrev pub order_of : HeadValue → List ℕ
 order_of h = order_from 0 h.components
 
--- MCUs of 8 Hmax by 8 Vmax pixels cover the picture
+-- MCUs of 8 Hmax by 8 Vmax pixels cover the image
 abbrev pub mcus_across : HeadValue → ℕ
 mcus_across h = div_ceil h.width (8 * horizontal_max h)
 

@@ -1,4 +1,4 @@
--- How far a reader of a head has come (T.81, B.2.1).
+-- The progress of a reader of a header (T.81, B.2.1).
 use Rattle.std.specs.Prelude.{◌≡◌, ◌⊎◌, ℕ, ◌+◌, List, [], ◌++◌, length}
 use Rattle.std.specs.List.{flat_map}
 use Rattle.jr_segments.specs.Segments.{Segment, segment_bytes}

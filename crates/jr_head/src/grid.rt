@@ -53,7 +53,7 @@ impl Head {
         ensures value { result ≡ first_mcu_of self.now interval }
         ensures inside { result < mcus_of self.now }
     {
-        // By its contract a picture has so few MCUs that their numbers fit.
+        // By its contract an image has few enough MCUs that their numbers fit.
         let _all = self.mcus();
         interval * u32::from(self.restart())
     }

@@ -40,7 +40,7 @@ bounded_hold m (pos a) h =
           rw (least, e, h.reads, le-ltb a 255 g) (holds_given w16 (pos 255) (omega (arith, ints)))
     ]
 
--- what the cast asks of a lane
+-- the conditions of the cast of a lane
 abbrev pub IsByte : ℕ → Type 0
 IsByte m = T (non_neg (to_z w16 m)) × Fits w8 (unsigned_abs (to_z w16 m))
 

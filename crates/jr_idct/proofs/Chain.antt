@@ -8,13 +8,13 @@ use Rattle.jr_idct.specs.Transform.{column_pass}
 use Rattle.jr_idct.proofs.FloorLaws.{floor_below, floor_above, floor_is}
 use Rattle.jr_idct.proofs.Passes.{pass_same, row_sum_within, shr_within_2048, shr_within_262144, sum_same}
 
--- sums of small products fit, and what the first pass makes of them
+-- sums of small products fit, and so do the results of the first pass
 pub first_short : (rows : List (List ℤ)) → ((k p : ℕ) → k < 8 → p < 16 → IsWithin MAX_PRODUCT (lane rows k p)) → (i p : ℕ) → i < 8 → p < 16 → IsShort 11 (row_sum i (λ k. lane rows k p) +ℤ pos 1024)
 first_short rows small i p h g =
     let s = row_sum_within MAX_PRODUCT (λ k. lane rows k p) (λ k b. small k p b g) i h in
     ((omega (arith, ints, s), omega (arith, ints, s)), shr_within_2048 (row_sum i (λ k. lane rows k p) +ℤ pos 1024) 32767 (omega (arith, ints, s)) (omega (arith, ints, s)))
 
--- and of numbers of 16 bits
+-- and so do sums of numbers of 16 bits, and the results of the second pass
 pub second_short : (rows : List (List ℤ)) → ((k p : ℕ) → k < 8 → p < 16 → IsWithin 32767 (lane rows k p)) → (i p : ℕ) → i < 8 → p < 16 → IsShort 18 (row_sum i (λ k. lane rows k p) +ℤ pos 33685504)
 second_short rows small i p h g =
     let s = row_sum_within 32767 (λ k. lane rows k p) (λ k b. small k p b g) i h in
@@ -32,7 +32,7 @@ module _ (x y z w : List (List ℤ))
     (first : (i p : ℕ) → i < 8 → p < 16 → lane y i p ≡ floor_div (row_sum i (λ k. lane x k p) +ℤ pos 1024) (2 ^ 11))
     (turned : (i p : ℕ) → i < 8 → p < 16 → lane z i p ≡ lane y (p % 8) (8 * (p / 8) + i))
     (second : (i p : ℕ) → i < 8 → p < 16 → lane w i p ≡ floor_div (row_sum i (λ k. lane z k p) +ℤ pos 33685504) (2 ^ 18)) where
-  -- where number i of a row of the block stands
+  -- the lane of number i of a row of the block
   module _ (place : ℕ → ℕ) (below : (i : ℕ) → i < 8 → place i < 16) (column : (i : ℕ) → i < 8 → place i % 8 ≡ i) (block : (i k : ℕ) → i < 8 → k < 8 → 8 * (place i / 8) + k ≡ place k)
       (v : ℕ → ℤ) (is_x : (j k : ℕ) → j < 8 → k < 8 → lane x j (place k) ≡ v (8 * j + k)) where
     crossed : (a b : List (List ℤ)) → ((i p : ℕ) → i < 8 → p < 16 → lane a i p ≡ lane b (p % 8) (8 * (p / 8) + i)) → (i k : ℕ) → i < 8 → k < 8 → lane a i (place k) ≡ lane b k (place i)

@@ -1,10 +1,10 @@
--- The pass over a column in 64 bits: what its two halves come to together.
+-- The pass over a column in 64 bits: the sum of its two halves.
 use Rattle.std.proofs.Common.{arith, ◌≡◌, ℕ, ◌+◌, ◌-◌, ◌*◌, ◌<◌, ◌≤◌, ◌+ℤ◌, ◌-ℤ◌, ℤ, List, [], ◌∷◌, sym, ap, subst, ◌∙◌, w64, to_z, of_z, FitsSigned}
 use Rattle.std.proofs.lemmas.Int.{ints, to_z-of_z}
 use Rattle.jr_idct.specs.Matrix.{IsWithin, at, even_sum, odd_sum, row_sum, wide_reach, row_weight}
 use Rattle.jr_idct.proofs.Passes.{row_sum_within, sum_is_row, difference_is_row}
 
--- what the code passes on for z
+-- z after the code's casts
 abbrev pub passed : ℤ → ℤ
 passed z = to_z w64 (of_z w64 z)
 
@@ -15,7 +15,7 @@ pub record Joined (v : ℕ → ℤ) (i : ℕ) (e o : ℤ) : Type 0 where
   pub small_sum : IsWithin (row_weight * wide_reach) (passed e +ℤ passed o)
   pub small_difference : IsWithin (row_weight * wide_reach) (passed e -ℤ passed o)
 
--- a number within n passes on as small
+-- a number within n stays small after the casts
 pub passed_within : (n : ℕ) (z : ℤ) → n ≤ wide_reach → IsWithin n z → IsWithin wide_reach (passed z)
 passed_within n z few small =
     let f : FitsSigned w64 z = omega (arith, ints) in

@@ -1,4 +1,4 @@
--- A block that is only its first coefficient: all of its samples are equal.
+-- A block that is only its DC coefficient: all of its samples are equal.
 use Rattle.std.proofs.Common.{arith, ◌≡◌, ℕ, ◌+◌, ◌*◌, ◌<◌, pos, ◌+ℤ◌, ℤ, List, ap, ◌∙◌, sym}
 use Rattle.std.proofs.Math.IntN.{◌*ℤ◌}
 use Rattle.std.proofs.lemmas.Int.{ints}

@@ -1,4 +1,4 @@
--- The floor: what it is, and that no other number is.
+-- The floor: its definition, and that no other number satisfies it.
 use Rattle.std.proofs.Common.{arith, ◌≡◌, ℕ, suc, ◌<◌, ◌≤◌, pos, negsuc, ◌+ℤ◌, ◌≤ℤ◌, ◌<ℤ◌, ℤ}
 use Rattle.std.proofs.Math.IntN.{◌*ℤ◌}
 use Rattle.std.proofs.Math.Nat.{mul-le-mul_left}

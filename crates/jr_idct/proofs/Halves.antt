@@ -34,11 +34,11 @@ lanes_minus xs ys f g p q fit = lanes_zip w32 w32 w32 8 xs ys f g (λ k. f k -�
 abbrev pub Good : List ℤ → List Val → Type 0
 Good xs vs = shadow (in_array ℤ (SInt w32).own_val 8 xs vs)
 
--- eight numbers are of sixteen bits
+-- eight numbers of sixteen bits
 abbrev pub Short : (ℕ → ℤ) → Type 0
 Short x = (k : ℕ) → k < 8 → IsWithin 32768 (x k)
 
--- as the lanes of a half are
+-- the lanes of a half are such numbers
 pub lane_within : (xs : List ℤ) (vs : List Val) → shadow (in_array ℤ (SInt w16).own_val 16 xs vs) → (u : Bool) → Short (λ j. at xs (half_lane u j))
 lane_within xs vs good u j h =
     let f = lanes_fit w16 16 xs vs good (half_lane u j) (half_lane_below u j h) in

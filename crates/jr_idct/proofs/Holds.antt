@@ -1,4 +1,4 @@
--- What the bits of a lane hold, read as a signed number, through the operations on lanes.
+-- The numbers that the bits of a lane represent, signed, through the operations on lanes.
 use Rattle.std.proofs.Common.{◌≡◌, ℕ, ◌+◌, ◌-◌, ◌*◌, ◌%◌, ◌^◌, ◌<◌, ℤ, ◌+ℤ◌, ◌-ℤ◌, arith, sym, ◌∙◌, w16, w32, to_z, of_z, FitsSigned}
 use mir.Syntax.{Width}
 use mir.Val.{bits}
@@ -10,7 +10,7 @@ use Rattle.std.specs.Int.{int_wrap}
 use Rattle.std.specs.Int.Signed.{shr_z}
 use Rattle.jr_idct.proofs.Passes.{shr_fits}
 
--- the bits m stand for z
+-- the bits m represent z
 pub record Holds (w : Width) (m : ℕ) (z : ℤ) : Type 0 where
   pub fits : m < 2 ^ bits w
   pub reads : to_z w m ≡ z

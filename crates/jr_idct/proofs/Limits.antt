@@ -39,7 +39,7 @@ no_limit_behind : (n : ℕ) → 0 < n → n < 64 → slice_index (65535 ∷ repl
 no_limit_behind zero p h = absurd (omega (arith, p))
 no_limit_behind (suc n) p h = get_or-replicate 63 n 0 0 (omega (arith, h))
 
--- where all coefficients but the first have limit 0
+-- a block of which all coefficients but the first have limit 0
 pub only_first : (z natural : List ℤ) → ((n : ℕ) → n < 64 → at natural n ≡ at z (zigzag_place n)) → ((n : ℕ) → n < 64 → unsigned_abs (at natural n) ≤ slice_index (65535 ∷ replicate 63 0) n)
     → (k : ℕ) → 0 < k → k < 64 → at z k ≡ pos 0
 only_first z natural is_natural within k p h =

@@ -1,4 +1,4 @@
--- A lane that fits in 16 bits is not changed where it is held between the ends of their range.
+-- A lane that fits in 16 bits is unchanged if it is clamped to their range.
 use Rattle.std.proofs.Common.{◌≡◌, ℕ, ◌<◌, ◌++◌, ℤ, pos, negsuc, cond, true, false, inl, inr, List, [], ◌∷◌, map, get_or, refl, arith, lit<, ◌∙◌, w16, w32, to_z, of_z, FitsSigned}
 use mir.Val.{Val, SFits}
 use denote.Array.{in_array}

@@ -7,7 +7,7 @@ use Rattle.jr_idct.proofs.Halves.{half_lane_below}
 use Rattle.jr_idct.proofs.PairSums.{below_sixteen}
 use Rattle.jr_idct.proofs.Passes.{sum_is_row, difference_is_row}
 
--- what holds of each lane of both halves holds of each of the sixteen
+-- a predicate that holds for each lane of both halves holds for each of the sixteen
 pub by_halves : (P : ℕ → Type 0) → ((u : Bool) (j : ℕ) → j < 8 → P (half_lane u j)) → (p : ℕ) → p < 16 → P p
 by_halves P h =
     below_sixteen P

@@ -5,7 +5,7 @@ use Rattle.jr_idct.specs.Lanes.{lane}
 use Rattle.jr_idct.specs.Transform.{byte_of}
 use Rattle.jr_idct.proofs.Passes.{below_four}
 
--- of a block, where number r of a column stands
+-- the position of number r of a column of a block
 abbrev pub place_in : Bool → ℕ → ℕ
 place_in second r = cond second (8 + r) r
 

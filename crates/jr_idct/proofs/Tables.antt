@@ -27,7 +27,7 @@ place_below n h =
 zero_first : list_all (λ n. nat_lt 0 (slice_index places n)) (range_with_len 1 63) ≡ true
 zero_first = refl
 
--- the place of an index above 0 is above 0
+-- the zigzag position of an index above 0 is above 0
 pub place_positive : (n : ℕ) → 0 < n → n < 64 → 0 < zigzag_place n
 unfolding zigzag_place
 place_positive n p h =

@@ -1,4 +1,4 @@
--- What each lane of a vector holds.
+-- The number that each lane of a vector holds.
 use Rattle.std.proofs.Common.{◌≡◌, ℕ, zero, suc, ◌+◌, ◌-◌, ◌<◌, ℤ, pos, Bool, true, false, cond, nat_lt, List, [], ◌∷◌, ◌++◌, length, get_or, map, replicate, refl, ap, ap₂, sym, ◌∙◌, arith, subst, to_z, of_z, inl, inr, ◌&&◌}
 use mir.Syntax.{Width}
 use mir.Val.{Val, SFits}
@@ -13,7 +13,7 @@ use Rattle.std.specs.Simd.Lanes.{zip2, pick_l, all_below}
 use Rattle.jr_idct.specs.Matrix.{at}
 use Rattle.jr_idct.proofs.Holds.{Holds, holds_given}
 
--- each of n lanes holds what f says
+-- lane k of n lanes holds f k
 pub record Lanes (w : Width) (n : ℕ) (xs : List ℕ) (f : ℕ → ℤ) : Type 0 where
   pub long : length xs ≡ n
   pub each : (k : ℕ) → k < n → Holds w (get_or xs k 0) (f k)
@@ -24,7 +24,7 @@ each_fits w (x ∷ xs) [] h k l = absurd h
 each_fits w (x ∷ xs) (u ∷ us) h zero l = record { sfits = h.0.1 }
 each_fits w (x ∷ xs) (u ∷ us) h (suc k) l = each_fits w xs us h.1 k (omega (arith, l))
 
--- a vector that is passed
+-- a vector that is an argument
 pub lanes_fit : (w : Width) (n : ℕ) (xs : List ℤ) (vs : List Val) → shadow (in_array ℤ (SInt w).own_val n xs vs) → (k : ℕ) → k < n → SFits w (get_or xs k (pos 0))
 lanes_fit w n xs vs h k l = each_fits w xs h.0 h.1.1 k (let e = h.1.0.1 in omega (arith, l, e))
 
@@ -116,7 +116,7 @@ lanes_pick w n m xs ks f p small long = record {
       subst (λ b. Holds w b (f (get_or ks k 0))) (sym (get_or-map (λ i. get_or xs i 0) ks k 0 0 inside)) (p.each (get_or ks k 0) (all_at n ks k small inside));
 }
 
--- a vector that is passed on
+-- a vector whose lanes are cast to their own type
 pub unchanged : (w : Width) (n : ℕ) (xs : List ℤ) (vs : List Val) → shadow (in_array ℤ (SInt w).own_val n xs vs) → map (to_z w) (map (of_z w) xs) ≡ xs
 unchanged w n xs vs h =
     let g = lanes_given w n xs vs h in
@@ -124,7 +124,7 @@ unchanged w n xs vs h =
     ext_get_or (pos 0) (map (to_z w) (map (of_z w) xs)) xs long
     (λ k l. lanes_read w n _ _ g k (let e = h.1.0.1 in omega (arith, l, long, e)))
 
--- the lanes at positions in two vectors that are passed
+-- the lanes at positions in two vectors that are arguments
 module _ (w : Width) (n m : ℕ) (a b : List ℤ) (vs us : List Val) (g : shadow (in_array ℤ (SInt w).own_val n a vs)) (h : shadow (in_array ℤ (SInt w).own_val m b us)) where
   pub at_joined : (k : ℕ) → at (a ++ b) k ≡ joined n (at a) (at b) k
   at_joined k =

@@ -27,7 +27,7 @@ const C3_PLUS_C5: i16 = 16069;
 const C7_MINUS_C3: i16 = -7373;
 /// -c1 - c3.
 const MINUS_C1_C3: i16 = -20995;
-/// c1 + c3 - c5 - c7: what x1 adds to entry 0 besides the terms that it shares.
+/// c1 + c3 - c5 - c7: what x1 adds to entry 0 in addition to the terms that it shares.
 const OWN_OF_X1: i16 = 12299;
 /// c1 + c3 + c5 - c7: the same of x3 in entry 1.
 const OWN_OF_X3: i16 = 25172;

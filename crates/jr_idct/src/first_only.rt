@@ -1,4 +1,4 @@
-//! Blocks that are only their first coefficient.
+//! Blocks that are only their DC coefficient.
 
 ghost use Rattle.std.specs.Prelude.{◌≡◌, ◌<◌, ◌*◌, ◌+ℤ◌, ℕ, pos, slice_index};
 ghost use Rattle.jr_idct.specs.Matrix.{at, floor_div, IsWithin};
@@ -7,7 +7,7 @@ ghost use Rattle.jr_idct.specs.Transform.{byte_of, samples};
 use crate::number::clamped;
 use jr_base::{Coefficients, Quantisers};
 
-/// Returns the samples of a block that is only its first coefficient, by its product: all are equal.
+/// Returns the samples of a block that is only its DC coefficient, by its product: all are equal.
 #[inline(always)]
 fn flat_samples(product: i64) -> [u8; 64]
     requires { IsWithin (32768 * 65535) product }

@@ -7,7 +7,7 @@ ghost use Rattle.jr_idct.specs.Transform.{zigzag_place, product_at, sample, samp
 
 use crate::number::{COLUMN_BITS, Number, ROW_BITS, clamped, descaled};
 
-/// The zigzag place of each natural index, `8 row + column`.
+/// The zigzag position of each natural index, `8 row + column`.
 static PLACES: [u8; 64] = [
     0, 1, 5, 6, 14, 15, 27, 28, 2, 4, 7, 13, 16, 26, 29, 42, 3, 8, 12, 17, 25, 30, 41, 43, 9, 11,
     18, 24, 31, 40, 44, 53, 10, 19, 23, 32, 39, 45, 52, 54, 20, 22, 33, 38, 46, 51, 55, 60, 21, 34,
@@ -26,7 +26,7 @@ static MATRIX: [[i16; 8]; 8] = [
     [8192, -11363, 10703, -9633, 8192, -6437, 4433, -2260],
 ];
 
-/// Returns the zigzag place of natural index n.
+/// Returns the zigzag position of natural index n.
 fn place_at(n: usize) -> usize
     requires { n < 64 }
     ensures value { result ≡ zigzag_place n }
@@ -45,7 +45,7 @@ fn weight_at(i: usize, k: usize) -> i16
     MATRIX[i][k]
 }
 
-/// Returns the products of a block in natural order, where both come in zigzag order.
+/// Returns the products of a block in natural order, from coefficients and quantisers in zigzag order.
 pub(crate) fn dequantised(coefficients: &[i32; 64], quantisers: &[u16; 64]) -> [i64; 64]
     ensures { (n : ℕ) → n < 64 → at result n ≡ product_at coefficients.now quantisers.now n }
 {

@@ -28,7 +28,7 @@ fn are_within(natural: &[i16; 64], limits: &[u16; 64]) -> bool
     within
 }
 
-/// Limits that leave the first coefficient free and let all others be 0.
+/// Limits that leave the DC coefficient free and let all others be 0.
 static ONLY_FIRST: [u16; 64] = [
     65535, 0, 0, 0, 0, 0, 0, 0, 0, 0, 0, 0, 0, 0, 0, 0, 0, 0, 0, 0, 0, 0, 0, 0, 0, 0, 0, 0, 0, 0,
     0, 0, 0, 0, 0, 0, 0, 0, 0, 0, 0, 0, 0, 0, 0, 0, 0, 0, 0, 0, 0, 0, 0, 0, 0, 0, 0, 0, 0, 0, 0, 0,

@@ -1,4 +1,4 @@
--- No code of a block begins another, and what is left of a block goes on behind its first code.
+-- No code of a block begins another, and what is left of a block continues after its first code.
 use Rattle.std.proofs.Common.{◌≡◌, ◌+◌, ◌*◌, Bool, List, [], ◌∷◌, ◌++◌, length, refl, sym, ap, subst, ◌∙◌, append_assoc, arith}
 use Rattle.std.proofs.lemmas.List.{append_cancel_left}
 use Rattle.jr_code.specs.Code.{Table, IsWord}

@@ -10,7 +10,7 @@ use Rattle.jr_mcu.proofs.Words.{IsPrefixFree}
 use Rattle.jr_mcu.proofs.AcCodes.{split_same, same_code, not_end}
 use Rattle.jr_mcu.proofs.Rest.{end_within, entries_some}
 
--- no first coefficient's bits begin another's, and they give one difference
+-- no DC coefficient's bits begin another's, and they have one difference
 pub same_difference : (dc : Table) → IsPrefixFree dc → (a b : ℤ) (u v x y : List Bool) → DifferenceAt dc a u → DifferenceAt dc b v → u ++ x ≡ v ++ y → (u ≡ v) × (a ≡ b)
 same_difference dc free a b u v x y f g e =
     let whole : f.word ++ (f.extra ++ x) ≡ g.word ++ (g.extra ++ y) = sym (append_assoc f.word f.extra x) ∙ ap (λ (q : List Bool). q ++ x) (sym f.spelled) ∙ e ∙ ap (λ (q : List Bool). q ++ y) g.spelled ∙ append_assoc g.word g.extra y in

@@ -1,4 +1,4 @@
--- Whether a block is in front of bits is decided, part by part.
+-- Whether bits begin with a block is decided, part by part.
 use Rattle.std.proofs.Common.{◌≡◌, ℕ, zero, suc, ◌+◌, ◌-◌, ◌/◌, ◌%◌, ◌<◌, ◌≤◌, Bool, List, [], ◌∷◌, ◌++◌, length, replicate, refl, sym, ap, inl, inr, arith}
 use Rattle.std.specs.Prelude.{◌⊎◌, ℤ, pos, neg_ℤ, ◌+ℤ◌}
 use Rattle.std.proofs.lemmas.Bool.{cases_lt, cases_eq}
@@ -12,7 +12,7 @@ use Rattle.jr_mcu.proofs.Steps.{word_of, word_alone, extra_of, takes_end, takes_
 use Rattle.jr_mcu.proofs.Rest.{IsPartialCut, entries_some, partial_none, partial_more, partial_all, partial_end, partial_stuck, partial_over}
 use Rattle.jr_mcu.proofs.Predicted.{takes_block, no_block_first, no_block_far, no_block_others}
 
--- ---- the first coefficient's difference
+-- ---- the DC coefficient's difference
 
 pub record FirstDifference (dc : Table) (old : List Bool) : Type 0 where
   pub difference : ℤ
@@ -29,7 +29,7 @@ first_difference dc free old = of_size (first_extended dc free old)
       | inr small ↦ inl (record { difference = x.gives; left = x.left; takes = takes_difference_of dc x.symbol x.gives old x.left x.takes small })
     ]
 
--- ---- one step behind it: the end of the block, or a code and the coefficients that it gives
+-- ---- one step after it: the end of the block, or a code and its coefficients
 
 pub record FirstEnd (ac : Table) (old : List Bool) : Type 0 where
   pub left : List Bool
@@ -43,7 +43,7 @@ pub record FirstCode (ac : Table) (old : List Bool) : Type 0 where
 abbrev pub FirstStep : Table → List Bool → Type 0
 FirstStep ac old = FirstEnd ac old ⊎ (FirstCode ac old ⊎ HasNoStep ac old)
 
--- a symbol without extra bits
+-- a symbol without additional bits
 bare_step : (ac : Table) → IsPrefixFree ac → (old : List Bool) → (x : FirstExtended ac old) → x.symbol % 16 ≡ 0 → FirstStep ac old
 bare_step ac free old x bare =
     let w = word_alone ac x.symbol x.gives old x.left x.takes bare in
@@ -55,7 +55,7 @@ bare_step ac free old x bare =
       ]
     ]
 
--- a symbol with extra bits
+-- a symbol with additional bits
 sized_step : (ac : Table) → IsPrefixFree ac → (old : List Bool) → (x : FirstExtended ac old) → (x.symbol % 16 ≡ 0 → ⊥) → FirstStep ac old
 sized_step ac free old x some =
     let w = word_of ac x.symbol x.gives old x.left x.takes in
@@ -86,7 +86,7 @@ pub record FirstOthers (ac : Table) (old : List Bool) : Type 0 where
   pub left : List Bool
   pub takes : TakesOthers ac others old left
 
--- behind one code: too many places, all of them, or fewer
+-- after one code: too many coefficients, all of them, or fewer
 record Further (ac : Table) (old : List Bool) : Type 0 where
   pub left : List Bool
   pub block : List ℤ
@@ -112,7 +112,7 @@ behind_code ac free old left block index s room x =
           ]
     ]
 
--- at most so many steps more
+-- at most `steps` steps more
 others_behind : (ac : Table) → IsPrefixFree ac → (old left : List Bool) (block : List ℤ) (index steps : ℕ) → IsPartialCut ac (pos 0) old left block index → index < 64 → 64 ≤ index + steps → FirstOthers ac old ⊎ HasNoOthers ac old
 others_behind ac free old left block index zero s room enough = absurd (omega (arith, room, enough))
 others_behind ac free old left block index (suc steps) s room enough = elim (first_step ac free left) [

@@ -1,4 +1,4 @@
--- Whether a word of a code table is in front of bits, and whether its extra bits are behind it, is decided.
+-- Whether bits begin with a code of a code table, and whether its additional bits follow it, is decided.
 use Rattle.std.proofs.Common.{◌≡◌, ℕ, zero, suc, ◌+◌, ◌/◌, ◌%◌, ◌<◌, Bool, List, ◌++◌, length, take, drop, refl, sym, ap, ◌∙◌, inl, inr, length-append, arith}
 use Rattle.std.specs.Prelude.{◌⊎◌, ℤ, Option, Some, None, slice_get}
 use Rattle.std.proofs.lemmas.Bool.{cases_lt, cases_eq}
@@ -9,17 +9,17 @@ use Rattle.jr_code.specs.Code.{Table, IsWord, TakesExtended, HasNoFirstWord, Has
 use Rattle.jr_code.proofs.PairLemmas.{taken_apart, no_word_none, short_none}
 use Rattle.jr_mcu.proofs.Words.{IsPrefixFree}
 
--- a word in front of the bits: its symbol and its length
+-- a code that the bits begin with: its symbol and its length
 pub record FirstWord (t : Table) (bs : List Bool) : Type 0 where
   pub symbol : ℕ
   pub long : ℕ
   pub is : IsWord t (take long bs) symbol
 
--- the word at a place of the order is not in front of the bits
+-- the bits do not begin with the code at a position of the order
 abbrev NoWordAt : Table → List Bool → ℕ → Type 0
 NoWordAt t bs place = (word rest : List Bool) (s : ℕ) → (w : IsWord t word s) → w.place ≡ place → bs ≡ word ++ rest → ⊥
 
--- nor is that at any place before
+-- nor with that at any earlier position
 abbrev NoWordBelow : Table → List Bool → ℕ → Type 0
 NoWordBelow t bs n = (word rest : List Bool) (s : ℕ) → (w : IsWord t word s) → w.place < n → bs ≡ word ++ rest → ⊥
 
@@ -32,7 +32,7 @@ not_none a o p q = absurd cc
 long_at : (t : Table) (place l : ℕ) (word : List Bool) (s : ℕ) (w : IsWord t word s) → slice_get (lengths t.counts) place ≡ Some l → w.place ≡ place → length word ≡ l
 long_at t place l word s w long at = same_some (length word) l (slice_get (lengths t.counts) place) (ap (λ p. slice_get (lengths t.counts) p) (sym at) ∙ w.long) long
 
--- the word of a place has one length and one value, so that many bits are compared with it
+-- the code at a position has one length and one value, with which the first bits are compared
 word_at : (t : Table) (bs : List Bool) (place : ℕ) (symbol long : Option ℕ) → slice_get t.symbols place ≡ symbol → slice_get (lengths t.counts) place ≡ long → FirstWord t bs ⊎ NoWordAt t bs place
 word_at t bs place None long known is = inr (λ word rest s w at e. not_none s (slice_get t.symbols place) (ap (λ p. slice_get t.symbols p) (sym at) ∙ w.known) known)
 word_at t bs place (Some s) None known is = inr (λ word rest u w at e. not_none (length word) (slice_get (lengths t.counts) place) (ap (λ p. slice_get (lengths t.counts) p) (sym at) ∙ w.long) is)
@@ -63,7 +63,7 @@ word_at t bs place (Some s) (Some l) known is =
       ]
     ]
 
--- the words of the first n places, one after the other
+-- the codes of the first n positions, one after the other
 word_below : (t : Table) (bs : List Bool) (n : ℕ) → FirstWord t bs ⊎ NoWordBelow t bs n
 word_below t bs zero = inr (λ word rest s w lt e. omega (arith, lt))
 word_below t bs (suc m) = and_at (word_below t bs m) (word_at t bs m (slice_get t.symbols m) (slice_get (lengths t.counts) m) refl refl)
@@ -79,7 +79,7 @@ first_word t bs = elim (word_below t bs (length t.symbols)) [
   | inr none ↦ inr (λ word rest s w e. none word rest s w (slice_get_within t.symbols w.place s w.known) e)
 ]
 
--- a word with its extra bits in front of the bits: its symbol, what they stand for, and what is left
+-- a code with its additional bits that the bits begin with: its symbol, their value, and what is left
 pub record FirstExtended (t : Table) (bs : List Bool) : Type 0 where
   pub symbol : ℕ
   pub gives : ℤ

@@ -30,12 +30,12 @@ three_within P ps three p q r = All-from_get_or P ps (pos 0) (λ c lt. at c (ome
     at (suc (suc zero)) lt = r
     at (suc (suc (suc c))) lt = absurd (omega (arith, lt))
 
--- a block with another first coefficient
+-- a block with another DC coefficient
 pub shifted_by : (block : List ℤ) (y : List ℤ) (by v : ℤ) → 0 < length block → y ≡ set block 0 v → v ≡ get_or block 0 (pos 0) +ℤ by → IsShifted by block y
 shifted_by [] y by v some is sum = absurd (omega (arith, some))
 shifted_by (first ∷ others) y by v some is sum = record { first = first; others = others; was = refl; is = is ∙ ap (λ (z : ℤ). z ∷ others) sum }
 
--- the sum of two small numbers, as it is passed on
+-- the sum of two small numbers, after its casts
 pub small_sum : (a b r : ℤ) → IsSmall a → IsSmall b → SFits w16 a → r ≡ to_z w16 (of_z w16 a) → to_z w16 (of_z w16 (to_z w32 (of_z w32 (to_z w32 (of_z w32 r) +ℤ to_z w32 (of_z w32 b))))) ≡ a +ℤ b
 small_sum a b r small_a small_b fits is =
     let low_a = small_a.0 in

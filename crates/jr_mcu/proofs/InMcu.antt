@@ -1,4 +1,4 @@
--- Inside an MCU: the blocks of it that are taken so far, and what its last block or a missing one says.
+-- Inside an MCU: the blocks of it that are read so far, and what its last block or a missing one means.
 use Rattle.std.proofs.Common.{◌≡◌, ◌≢◌, ℕ, suc, ◌+◌, ◌*◌, ◌<◌, ◌≤◌, Bool, cond, inl, inr, List, [], ◌∷◌, ◌++◌, length, get_or, set, take, refl, sym, ap, subst, ◌∙◌, length-append, arith}
 use Rattle.std.specs.Prelude.{ℤ, pos}
 use Rattle.std.specs.List.{All}
@@ -19,7 +19,7 @@ use Rattle.jr_mcu.proofs.Words.{OneWord}
 use Rattle.jr_mcu.proofs.McuLaws.{Reads, prediction_same, reads_more, reads_stuck}
 use Rattle.jr_mcu.proofs.Ranges.{block_in_range}
 
--- the component of the next block, by its place in the MCU
+-- the component of the next block, by its position in the MCU
 component_at : (h : HeadValue) (mcu place : ℕ) → place < length (order_of h) → component h (mcu * length (order_of h) + place) ≡ get_or (order_of h) place 0
 component_at h mcu place lt = ap (λ (k : ℕ). get_or (order_of h) k 0) (mod-mul-add mcu (length (order_of h)) place lt)
 
@@ -52,7 +52,7 @@ few_components h Grey n c e lt = omega arith
 few_components h Rgb n c e lt = omega arith
 few_components h Ycc n c e lt = omega arith
 
--- the blocks zs of an MCU are taken from all, and these are each component's prediction behind them
+-- the blocks zs of an MCU are read from all, and these are each component's prediction after them
 pub record InMcu (h : HeadValue) (start : List ℤ) (all left : List Bool) (last : List ℤ) (zs : List (List ℤ)) : Type 0 where
   pub reads : Reads h start all left zs
   pub three : length last ≡ 3
@@ -63,7 +63,7 @@ pub record InMcu (h : HeadValue) (start : List ℤ) (all left : List Bool) (last
 pub component_in : (h : HeadValue) (k : ℕ) → k < length (order_of h) → component h k ≡ get_or (order_of h) k 0
 component_in h k lt = let e : 0 * length (order_of h) + k ≡ k = omega arith in ap (component h) (sym e) ∙ component_at h 0 k lt
 
--- one more block
+-- one more block is read
 pub one_more : (h : HeadValue) (start last last' : List ℤ) (all left new : List Bool) (zs : List (List ℤ)) (z : List ℤ) (c k : ℕ) (v : ℤ) → k ≡ length zs → c ≡ component h k → c < 3
     → TakesBlock (dc_of h c) (ac_of h c) (get_or last c (pos 0)) z left new → v ≡ get_or z 0 (pos 0) → last' ≡ set last c v
     → InMcu h start all left last zs → InMcu h start all new last' (zs ++ z ∷ [])
@@ -78,7 +78,7 @@ one_more h start last last' all left new zs z c k v is at three t first wrote s 
       in_range = kept_in_range last last' c v s.three wrote (subst IsInDcRange (sym first) range.first) s.in_range;
     }
 
--- where a block is missing, no whole MCU follows
+-- if a block is missing, no whole MCU follows
 pub missing : OneWord → (h : HeadValue) (start last : List ℤ) (all left : List Bool) (zs : List (List ℤ)) (c k : ℕ) → k ≡ length zs → c ≡ component h k → c < 3 → k < length (order_of h)
     → HasNoBlock (dc_of h c) (ac_of h c) (get_or last c (pos 0)) left → InMcu h start all left last zs → BeginsNoMcu h start all
 missing one h start last all left zs c k is at three room none s = λ ys taken rest u e.
@@ -97,13 +97,13 @@ three_are (x ∷ y ∷ []) a b c three p q r = absurd (omega (arith, three))
 three_are (x ∷ y ∷ z ∷ []) a b c three p q r = cc
 three_are (x ∷ y ∷ z ∷ u ∷ us) a b c three p q r = absurd (omega (arith, three))
 
--- all of its blocks are taken
+-- all of its blocks are read
 pub predicted_behind : (h : HeadValue) (start last : List ℤ) (all left : List Bool) (zs : List (List ℤ)) → InMcu h start all left last zs → last ≡ predicted h start zs
 predicted_behind h start last all left zs s = three_are last _ _ _ s.three (s.each 0 (omega arith)) (s.each 1 (omega arith)) (s.each 2 (omega arith))
 
 pub mcu_taken : (h : HeadValue) (start last : List ℤ) (all left : List Bool) (zs : List (List ℤ)) → length zs ≡ length (order_of h) → InMcu h start all left last zs → TakesMcu h start zs all left
 mcu_taken h start last all left zs count s = record { taken = s.reads.taken; mcu = (omega (arith, count), s.reads.blocks); split = s.reads.split }
 
--- what begins some blocks stays, and more follow it
+-- a prefix of some blocks stays one when more follow it
 pub front_kept : (n m : ℕ) (xs ys zs : List (List ℤ)) → n ≤ m → n ≤ length ys → take m xs ≡ take n ys ++ zs → take n xs ≡ take n ys
 front_kept n m xs ys zs le room e = sym (take-take n m xs le) ∙ ap (take n) e ∙ take_at (take n ys) zs n (length-take-le n ys room)

@@ -1,4 +1,4 @@
--- How many bits MCUs take: each data unit two or more.
+-- The number of bits of MCUs: each data unit has two or more.
 use Rattle.std.proofs.Common.{◌≡◌, ℕ, zero, suc, ◌+◌, ◌*◌, ◌<◌, ◌≤◌, Bool, List, [], ◌∷◌, ◌++◌, length, Some, None, slice_get, ap, inl, inr, length-append, arith}
 use Rattle.std.specs.Prelude.{ℤ, slice_index_or}
 use Rattle.std.specs.List.{flat_map, AllByRecursion}
@@ -8,7 +8,7 @@ use Rattle.jr_head.specs.Geometry.{order_of}
 use Rattle.jr_mcu.specs.Block.{AcCode, ZeroRun, RunAndSize, IsAcCode, code_bits, entries, IsEnd, DifferenceAt, BlockAt}
 use Rattle.jr_mcu.specs.Mcus.{all_bits, Mcus}
 
--- no word is shorter than the first length
+-- no code is shorter than the first length
 word_long : (l : ℕ) (cs : List ℕ) (i n : ℕ) → slice_get (lengths_from l cs) i ≡ Some n → l ≤ n
 word_long l [] i n e = absurd (let f : None ≡ Some n = e in cc)
 word_long l (zero ∷ cs) i n e = omega (arith, word_long (l + 1) cs i n e)
@@ -22,7 +22,7 @@ code_some : (ac : Table) (i : AcCode) → IsAcCode ac i → 1 ≤ length (code_b
 code_some ac (ZeroRun w) h = word_some ac w 240 h
 code_some ac (RunAndSize r s w x) h = omega (arith, word_some ac w (16 * r + s) h.3, length-append w x)
 
--- the others take a bit: an end, or a code
+-- the others have a bit: an end, or a code
 others_some : (ac : Table) (items : List AcCode) (tail : List Bool) → AllByRecursion (IsAcCode ac) items → IsEnd ac (length (flat_map entries items)) tail → 1 ≤ length (flat_map code_bits items ++ tail)
 others_some ac [] tail all (inl e) = absurd (omega (arith, e.0))
 others_some ac (i ∷ is) tail all (inl e) = omega (arith, code_some ac i all.0, length-append (code_bits i) (flat_map code_bits is), length-append (code_bits i ++ flat_map code_bits is) tail)
@@ -31,7 +31,7 @@ others_some ac items tail all (inr e) = omega (arith, word_some ac tail 0 e.1, l
 first_some : (dc : Table) (d : ℤ) (bs : List Bool) → DifferenceAt dc d bs → 1 ≤ length bs
 first_some dc d bs f = omega (arith, ap length f.spelled, length-append f.word f.extra, word_some dc f.word f.size f.is_word)
 
--- a block takes two bits or more
+-- a block has two bits or more
 block_long : (dc ac : Table) (p : ℤ) (z : List ℤ) (bs : List Bool) → BlockAt dc ac p z bs → 2 ≤ length bs
 block_long dc ac p z bs b =
     let c = b.coded in
@@ -42,7 +42,7 @@ parts_long : (parts : List (List Bool)) → ((n : ℕ) → n < length parts → 
 parts_long [] h = omega arith
 parts_long (p ∷ ps) h = omega (arith, h zero (omega arith), parts_long ps (λ n l. h (suc n) (omega (arith, l))), length-append p (all_bits ps))
 
--- so many MCUs take two bits for each of their data units
+-- k MCUs have two bits or more for each of their data units
 pub mcus_long : (h : HeadValue) (start : List ℤ) (k : ℕ) (zs : List (List ℤ)) (taken : List Bool) → Mcus h start k zs taken → 2 * (k * length (order_of h)) ≤ length taken
 mcus_long h start k zs taken m =
     let b = m.1 in

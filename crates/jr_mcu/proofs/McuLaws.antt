@@ -1,4 +1,4 @@
--- At most one list of blocks for the bits; one more block.
+-- The bits have at most one list of blocks; one more block.
 use Rattle.std.proofs.Common.{◌≡◌, ℕ, zero, suc, ◌<◌, ◌≤◌, Bool, cond, eqb, List, [], ◌∷◌, ◌++◌, length, get_or, take, drop, refl, sym, ap, subst, ◌∙◌, inl, inr, append_assoc, length-append, arith}
 use Rattle.std.specs.Prelude.{ℤ, pos}
 use Rattle.std.proofs.lemmas.List.{append_cancel_left, append-nil, drop_all, get_or_append_left, take-append-drop, length-take-le, get_or-take}
@@ -50,7 +50,7 @@ is_block_same h start zs ys n u v same e b =
 pub all_bits_at : (parts : List (List Bool)) (n : ℕ) (x : List Bool) → n < length parts → all_bits (drop n parts) ++ x ≡ get_or parts n [] ++ (all_bits (drop (suc n) parts) ++ x)
 all_bits_at parts n x h = ap (λ (ps : List (List Bool)). all_bits ps ++ x) (drop-cons parts n [] h) ∙ append_assoc (get_or parts n []) (all_bits (drop (suc n) parts)) x
 
--- two lists of blocks at the front of the same bits have the same blocks as far as both go
+-- two lists of blocks that the same bits begin with have the same blocks up to the end of the shorter
 pub same_partial : (h : HeadValue) (start : List ℤ) (zs ys : List (List ℤ)) (u v x y : List Bool) → (b : Blocks h start zs u) → (d : Blocks h start ys v) → u ++ x ≡ v ++ y
     → OneWord → (n : ℕ) → n ≤ length zs → n ≤ length ys
     → SameBelow zs ys n × (all_bits (drop n b.parts) ++ x ≡ all_bits (drop n d.parts) ++ y)
@@ -127,7 +127,7 @@ blocks_take h start zs u m b le =
           (λ k j. sym (get_or-take m zs k [] (omega (arith, lz)))) (sym (get_or-take m b.parts n [] (omega (arith, lz)))) (b.each n (omega (arith, lz)));
     }
 
--- where no block follows, no list of blocks that the bits begin with is longer
+-- if no block follows, no list of blocks that the bits begin with is longer
 pub reads_stuck : (h : HeadValue) (start : List ℤ) (all left : List Bool) (zs : List (List ℤ)) → OneWord → Reads h start all left zs → HasNoNext h start zs left
     → (ys : List (List ℤ)) (v y : List Bool) → Blocks h start ys v → all ≡ v ++ y → length zs < length ys → ⊥
 reads_stuck h start all left zs one r none ys v y d e past =
@@ -141,7 +141,7 @@ reads_stuck h start all left zs one r none ys v y d e past =
     let b = subst (λ (x : ℤ). BlockAt (dc_of h c) (ac_of h c) x (block_of ys n) (get_or d.parts n [])) q (d.each n past) in
     none (block_of ys n) (get_or d.parts n []) (all_bits (drop (suc n) d.parts) ++ y) b next
 
--- blocks that are as many as those that were read are those, and what is left is what follows them
+-- a list of the same number of blocks as those that were read equals them, and what is left is what follows them
 pub reads_all : (h : HeadValue) (start : List ℤ) (all left : List Bool) (zs : List (List ℤ)) → OneWord → Reads h start all left zs
     → (ys : List (List ℤ)) (v y : List Bool) → Blocks h start ys v → all ≡ v ++ y → length zs ≡ length ys → (zs ≡ ys) × (left ≡ y)
 reads_all h start all left zs one r ys v y d e l =
@@ -152,7 +152,7 @@ reads_all h start all left zs one r ys v y d e l =
       ap (λ (ps : List (List Bool)). all_bits ps ++ left) (sym none) ∙ s.1 ∙ ap (λ (ps : List (List Bool)). all_bits ps ++ y) none',
     )
 
--- at most one list of so many blocks that the bits begin with
+-- the bits begin with at most one list of that number of blocks
 pub one_blocks : (h : HeadValue) (start : List ℤ) → OneWord → (zs ys : List (List ℤ)) (u v x y : List Bool) → Blocks h start zs u → Blocks h start ys v → u ++ x ≡ v ++ y → length zs ≡ length ys → (zs ≡ ys) × (x ≡ y)
 one_blocks h start one zs ys u v x y b d e l = reads_all h start (u ++ x) x zs one (record { taken = u; blocks = b; split = refl }) ys v y d e l
 
@@ -165,7 +165,7 @@ blocks_front h start zs all u x m b e room = (
   e ∙ ap (λ (w : List Bool). w ++ x) (b.spelled ∙ ap all_bits (sym (take-append-drop m b.parts)) ∙ flat_map-append (λ (part : List Bool). part) (take m b.parts) (drop m b.parts)) ∙ append_assoc (all_bits (take m b.parts)) (all_bits (drop m b.parts)) x,
 )
 
--- the first of a list of blocks, by themselves
+-- the first blocks of a list, by themselves
 pub blocks_before : (h : HeadValue) (start : List ℤ) (zs ys : List (List ℤ)) (w : List Bool) → (b : Blocks h start (zs ++ ys) w) → Blocks h start zs (all_bits (take (length zs) b.parts))
 blocks_before h start zs ys w b =
     let t = blocks_take h start (zs ++ ys) w (length zs) b (omega (arith, length-append zs ys)) in

@@ -1,4 +1,4 @@
--- What a code of a coefficient, or of the end of a block, makes of a block that is read up to a place.
+-- The effect of a code of a coefficient, or of the end of a block, on a block that is read up to a position.
 use Rattle.std.proofs.Common.{◌≡◌, ℕ, ◌+◌, ◌-◌, ◌*◌, ◌/◌, ◌%◌, ◌<◌, ◌≤◌, Bool, List, [], ◌∷◌, ◌++◌, replicate, set, refl, sym, ap, subst, ◌∙◌, inl, inr, append_assoc, length-append, arith}
 use Rattle.std.specs.Prelude.{ℤ, pos, ◌⊎◌, Option, Some, None, IsSome, IfSome, IfNone}
 use Rattle.std.proofs.Math.ListN.{length-replicate}
@@ -16,13 +16,13 @@ use Rattle.jr_mcu.proofs.Rest.{IsPartialCut, partial_all, partial_coef, partial_
 symbol_small : (n size : ℕ) → size < 16 → symbol_of n size < 256
 symbol_small n size small = grind (arith)
 
--- how far such a code can go
+-- the number of positions that such a code advances
 pub places_are : (s n : ℕ) → s < 256 → GoesOn s n → ((1 ≤ n) × (n ≤ 16)) ⊎ (n ≡ 128)
 places_are s n byte (inl end) = inr end.1
 places_are s n byte (inr (inl zeros)) = inl (omega (arith, zeros.1), omega (arith, zeros.1))
 places_are s n byte (inr (inr some)) = inl (omega (arith, some.2), omega (arith, some.2, byte))
 
--- a code that goes on to a place takes a run of zeros and a coefficient
+-- a code that advances to a position is a run of zeros and a coefficient
 takes_places : (ac : Table) (s n : ℕ) (v : ℤ) (old new : List Bool) → s < 256 → TakesExtended ac s v old new → GoesOn s n → n < 128 → TakesAcCode ac (replicate (n - 1) (pos 0) ++ v ∷ []) old new
 takes_places ac s n v old new byte x (inl end) near = absurd (omega (arith, end.1, near))
 takes_places ac s n v old new byte x (inr (inl zeros)) near =
@@ -33,13 +33,13 @@ takes_places ac s n v old new byte x (inr (inr some)) near =
     subst (λ r. TakesAcCode ac (replicate r (pos 0) ++ v ∷ []) old new) run
     (takes_coef ac s (s % 16) v old (x.extra ++ new) new (word_of ac s v old new x) byte refl (λ e. omega (arith, e, some.0)) some.1 (extra_of ac s v old new x))
 
--- and one that goes on to the end takes a word of 00
+-- and one that advances to the end is a code of 00
 takes_to_end : (ac : Table) (s n : ℕ) (v : ℤ) (old new : List Bool) → s < 256 → TakesExtended ac s v old new → GoesOn s n → 128 ≤ n → TakesEnd ac old new
 takes_to_end ac s n v old new byte x (inl end) far = takes_end ac s old new (word_alone ac s v old new x (omega (arith, end.0))) end.0
 takes_to_end ac s n v old new byte x (inr (inl zeros)) far = absurd (omega (arith, zeros.1, far))
 takes_to_end ac s n v old new byte x (inr (inr some)) far = absurd (omega (arith, some.2, byte, far))
 
--- where there is no such code no step begins the bits
+-- if there is no such code no step begins the bits
 pub no_step_places : (ac : Table) (old : List Bool) → HasNoPlaces ac old → HasNoStep ac old
 no_step_places ac old none =
     let code : (i : AcCode) (rest : List Bool) → IsAcCode ac i → old ≡ code_bits i ++ rest → ⊥ = λ i rest. go i rest in
@@ -50,7 +50,7 @@ no_step_places ac old none =
     go (RunAndSize r s u extra) rest h e =
         none u extra rest (16 * r + s) ((16 * r + s) / 16 + 1) h.3 (inr (inr (omega (arith, h.1, h.2), omega (arith, h.1, h.2), refl))) (omega (arith, h.2, h.4)) (e ∙ append_assoc u extra rest)
 
--- behind a coefficient
+-- after a coefficient
 pub partial_places : (ac : Table) → IsPrefixFree ac → (first : ℤ) (old bits new : List Bool) (block block' : List ℤ) (place place' : ℕ) (p : Packed)
     → IsPartialCut ac first old bits block (place + 1) → place ≤ 62 → TakesPlaces ac p bits new → place' ≡ place + places_in p → place' ≤ 63 → block' ≡ set block place' (unpacked p).value
     → IsPartialCut ac first old new block' (place' + 1)
@@ -60,7 +60,7 @@ partial_places ac free first old bits new block block' place place' p s room t i
     let some : 1 ≤ places_in p = elim (places_are (unpacked p).symbol (places_in p) byte t.1) [ inl near ↦ near.0 | inr far ↦ omega (arith, far) ] in
     partial_coef ac free first (unpacked p).value old bits new block block' (place + 1) (places_in p - 1) place' (place' + 1) s (omega (arith, room)) code (omega (arith, is, some)) fits wrote refl
 
--- where the block ends
+-- at the end of the block
 pub partial_ended : (ac : Table) → IsPrefixFree ac → (first : ℤ) (old bits new : List Bool) (block block' : List ℤ) (place place' : ℕ) (p : Packed)
     → IsPartialCut ac first old bits block (place + 1) → place ≤ 62 → TakesPlaces ac p bits new → place' ≡ place + places_in p
     → (place' ≡ 63) ⊎ (128 ≤ place') → (place' ≡ 63 → block' ≡ set block 63 (unpacked p).value) → (128 ≤ place' → block' ≡ block)
@@ -74,7 +74,7 @@ partial_ended ac free first old bits new block block' place place' p s room t is
     let word = takes_to_end ac (unpacked p).symbol (places_in p) (unpacked p).value bits new byte t.0 t.1 end in
     subst (λ (b : List ℤ). (others : List ℤ) × (b ≡ first ∷ others) × TakesOthers ac others old new) (sym (kept far)) (partial_end ac first old bits new block (place + 1) s (omega (arith, room)) word)
 
--- and where it goes past the last place
+-- and past the last position
 pub partial_past : (ac : Table) → IsPrefixFree ac → (first : ℤ) (old bits new : List Bool) (block : List ℤ) (place place' : ℕ) (p : Packed)
     → IsPartialCut ac first old bits block (place + 1) → place ≤ 62 → TakesPlaces ac p bits new → place' ≡ place + places_in p → 63 < place' → place' < 128
     → HasNoOthers ac old
@@ -86,7 +86,7 @@ partial_past ac free first old bits new block place place' p s room t is past ne
     partial_over ac free first old bits new block (replicate (places_in p - 1) (pos 0) ++ v ∷ []) (place + 1) s (omega (arith, room)) code
     (omega (arith, length-append (replicate (places_in p - 1) (pos 0)) (v ∷ []), length-replicate {A = ℤ} (places_in p - 1) (pos 0), is, past, some))
 
--- what the end of a block answers
+-- the result at the end of a block
 module _ (ac : Table) (free : IsPrefixFree ac) (first v : ℤ) (old bits new : List Bool) (block block' : List ℤ) (place place' : ℕ) (p : Packed)
     (s : IsPartialCut ac first old bits block (place + 1)) (room : place ≤ 62) (t : TakesPlaces ac p bits new) (is : place' ≡ place + places_in p) where
   pub ended_some : {X : Type 0} (r : Option X) → (IsSome r → (place' ≡ 63) ⊎ (128 ≤ place')) → v ≡ (unpacked p).value
@@ -107,7 +107,7 @@ module _ (ac : Table) (free : IsPrefixFree ac) (first v : ℤ) (old bits new : L
         ]
       ]
 
--- the same where no coefficient is kept
+-- the same if no coefficient is kept
 pub skipped_some : (ac : Table) → IsPrefixFree ac → (old bits new : List Bool) (place place' : ℕ) (p : Packed)
     → (block : List ℤ) × IsPartialCut ac (pos 0) old bits block (place + 1) → place ≤ 62 → TakesPlaces ac p bits new → place' ≡ place + places_in p
     → {X : Type 0} (r : Option X) → (IsSome r → (place' ≡ 63) ⊎ (128 ≤ place')) → IfSome r (λ _. (others : List ℤ) × TakesOthers ac others old new)

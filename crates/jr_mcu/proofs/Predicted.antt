@@ -24,14 +24,14 @@ takes_block dc ac p d first others old mid new f is within o = record {
   split = f.split ∙ ap (λ (x : List Bool). f.bits ++ x) o.split ∙ sym (append_assoc f.bits o.bits new);
 }
 
--- the bits of a block in front are those of its difference, and those of the others
+-- a block's bits are those of its difference, and then those of the others
 behind_first : (dc ac : Table) (p : ℤ) (z : List ℤ) (old bits rest : List Bool) (b : BlockAt dc ac p z bits) → old ≡ bits ++ rest → old ≡ b.coded.first_bits ++ (b.coded.others_bits ++ rest)
 behind_first dc ac p z old bits rest b e = let c = b.coded in e ∙ ap (λ (x : List Bool). x ++ rest) c.spelled ∙ append_assoc c.first_bits c.others_bits rest
 
 pub no_block_first : (dc : Table) (p : ℤ) (old : List Bool) → HasNoDifference dc old → (ac : Table) → HasNoBlock dc ac p old
 no_block_first dc p old none ac z bits rest b e = let c = b.coded in none b.difference c.first_bits (c.others_bits ++ rest) c.is_first (behind_first dc ac p z old bits rest b e)
 
--- where a difference is taken, a block in front has it, and goes on behind it
+-- if a difference is read, a block that the bits begin with has it, and continues after it
 begins : (dc ac : Table) → IsPrefixFree dc → (p d : ℤ) (z : List ℤ) (old mid bits rest : List Bool) → TakesDifference dc d old mid → (b : BlockAt dc ac p z bits) → old ≡ bits ++ rest
     → (d ≡ b.difference) × (mid ≡ b.coded.others_bits ++ rest)
 begins dc ac free p d z old mid bits rest f b e =

@@ -12,13 +12,13 @@ use Rattle.jr_mcu.specs.Block.AcCode.{ZeroRun, RunAndSize}
 use Rattle.jr_code.proofs.ValueLemmas.{Within, within_zero, value_within}
 use Rattle.jr_mcu.proofs.Rest.{end_within}
 
--- extra bits stand for a number of sixteen bits
+-- the value of additional bits fits into sixteen bits
 pub extended_fits : (t : Table) (symbol : ℕ) (v : ℤ) (old new : List Bool) → TakesExtended t symbol v old new → SFits w16 v
 extended_fits t symbol v old new e =
     let w : Within 32767 v = subst (Within 32767) (sym e.value_is) (value_within e.extra 15 32767 (omega (arith, e.count)) (omega arith)) in
     omega (arith, ints, w.0, w.1)
 
--- such a number stays as it is where it is cast from 32 bits to sixteen
+-- such a number is unchanged if it is cast from 32 bits to sixteen
 pub cast_is : (v : ℤ) → SFits w16 v → to_z w16 (of_z w16 (to_z w32 (of_z w32 v))) ≡ v
 cast_is v f =
     let g : SFits w32 v = omega (arith, ints, f) in
@@ -65,7 +65,7 @@ others_count ac others bits o =
 pub difference_within : (dc : Table) (d : ℤ) (bits : List Bool) → DifferenceAt dc d bits → Within 2047 d
 difference_within dc d bits f = subst (Within 2047) (sym f.is) (value_within f.extra 11 2047 (omega (arith, f.count, f.small)) (omega arith))
 
--- the other coefficients of a block as it is coded, and how many
+-- the number of the other coefficients of a block as it is coded
 pub coded_count : (dc ac : Table) (d : ℤ) (others : List ℤ) (bits : List Bool) → CodedAt dc ac d others bits → length others ≡ 63
 coded_count dc ac d others bits c = others_count ac others c.others_bits c.are_others
 

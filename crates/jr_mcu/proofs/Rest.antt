@@ -1,4 +1,4 @@
--- What is left of a block behind its first items.
+-- What is left of a block after its first items.
 use Rattle.std.proofs.Common.{◌≡◌, ℕ, zero, suc, ◌+◌, ◌-◌, ◌<◌, ◌≤◌, Bool, List, [], ◌∷◌, ◌++◌, length, replicate, set, refl, sym, ap, subst, ◌∙◌, inl, inr, append_assoc, length-append, arith}
 use Rattle.std.specs.Prelude.{ℤ, pos}
 use Rattle.std.specs.List.{flat_map, AllByRecursion}
@@ -12,7 +12,7 @@ use Rattle.jr_mcu.specs.Block.AcCode.{ZeroRun, RunAndSize}
 use Rattle.jr_mcu.specs.Step.{TakesAcCode, TakesEnd, HasNoStep, TakesOthers, HasNoOthers}
 use Rattle.jr_mcu.proofs.AcCodes.{same_code, not_end}
 
--- bits begin with what is left of a block of whose other coefficients `done` are there; rest follows it
+-- bits begin with what is left of a block, after its other coefficients `done`; rest follows it
 pub record Goes (ac : Table) (done others : List ℤ) (bits rest : List Bool) : Type 0 where
   pub items : List AcCode
   pub tail : List Bool
@@ -62,7 +62,7 @@ step_on_at ac free i done others bits rest is room (j ∷ js) tail each end spel
 pub step_on : (ac : Table) → IsPrefixFree ac → (i : AcCode) (done others : List ℤ) (bits rest : List Bool) → IsAcCode ac i → length done ≤ 62 → Goes ac done others (code_bits i ++ bits) rest → Goes ac (done ++ entries i) others bits rest
 step_on ac free i done others bits rest is room g = step_on_at ac free i done others bits rest is room g.items g.tail g.each g.end g.spelled g.values
 
--- a block is what is left of it where nothing is done
+-- a block is what is left of it if nothing is done
 pub of_others : (ac : Table) (others : List ℤ) (old bits rest : List Bool) → OthersAt ac others bits → old ≡ bits ++ rest → Goes ac [] others old rest
 of_others ac others old bits rest o split =
     let z : 0 + length (flat_map entries o.items) ≡ length (flat_map entries o.items) = omega arith in
@@ -91,7 +91,7 @@ to_others ac others old rest g =
       split = g.spelled ∙ sym (append_assoc (flat_map code_bits g.items) g.tail rest);
     }
 
--- how far the reader has come
+-- the reader's progress in the block
 pub record IsPartialCut (ac : Table) (first : ℤ) (old bits : List Bool) (block : List ℤ) (index : ℕ) : Type 0 where
   pub done : List ℤ
   pub count : length done + 1 ≡ index
@@ -103,7 +103,7 @@ pub record IsPartialCut (ac : Table) (first : ℤ) (old bits : List Bool) (block
 pub partial_none : (ac : Table) (first : ℤ) (bits : List Bool) → IsPartialCut ac first bits bits (first ∷ replicate 63 (pos 0)) 1
 partial_none ac first bits = record { done = []; count = refl; within = omega arith; blocks = refl; on = λ others rest g. g; back = λ others rest g. g }
 
--- one more code
+-- one more code is read
 pub partial_more : (ac : Table) → IsPrefixFree ac → (first : ℤ) (old bits new : List Bool) (block block' made : List ℤ) (index place' : ℕ)
     → (s : IsPartialCut ac first old bits block index) → index < 64 → TakesAcCode ac made bits new
     → place' ≡ index + length made → place' ≤ 64
@@ -120,7 +120,7 @@ partial_more ac free first old bits new block block' made index place' s room t 
       back = λ others rest g. s.back others rest (subst (λ (b : List Bool). Goes ac s.done others b rest) (sym t.split) (step_back ac t.code s.done others new rest t.is (subst (λ (m : List ℤ). Goes ac (s.done ++ m) others new rest) (sym e) g)));
     }
 
--- all places are there
+-- all coefficients are there
 pub partial_all : (ac : Table) (first : ℤ) (old bits : List Bool) (block : List ℤ) (index : ℕ) → IsPartialCut ac first old bits block index → 64 ≤ index
     → (others : List ℤ) × (block ≡ first ∷ others) × TakesOthers ac others old bits
 partial_all ac first old bits block index s all =
@@ -131,7 +131,7 @@ partial_all ac first old bits block index s all =
     let g : Goes ac s.done s.done bits bits = record { items = []; tail = []; each = tt; end = inl (m, refl); spelled = refl; values = sym (append-nil s.done) ∙ ap (λ (q : ℕ). s.done ++ replicate q (pos 0)) (sym k) } in
     (s.done, b, to_others ac s.done old bits (s.back s.done bits g))
 
--- a word says that the rest is 0
+-- a code of 00 says that the others are 0
 pub partial_end : (ac : Table) (first : ℤ) (old bits new : List Bool) (block : List ℤ) (index : ℕ) → IsPartialCut ac first old bits block index → index < 64 → TakesEnd ac bits new
     → (others : List ℤ) × (block ≡ first ∷ others) × TakesOthers ac others old new
 partial_end ac first old bits new block index s room t =
@@ -145,7 +145,7 @@ no_goes_at ac done others bits rest room none [] tail each (inl full) spelled = 
 no_goes_at ac done others bits rest room none [] tail each (inr end) spelled = none.no_end tail rest end.1 spelled
 no_goes_at ac done others bits rest room none (i ∷ is) tail each end spelled = none.no_code i (flat_map code_bits is ++ (tail ++ rest)) each.0 (spelled ∙ append_assoc (code_bits i) (flat_map code_bits is) (tail ++ rest))
 
--- where no step begins what is left, no block began
+-- if no step begins what is left, the bits do not begin with a block
 pub partial_stuck : (ac : Table) (first : ℤ) (old bits : List Bool) (block : List ℤ) (index : ℕ) → IsPartialCut ac first old bits block index → index < 64 → HasNoStep ac bits → HasNoOthers ac old
 partial_stuck ac first old bits block index s room none others b rest o split =
     let g = s.on others rest (of_others ac others old b rest o split) in
@@ -155,14 +155,14 @@ pub end_within : (ac : Table) (n : ℕ) (tail : List Bool) → IsEnd ac n tail �
 end_within ac n tail (inl full) = omega (arith, full.0)
 end_within ac n tail (inr end) = omega (arith, end.0)
 
--- where the next code goes past the last place, no block began
+-- if the next code advances past the last position, the bits do not begin with a block
 pub partial_over : (ac : Table) → IsPrefixFree ac → (first : ℤ) (old bits new : List Bool) (block made : List ℤ) (index : ℕ) → IsPartialCut ac first old bits block index → index < 64 → TakesAcCode ac made bits new → 64 < index + length made → HasNoOthers ac old
 partial_over ac free first old bits new block made index s room t over others b rest o split =
     let g = s.on others rest (of_others ac others old b rest o split) in
     let h = step_on ac free t.code s.done others new rest t.is (omega (arith, s.count)) (subst (λ (x : List Bool). Goes ac s.done others x rest) t.split g) in
     omega (arith, end_within ac _ h.tail h.end, length-append s.done (entries t.code), ap length t.gives, s.count)
 
--- a write behind a run of zeros
+-- a write after a run of zeros
 pub set_at : (done : List ℤ) (n run : ℕ) (v : ℤ) → run < n → set (done ++ replicate n (pos 0)) (length done + run) v ≡ (done ++ (replicate run (pos 0) ++ v ∷ [])) ++ replicate (n - (run + 1)) (pos 0)
 set_at [] zero run v h = absurd (omega arith)
 set_at [] (suc n) zero v h = let e : n ≡ suc n - (0 + 1) = omega arith in ap (λ (k : ℕ). v ∷ replicate k (pos 0)) e
@@ -175,7 +175,7 @@ set_at (x ∷ done) n run v h =
     let e : suc (length done) + run ≡ suc (length done + run) = omega arith in
     ap (λ (q : ℕ). set (x ∷ (done ++ replicate n (pos 0))) q v) e ∙ ap (λ (y : List ℤ). x ∷ y) (set_at done n run v h)
 
--- the block behind the write of an item's value
+-- the block after an item's value is written
 pub block_written : (first v : ℤ) (done block : List ℤ) (index run at : ℕ) → block ≡ first ∷ (done ++ replicate (64 - index) (pos 0)) → length done + 1 ≡ index → at ≡ index + run → at < 64
     → set block at v ≡ first ∷ ((done ++ (replicate run (pos 0) ++ v ∷ [])) ++ replicate (64 - (at + 1)) (pos 0))
 block_written first v done block index run at is count e h =

@@ -1,4 +1,4 @@
--- What the readers of a first coefficient and of an code take.
+-- What the readers of a DC coefficient and of an AC code read.
 use Rattle.std.proofs.Common.{◌≡◌, ℕ, ◌+◌, ◌*◌, ◌/◌, ◌%◌, ◌<◌, ◌≤◌, Bool, List, [], ◌∷◌, ◌++◌, length, replicate, refl, sym, ap, subst, ◌∙◌, append_assoc, arith}
 use Rattle.std.specs.Prelude.{ℤ, pos}
 use Rattle.std.proofs.lemmas.List.{append_cancel_left}
@@ -16,7 +16,7 @@ takes_difference dc size d old mid new w small x = record {
   split = w.2 ∙ ap (λ (b : List Bool). w.0 ++ b) x.split ∙ sym (append_assoc w.0 x.bits new);
 }
 
--- the difference that begins the bits has the word that was read
+-- the difference that begins the bits has the code that was read
 difference_only : (dc : Table) → IsPrefixFree dc → (d : ℤ) (size : ℕ) (old mid bits rest : List Bool) → TakesWord dc old mid size → (f : DifferenceAt dc d bits) → old ≡ bits ++ rest → (size ≡ f.size) × (mid ≡ f.extra ++ rest)
 difference_only dc free d size old mid bits rest w f e =
     let whole : w.0 ++ mid ≡ f.word ++ (f.extra ++ rest) = sym w.2 ∙ e ∙ ap (λ (b : List Bool). b ++ rest) f.spelled ∙ append_assoc f.word f.extra rest in
@@ -65,11 +65,11 @@ pub no_step_size : (ac : Table) → IsPrefixFree ac → (symbol size : ℕ) (old
 no_step_size ac free symbol size old mid w is not_0 not_240 bad =
     no_step_at ac free symbol old mid w not_0 not_240 (λ r s e low some small. let same : size ≡ s = omega (arith, e, small, is) in bad (omega (arith, same, some)) (omega (arith, same, small)))
 
--- a symbol of more than eight bits is that of no code
+-- a symbol of more than eight bits is that of no AC code
 pub no_step_past : (ac : Table) → IsPrefixFree ac → (symbol : ℕ) (old mid : List Bool) → TakesWord ac old mid symbol → 255 < symbol → HasNoStep ac old
 no_step_past ac free symbol old mid w past = no_step_at ac free symbol old mid w (λ e. omega (arith, e, past)) (λ e. omega (arith, e, past)) (λ r s e low some small. omega (arith, e, low, small, past))
 
--- ---- a word and its extra bits, read together
+-- ---- a code and its additional bits, read together
 
 pub word_of : (t : Table) (s : ℕ) (v : ℤ) (old new : List Bool) (x : TakesExtended t s v old new) → TakesWord t old (x.extra ++ new) s
 word_of t s v old new x = (x.word, x.is, x.split)
@@ -84,7 +84,7 @@ no_bits (b ∷ bs) e = absurd (omega (arith, e))
 pub word_alone : (t : Table) (s : ℕ) (v : ℤ) (old new : List Bool) → TakesExtended t s v old new → s % 16 ≡ 0 → TakesWord t old new s
 word_alone t s v old new x e = (x.word, x.is, x.split ∙ ap (λ (b : List Bool). x.word ++ (b ++ new)) (no_bits x.extra (x.count ∙ e)))
 
--- sixteen zeros are one behind fifteen
+-- sixteen zeros are one after fifteen
 pub takes_sixteen : (ac : Table) (s : ℕ) (v : ℤ) (old new : List Bool) → TakesExtended ac s v old new → s ≡ 240 → TakesAcCode ac (replicate (s / 16) (pos 0) ++ v ∷ []) old new
 takes_sixteen ac s v old new x e =
     let zero : v ≡ pos 0 = x.value_is ∙ ap value (no_bits x.extra (x.count ∙ omega (arith, e))) in
@@ -98,7 +98,7 @@ takes_difference_of dc size d old new x small =
     let same : size % 16 ≡ size = omega (arith, small) in
     takes_difference dc size d old (x.extra ++ new) new (word_of dc size d old new x) small (subst (λ n. TakesExtra n d (x.extra ++ new) new) same (extra_of dc size d old new x))
 
--- where none begins the bits, nothing does
+-- if no code and additional bits begin the bits, no difference does
 pub no_difference_extended : (dc : Table) (old : List Bool) → HasNoExtended dc old → HasNoDifference dc old
 no_difference_extended dc old none d bits rest f e =
     none f.word f.extra rest f.size f.is_word (omega (arith, f.count, f.small)) (e ∙ ap (λ (b : List Bool). b ++ rest) f.spelled ∙ append_assoc f.word f.extra rest)

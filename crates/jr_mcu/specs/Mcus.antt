@@ -6,14 +6,14 @@ use Rattle.jr_head.specs.HeadValue.{HeadValue}
 use Rattle.jr_head.specs.Geometry.{order_of, dc_of, ac_of}
 use Rattle.jr_mcu.specs.Block.{BlockAt}
 
--- the component of block n, where the blocks are counted from the start of an MCU on
+-- the component of block n, if the blocks are counted starting at an MCU
 abbrev pub component : HeadValue → ℕ → ℕ
 component h n = slice_index_or (order_of h) (n % length (order_of h)) 0
 
 abbrev pub block_of : List (List ℤ) → ℕ → List ℤ
 block_of zs n = slice_index_or zs n []
 
--- the first coefficient of the last block before block n that is of component c; if there is none, the prediction
+-- the DC coefficient of the last block before block n that is of component c; if there is none, the prediction
 -- with which c starts
 abbrev pub prediction : HeadValue → List ℤ → List (List ℤ) → ℕ → ℕ → ℤ
 prediction h start zs c zero = slice_index_or start c (pos 0)

@@ -1,5 +1,5 @@
--- Differences count from a prediction (T.81, F.1.1.5.1): the same bits, with other predictions, give first coefficients
--- that are greater by as much.
+-- Differences count from a prediction (T.81, F.1.1.5.1): the same bits, with other predictions, give DC coefficients
+-- that are greater by the same numbers.
 use Rattle.std.specs.Prelude.{◌≡◌, ℕ, ◌<◌, List, ◌∷◌, length, ℤ, pos, neg_ℤ, ◌+ℤ◌, ◌≤ℤ◌, slice_index_or}
 use Rattle.jr_head.specs.HeadValue.{HeadValue}
 use Rattle.jr_mcu.specs.Block.{IsInDcRange}
@@ -13,7 +13,7 @@ of_component by c = slice_index_or by c (pos 0)
 abbrev pub AreGreater : List ℤ → List ℤ → List ℤ → Type 0
 AreGreater by p q = (c : ℕ) → c < 3 → of_component q c ≡ of_component p c +ℤ of_component by c
 
--- the block y is z, but for its first coefficient, which is greater by d
+-- the block y is z, but for its DC coefficient, which is greater by d
 pub record IsShifted (d : ℤ) (z y : List ℤ) : Type 0 where
   pub first : ℤ
   pub others : List ℤ
@@ -25,7 +25,7 @@ pub record AreShifted (h : HeadValue) (by : List ℤ) (zs ys : List (List ℤ)) 
   pub count : length ys ≡ length zs
   pub each : (n : ℕ) → n < length zs → IsShifted (of_component by (component h n)) (block_of zs n) (block_of ys n)
 
--- sixteen bits hold the first coefficients
+-- sixteen bits hold the DC coefficients
 abbrev pub HaveFirstInRange : List (List ℤ) → Type 0
 HaveFirstInRange zs = (n : ℕ) → n < length zs → IsInDcRange (slice_index_or (block_of zs n) 0 (pos 0))
 

@@ -18,7 +18,7 @@ pub record TakesAcCode (ac : Table) (made : List ℤ) (old new : List Bool) : Ty
   pub gives : entries code ≡ made
   pub split : old ≡ code_bits code ++ new
 
--- old is a word of 00, and then new
+-- old is a code of 00, and then new
 pub record TakesEnd (ac : Table) (old new : List Bool) : Type 0 where
   pub word : List Bool
   pub is : IsWord ac word 0
@@ -45,7 +45,7 @@ pub record TakesOthers (ac : Table) (others : List ℤ) (old new : List Bool) : 
 abbrev pub HasNoOthers : Table → List Bool → Type 0
 HasNoOthers ac old = (others : List ℤ) (bits rest : List Bool) → OthersAt ac others bits → old ≡ bits ++ rest → ⊥
 
--- old is a block's bits, where its first coefficient is predicted to be p, and then new
+-- old is a block's bits, if its DC coefficient is predicted to be p, and then new
 pub record TakesBlock (dc ac : Table) (p : ℤ) (z : List ℤ) (old new : List Bool) : Type 0 where
   pub bits : List Bool
   pub is : BlockAt dc ac p z bits

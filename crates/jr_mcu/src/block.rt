@@ -8,7 +8,7 @@ ghost use Rattle.jr_mcu.specs.Step.{TakesDifference, TakesOthers, HasNoOthers, H
 use jr_base::Coefficients;
 use jr_code::{Bits, CodeBook, WordBook};
 
-/// Reads a block's first coefficient: its difference, added to its prediction (T.81, F.1.2.1 and F.2.1.3.1).
+/// Reads a block's DC coefficient: its difference, added to its prediction (T.81, F.1.2.1 and F.2.1.3.1).
 #[inline(always)]
 pub(crate) fn read_first(dc: &WordBook, bits: &mut Bits<'_>, prediction: i32) -> Option<i16>
     requires { IsInDcRange prediction }
@@ -26,8 +26,8 @@ pub(crate) fn read_first(dc: &WordBook, bits: &mut Bits<'_>, prediction: i32) ->
     Some(first as i16)
 }
 
-/// Ends a block whose last code advanced to its last place, or past it: at the last place its value is stored there,
-/// and from 128 it was the code of the end. `None` if it is a place that no block has.
+/// Ends a block whose last code advanced to its last position, or past it: at the last one its value is stored there,
+/// and from 128 it was the code of the end. `None` if it is a position that no block has.
 #[inline(always)]
 fn end_block(place: u32, value: i16, block: &mut Coefficients) -> Option<()>
     requires { 63 ≤ place }
@@ -74,7 +74,7 @@ pub(crate) fn read_others(
     }
 }
 
-/// Returns whether a block ends if its last code advanced to this place: at the last one, or by the code of the end.
+/// Returns whether a block ends if its last code advanced to this position: the last one, or the end by its code.
 #[inline(always)]
 fn end_at(place: u32) -> Option<()>
     ensures { IsSome result ↔ ((place ≡ 63) ⊎ (128 ≤ place)) }

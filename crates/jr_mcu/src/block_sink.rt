@@ -13,7 +13,7 @@ pub trait BlockSink {
     // whether they are kept
     ghost keeps: { Bool };
 
-    /// Takes the next block, which is block k of those that are kept, and returns its first coefficient.
+    /// Takes the next block, which is block k of those that are kept, and returns its DC coefficient.
     fn take(
         dc: &WordBook,
         ac: &CodeBook,

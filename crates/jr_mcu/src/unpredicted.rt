@@ -51,7 +51,7 @@ pub fn sums(a: &[i32; 3], b: &[i32; 3]) -> [i32; 3]
     [sum(a[0], b[0]), sum(a[1], b[1]), sum(a[2], b[2])]
 }
 
-/// Returns whether the first coefficients of these blocks are small.
+/// Returns whether the DC coefficients of these blocks are small.
 fn are_small(blocks: &[Coefficients]) -> bool
     ensures { IsTrue result → HaveSmallFirst blocks.now }
 {
@@ -64,7 +64,7 @@ fn are_small(blocks: &[Coefficients]) -> bool
 }
 
 /// Reads the blocks of one MCU with each component predicted to be 0, and returns the predictions after it. `None` if
-/// no whole MCU follows, or if a first coefficient is not small.
+/// no whole MCU follows, or if a DC coefficient is not small.
 pub fn read_unpredicted(
     head: &Head,
     bits: &mut Bits<'_>,
@@ -86,7 +86,7 @@ pub fn read_unpredicted(
     Some(predictions)
 }
 
-/// Returns a block whose first coefficient is greater by so much.
+/// Returns a block whose DC coefficient is greater by `by`.
 #[inline(always)]
 fn shifted(block: &Coefficients, by: i32) -> Option<Coefficients>
     requires some { 0 < length block.now }
@@ -100,7 +100,7 @@ fn shifted(block: &Coefficients, by: i32) -> Option<Coefficients>
     Some(shifted)
 }
 
-/// Copies the blocks of an MCU, adding to each first coefficient what is given for its component.
+/// Copies the blocks of an MCU, adding to each DC coefficient what is given for its component.
 pub fn put_shifted(
     head: &Head,
     by: &[i32; 3],

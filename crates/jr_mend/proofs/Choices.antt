@@ -16,7 +16,7 @@ use Rattle.jr_mend.specs.Choice.{Differ, HasAtMost, HasFewer, IsBest, IsChoice, 
 use Rattle.jr_mend.specs.Copies.{CopyValue, version_of, versions_of}
 use Rattle.jr_mend.proofs.ScanOfCopies.{same_interval}
 
--- one version is its own choice
+-- one version is chosen from itself alone
 abbrev pub one_split : (v : IntervalValue) → Split (v ∷ []) v 0
 one_split v = record { before = []; after = []; are = refl; number = refl }
 
@@ -35,7 +35,7 @@ has_chosen : (vs : List IntervalValue) (chosen : IntervalValue) (n : ℕ) → Sp
 has_chosen vs chosen n s =
     subst (λ (l : List IntervalValue). Contains l chosen) (sym s.are ∙ refl) (Contains-append_right s.before (chosen ∷ s.after) chosen (0, omega arith, refl))
 
--- two of them that differ still do
+-- two of them that differ still differ
 pub still_differ : (vs : List IntervalValue) (next : IntervalValue) → Differ vs → Differ (vs ++ next ∷ [])
 still_differ vs next d = record {
   one = d.one;
@@ -82,7 +82,7 @@ one_differs vs next none d =
     let other = only_is vs next d.other none d.other_sound d.has_other in
     d.are (ap (λ (v : IntervalValue). v.bytes) (sym one ∙ other))
 
--- one with the data of another sound one brings no difference
+-- one with the data of another sound one adds no difference
 module _ (vs : List IntervalValue) (chosen next : IntervalValue) (has : Contains vs chosen) (sound : HasDecoding chosen) (same : chosen.bytes ≡ next.bytes) where
   with_chosen : (v : IntervalValue) → Contains vs v → HasDecoding v → v.bytes ≢ next.bytes → Differ vs
   with_chosen v has_v sound_v other = record {
@@ -107,7 +107,7 @@ module _ (vs : List IntervalValue) (chosen next : IntervalValue) (has : Contains
     ]
   ]
 
--- no version has two longest fronts of different length
+-- no version has two longest prefixes of different length
 at_most : (v : IntervalValue) (mcus : ℕ) → HasLongestFront v mcus → HasAtMost mcus v
 at_most v mcus has = λ n h. has.1.longest n h.0 h.1.front
 
@@ -136,7 +136,7 @@ module _ (copies : List CopyValue) (i k n : ℕ) (v : IntervalValue) (s : Split 
       ap (λ (l : List IntervalValue). get_or l n (f c)) s.are ∙ ap (λ (m : ℕ). get_or (s.before ++ (v ∷ s.after)) m (f c)) s.number ∙ get_or-append_seam s.before v s.after (f c) in
       ap f is ∙ ap f (sym (get_or-take k copies n c below_first)) ∙ sym (get_or-map f first n c) ∙ at_split
 
--- the versions of one more copy
+-- the versions after one more copy
 pub versions_more : (copies : List CopyValue) (i k : ℕ) (c : CopyValue) → k < length copies → c ≡ get_or copies k c → versions_of (take (k + 1) copies) i ≡ versions_of (take k copies) i ++ version_of i c ∷ []
 versions_more copies i k c lt is = map_more (version_of i) copies k c lt ∙ ap (λ (d : CopyValue). versions_of (take k copies) i ++ version_of i d ∷ []) (sym is)
 
@@ -153,7 +153,7 @@ module _ (vs : List IntervalValue) (chosen next : IntervalValue) (b : Choice) (i
   abbrev after : List IntervalValue
   after = is.split.after ++ next ∷ []
 
-  -- where the chosen one is sound it stays
+  -- if the chosen one is sound it stays
   module _ (sound : b.front ≡ None) where
     its_best : All HasNoDecoding is.split.before × HasDecoding chosen
     its_best = subst (IsBest is.split.before is.split.after chosen) sound is.best
@@ -199,7 +199,7 @@ module _ (vs : List IntervalValue) (chosen next : IntervalValue) (b : Choice) (i
       };
     }
 
-  -- where it is damaged all of them are
+  -- if it is damaged all of them are
   module _ (m : ℕ) (damaged : b.front ≡ Some m) where
     longest : IsBest is.split.before is.split.after chosen (Some m)
     longest = subst (IsBest is.split.before is.split.after chosen) damaged is.best
@@ -253,7 +253,7 @@ module _ (vs : List IntervalValue) (chosen next : IntervalValue) (b : Choice) (i
             };
           }
 
-  -- the chosen one once more
+  -- the chosen one again
   stays_itself_by : (front : Option ℕ) → b.front ≡ front → chosen ≡ next → IsChoice (vs ++ next ∷ []) b
   stays_itself_by None sound same = stays_same sound (ap (λ (v : IntervalValue). v.bytes) same)
   stays_itself_by (Some m) damaged same =

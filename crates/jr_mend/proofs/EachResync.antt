@@ -16,13 +16,13 @@ use Rattle.jr_mend.specs.Resync.{EndsResync, IsAhead, IsMeaning, IsResync, Part,
 use Rattle.jr_mend.proofs.ResyncLaw.{is_due, same_below}
 use Rattle.jr_mend.proofs.Resyncs.{few_after, parts_last, parts_next, with_part}
 
--- ---- what a marker means
+-- ---- the meaning of a marker
 
 record Meaning (n k limit code : ℕ) : Type 0 where
   missing : Option ℕ
   is : IsMeaning n k limit code missing
 
--- how far the number of a code is ahead of the one that is due, modulo 8
+-- the distance of the number of a code ahead of the one that is due, modulo 8
 abbrev distance : (k code : ℕ) → ℕ
 distance k code = (code - RST0 + 8 - k % 8) % 8
 
@@ -32,7 +32,7 @@ distance_is k code e low high is = omega arith
 distance_there : (k code : ℕ) → RST0 ≤ code → code ≤ RST7 → code ≡ RST0 + (k + distance k code) % 8
 distance_there k code low high = omega arith
 
--- the last number up to the limit that is so far ahead modulo 8
+-- the last number up to the limit that is at this distance ahead modulo 8
 abbrev last_below : (limit e : ℕ) → ℕ
 last_below limit e = e + (limit - e) / 8 * 8
 
@@ -42,7 +42,7 @@ below_there k limit code e is = omega arith
 below_last : (limit e : ℕ) → e ≤ limit → (last_below limit e ≤ limit) × (limit < last_below limit e + 8)
 below_last limit e le = (omega arith, omega arith)
 
--- a number that is ahead is this one
+-- a number that is ahead equals this one
 below_is : (n k limit code d e : ℕ) → IsAhead n k limit code e → code ≢ RST0 + k % 8 → code ≡ RST0 + (k + d) % 8 → (d ≤ limit) × (limit < d + 8) → e ≡ d
 below_is n k limit code d e a other there last = go a.2
   where
@@ -54,7 +54,7 @@ module _ (n k limit code : ℕ) (some : 0 < code) (less : code < PREFIX) (goes :
   passed : ((d : ℕ) → IsAhead n k limit code d → ⊥) → Meaning n k limit code
   passed none = record { missing = None; is = (some, less, goes, further, none) }
 
-  -- a number that is not the one that is due, and up to the limit
+  -- the code is not the one that is due, and its distance is at most the limit
   near : code ≢ RST0 + k % 8 → RST0 ≤ code → code ≤ RST7 → distance k code ≤ limit → Meaning n k limit code
   near other low high le =
       let d = last_below limit (distance k code) in
@@ -65,7 +65,7 @@ module _ (n k limit code : ℕ) (some : 0 < code) (less : code < PREFIX) (goes :
         | inl inside ↦ record { missing = Some d; is = (inside, there, inr (other, last.0, last.1)) }
       ]
 
-  -- none of that number is up to the limit
+  -- no number at this distance is up to the limit
   far : code ≢ RST0 + k % 8 → RST0 ≤ code → code ≤ RST7 → limit < distance k code → (e : ℕ) → IsAhead n k limit code e → ⊥
   far other low high beyond e a = go a.2
     where

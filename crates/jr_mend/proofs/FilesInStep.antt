@@ -10,7 +10,7 @@ use Rattle.jr_mend.specs.Reading.{IsResynced}
 use Rattle.jr_mend.specs.Resync.{IsInStep}
 use Rattle.jr_mend.proofs.InStep.{in_step_stays}
 
--- the intervals of segments whose number is theirs
+-- the intervals by their segments: interval i is segment i, and further ones have no data
 abbrev filled : HeadValue → List (List ℕ) → List (List ℕ)
 filled h segments = segments ++ replicate (intervals_of h - length segments) []
 

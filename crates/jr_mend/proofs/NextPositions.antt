@@ -40,7 +40,7 @@ space_of copies capacity k copy space lt is = subst (λ (d : CopyValue). length 
 pub space_stays : (copies : List CopyValue) (old new : ℕ) → old ≤ new → HasSpace copies old → HasSpace copies new
 space_stays copies old new le space = λ k d lt. omega (arith, space k d lt, le)
 
--- elements with a property by their number, of which one more has it
+-- elements with a property that depends on their index, and one more with it
 module _ {X : Type 0} (Has : ℕ → X → Type 0) (xs : List X) (k : ℕ) (x : X) (has : Has k x) where
   -- it is appended
   pub one_pushed : length xs ≡ k → ((j : ℕ) (d : X) → j < k → Has j (get_or xs j d)) → (j : ℕ) (d : X) → j < k + 1 → Has j (get_or (xs ++ x ∷ []) j d)

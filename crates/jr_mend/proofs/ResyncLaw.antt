@@ -12,7 +12,7 @@ use Rattle.jr_cut.proofs.Spellings.{one_stop}
 use Rattle.jr_mend.specs.declared.pace.Pace.{Pace}
 use Rattle.jr_mend.specs.Resync.{AreParts, EndsResync, IsAhead, IsMeaning, IsResync, Part, PartsFrom, Resync, breaks_of, first_pace, pace_after, last_number, max_missing, new_segments, number_after, part_bytes}
 
--- ---- what a marker means
+-- ---- the meaning of a marker
 
 -- numbers that count as one modulo 8, neither of which is eight below the limit
 pub same_below : (k limit d e : ℕ) → d ≤ limit → e ≤ limit → limit < d + 8 → limit < e + 8 → (k + d) % 8 ≡ (k + e) % 8 → d ≡ e
@@ -115,7 +115,7 @@ not_out n k end file image less (inl e) = file e
 not_out n k end file image less (inr (inl e)) = image e
 not_out n k end file image less (inr (inr e)) = omega (arith, e, less)
 
--- as what ends a scan of one segment
+-- its end is the end of a scan of one segment
 to_one : (n k at : ℕ) (tail : List ℕ) (end : ScanEnd) → EndsResync n k at tail end → IsEnding 1 0 at tail end
 to_one n k at tail EndOfFile h = h.0
 to_one n k at tail EndOfImage h = h.0

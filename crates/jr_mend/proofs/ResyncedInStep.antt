@@ -20,7 +20,7 @@ use Rattle.jr_mend.specs.Splice.{after_markers, coded_intervals, spliced}
 use Rattle.jr_mend.proofs.InStep.{after, parts_of, resync, whole}
 use Rattle.jr_mend.proofs.Splices.{coded_cut, scan_is}
 
--- the segments that follow markers, as they stand
+-- the segments that follow markers, as coded
 abbrev raws_of : ℕ → List CodedSegment → List (List ℕ)
 raws_of k ps = flat_map (λ (p : Part). new_segments p.missing p.raw) (parts_of k ps)
 
@@ -37,7 +37,7 @@ unfolding parts_of
 as_many k [] = refl
 as_many k (p ∷ ps) = ap suc (as_many (suc k) ps)
 
--- without fill bytes before markers they are no longer
+-- without fill bytes before markers they are at most as long
 no_longer : (j k : ℕ) (ps : List CodedSegment) → length (after_markers k (raws_of j ps)) ≤ length (with_markers k ps)
 unfolding parts_of
 no_longer j k [] = omega arith

@@ -36,14 +36,14 @@ new_spelled (Some d) raw found is = go d
     go zero = (is, tt)
     go (suc d) = (raw_none, go d)
 
--- a marker that is missed some others is none that is due
+-- a marker before which others are missing is not the one that is due
 pub break_some : (at k code d : ℕ) → d ≢ 0 → break_at at k code (Some d) ≡ (record { at = at; code = code; due = k % 8; skipped = d }) ∷ []
 break_some at k code zero some = absurd (some refl)
 break_some at k code (suc d) some = refl
 
 -- ---- parts
 
--- nothing but the end
+-- the end alone
 pub parts_last : (n size : ℕ) (pace : Pace) (k at : ℕ) (tail : List ℕ) (end : ScanEnd) → EndsResync n k at tail end → PartsFrom n size pace k at tail (record { raws = []; datas = []; breaks = []; end = end })
 parts_last n size pace k at tail end ends =
     let here : at ≡ at + 0 = omega arith in
@@ -58,7 +58,7 @@ parts_last n size pace k at tail end ends =
       ends = subst (λ (o : ℕ). EndsResync n k o tail end) here ends;
     }
 
--- one more before others
+-- one more part before others
 abbrev pub with_part : (at k : ℕ) → Part → Resync → Resync
 with_part at k p r = record { raws = new_segments p.missing p.raw ++ r.raws; datas = new_segments p.missing p.bytes ++ r.datas; breaks = break_at at k p.code p.missing ++ r.breaks; end = r.end }
 

@@ -1,4 +1,4 @@
--- Intervals that are taken from copies, one more at a time, and the scan of the file that they make.
+-- Intervals that are taken from copies, one more at a time, and the scan of the file of these intervals.
 use Rattle.std.proofs.Common.{◌≡◌, ℕ, ◌+◌, ◌<◌, ◌≤◌, List, [], ◌∷◌, ◌++◌, length, take, get_or, Option, None, Some, refl, sym, ap, subst, ◌∙◌, inl, inr, length-append, arith}
 use Rattle.std.specs.List.{All, Contains}
 use Rattle.std.proofs.lemmas.Bool.{cases_lt}
@@ -25,7 +25,7 @@ use Rattle.jr_mend.proofs.Splices.{none_missing, scan_is}
 at_last : {X : Type 0} (xs : List X) (x d : X) (i : ℕ) → i ≡ length xs → get_or (xs ++ x ∷ []) i d ≡ x
 at_last xs x d i e = ap (λ (n : ℕ). get_or (xs ++ x ∷ []) n d) e ∙ get_or-append_seam xs x [] d
 
--- one more interval
+-- one more interval is taken
 pub taken_more : (copies : List CopyValue) (choices : List Choice) (raws datas : List (List ℕ)) (c : Choice) (raw bytes : List ℕ)
     → AreTaken copies choices raws datas → IsTaken copies (length raws) c raw bytes → IsRaw raw bytes → AreTaken copies (choices ++ c ∷ []) (raws ++ raw ∷ []) (datas ++ bytes ∷ [])
 taken_more copies choices raws datas c raw bytes t is raw_is =

@@ -75,7 +75,7 @@ IsResynced file h r = Becomes file h r.file.items r.breaks.items r.ended
 abbrev pub IsFileInStep : (file : List ℕ) → HeadValue → Type 0
 IsFileInStep file h = (datas : List (List ℕ)) × IsCut (intervals_of h) h.scan_at (drop h.scan_at file) datas EndOfImage
 
--- the file that it would be is too long
+-- the file that it would become is too long
 pub record IsTooLong (file : List ℕ) (h : HeadValue) : Type 0 where
   pub segments : Resync
   pub is : IsResync (intervals_of h) h.scan_at (drop h.scan_at file) segments

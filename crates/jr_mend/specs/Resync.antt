@@ -1,5 +1,5 @@
 -- How the bytes of a scan fall into intervals if markers or data are lost: restart markers are counted modulo 8, so that a
--- decoder can tell how many are missing before one (T.81, B.1.1.5, E.1.4 and E.2.4).
+-- decoder can find how many are missing before one (T.81, B.1.1.5, E.1.4 and E.2.4).
 use Rattle.std.specs.Prelude.{◌≡◌, ◌≢◌, ℕ, zero, suc, ◌+◌, ◌-◌, ◌*◌, ◌/◌, ◌%◌, ◌<◌, ◌≤◌, ◌⊎◌, Bool, true, false, nat_le, List, [], ◌∷◌, ◌++◌, length, replicate, Option, Some, None}
 use Rattle.std.specs.List.{flat_map}
 use Rattle.jr_base.specs.declared.marker.TheConstants.{EOI, PREFIX, RST0}
@@ -20,7 +20,7 @@ abbrev pub max_missing : (n size : ℕ) → Pace → ℕ
 max_missing n size pace = held n size pace.bytes + MAX_EARLY - pace.intervals
 
 -- after segment k of n: the restart marker d ahead of the one that is due, and the segment that follows it is one of the
--- scan; of the numbers that count as this one modulo 8, the one that is due, or else the last up to the limit
+-- scan; of the numbers that equal this one modulo 8, the one that is due, otherwise the last up to the limit
 abbrev pub IsAhead : (n k limit code d : ℕ) → Type 0
 IsAhead n k limit code d = (k + d + 1 < n) × (code ≡ RST0 + (k + d) % 8) × ((d ≡ 0) ⊎ ((code ≢ RST0 + k % 8) × (d ≤ limit) × (limit < d + 8)))
 
@@ -33,7 +33,7 @@ IsMeaning n k limit code None = (0 < code) × (code < PREFIX) × (code ≢ EOI) 
 abbrev pub EndsResync : (n k at : ℕ) → List ℕ → ScanEnd → Type 0
 EndsResync n k at tail end = IsEnding n k at tail end × ((end ≡ EndOfFile) ⊎ ((end ≡ EndOfImage) ⊎ (k + 1 ≡ n)))
 
--- a marker, its further FF and what it means, and the bytes up to the next marker, as they stand and what they spell
+-- a marker, its further FF and what it means, and the bytes up to the next marker, as coded, and what they spell
 pub record Part : Type 0 where
   pub more : ℕ
   pub code : ℕ
@@ -88,7 +88,7 @@ abbrev pub breaks_of : (at k : ℕ) → List Part → List Break
 breaks_of at k [] = []
 breaks_of at k (p ∷ ps) = break_at at k p.code p.missing ++ breaks_of (at + length (part_bytes p)) (number_after k p.missing) ps
 
--- the segments of a scan, as they stand and what they spell, the markers that are not due, and what ends the scan
+-- the segments of a scan, as coded, and what they spell, the markers that are not due, and what ends the scan
 pub record Resync : Type 0 where
   pub raws : List (List ℕ)
   pub datas : List (List ℕ)

@@ -1,4 +1,4 @@
-//! How far a damaged scan is read since an interval that is sure to be in its place.
+//! The progress in a damaged scan since an interval that is sure to be in its position.
 
 ghost use Rattle.std.specs.Prelude.{◌≡◌, ◌+◌, ◌-◌, ◌<◌, ◌≤◌, ◌^◌, IfSome, nat_le};
 ghost use Rattle.jr_base.specs.declared.limits.TheConstants.{MAX_FILE_BYTES};
@@ -8,11 +8,11 @@ ghost use Rattle.jr_mend.specs.Resync.{after_due, first_pace, max_missing, pace_
 /// on average. With a further one more sectors of other files are taken for the image's.
 pub const MAX_EARLY: u64 = 1;
 
-/// The number of bytes before an interval whose markers are all due, by which it is sure to be in its place: as many as a
-/// sector has. The markers in a sector of another file never make an interval sure.
+/// The number of bytes before an interval whose markers are all due, by which it is sure to be in position: as many as
+/// a sector has. The markers in a sector of another file never make an interval sure.
 pub const SURE_BYTES: usize = 512;
 
-/// How far a scan is read since the last interval that is sure to be in its place: the first one, or one before which all
+/// The progress in a scan since the last interval that is sure to be in position: the first, or one before which all
 /// markers in `SURE_BYTES` bytes were due. So the intervals that are lost after it are limited together: otherwise several
 /// markers of another file, each a little ahead, would place what follows eight intervals too late.
 #[derive(Clone, Copy)]

@@ -34,7 +34,7 @@ pub(crate) struct Reading {
     pub breaks: Vec<Break>,
     /// The number of the last interval that has begun.
     pub k: u32,
-    /// How far it is read since an interval that is sure to be in its place.
+    /// The progress since an interval that is sure to be in position.
     pub pace: Pace,
     /// Offset in the damaged file of what is read next: a marker, or the end.
     pub at: usize,

@@ -11,7 +11,7 @@ use Rattle.jr_paint.specs.declared.geometry.Spot.{Spot}
 use Rattle.jr_paint.proofs.Places.{mcu_inside, block_inside, place_of_lies}
 use Rattle.jr_paint.proofs.Factors.{sampled_at}
 
--- an MCU of the picture, and a data unit of it
+-- an MCU of the image, and a data unit of it
 pub record IsInside (h : HeadValue) (s : Spot) : Type 0 where
   pub mcu : s.mcu < mcus_of h
   pub block : s.block < blocks_of h
@@ -40,7 +40,7 @@ spot_is m b r m' b' r' c e f g = rw (e, f, g) refl
 further : (k u v z : ℕ) → u ≡ v → z ≡ 0 → k + u ≡ k + z + v
 further k u v z e f = omega (arith, e, f)
 
--- a place in a line is that of its start, so many data units on
+-- a position in a line is that of its start, moved by the data units before it
 pub spot_along : (h : HeadValue) (c x y : ℕ) → 0 < horizontal_of h c → spot_of h c x y ≡ spot_in_line (spot_of h c 0 y) (horizontal_of h c) x
 spot_along h c x y p =
     let a = horizontal_of h c in
@@ -65,7 +65,7 @@ unit_along h c y n k some lt =
     let column : (8 * n + k) % 8 ≡ k = ap (λ j. j % 8) turned ∙ mod-mul-add n 8 k lt in
     spot_along h c (8 * n + k) y some ∙ at_unit (spot_of h c 0 y) (horizontal_of h c) ((8 * n + k) / 8) n ((8 * n + k) % 8) k unit column
 
--- data unit n of a line is one of the picture's
+-- data unit n of a line is one of the image's
 pub unit_inside : (h : HeadValue) (c y n column part across : ℕ) (s : Spot) → IsLawful h → c < components_of h → 8 * n < samples_across h c → y < samples_down h c → s ≡ spot_of h c 0 y → across ≡ horizontal_of h c → column ≡ n / across → part ≡ n % across
     → (s.mcu + column < mcus_of h) × (s.block + part < blocks_of h)
 unit_inside h c y n column part across s l p q r start a e f =

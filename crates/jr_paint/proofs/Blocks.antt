@@ -1,4 +1,4 @@
--- Blocks of pixels put one after another.
+-- Blocks of pixels written one after another.
 use Rattle.std.proofs.Common.{◌≡◌, ℕ, zero, suc, ◌+◌, ◌-◌, ◌*◌, ◌/◌, ◌<◌, ◌≤◌, min, ℤ, pos, negsuc, ◌+ℤ◌, List, [], ◌∷◌, ◌++◌, length, take, inl, inr, arith, refl, sym, subst, slice_index, ap, ◌∙◌, length-append}
 use Rattle.std.proofs.Math.Seq.{take-append_seam}
 use Rattle.std.proofs.lemmas.List.{take-take}
@@ -14,7 +14,7 @@ use Rattle.jr_paint.specs.Lines.{colour_over, turn_of}
 use Rattle.jr_paint.proofs.Turns.{by_turns}
 use Rattle.jr_paint.proofs.PixelLaws.{flat_map-range-append, flat_map-moved}
 
--- what a raised value adds to luminance
+-- a raised value is added to luminance
 pub lowered_is : (y v : ℕ) (z : ℤ) → IsRaised v z → lowered y v ≡ byte_of (pos y +ℤ z)
 lowered_is y v (pos a) r =
     let e : pos y +ℤ pos a ≡ pos (y + a) = omega (arith, ints) in
@@ -39,13 +39,13 @@ same_pixels f g n h = flat_map-moved f g 0 0 n (λ k l. let e : 0 + k ≡ k = om
 pub three_same : {a b c x y z : ℕ} → a ≡ x → b ≡ y → c ≡ z → a ∷ b ∷ c ∷ [] ≡ x ∷ y ∷ z ∷ []
 three_same p q r = rw (p, q, r) refl
 
--- a pixel of luminance y, where each lane says what its colour has over it
+-- a pixel of luminance y, from lanes with the differences of its colours from it
 pub pixel_is : {y r g b a cb cr cb' cr' : ℕ} → y ≡ a → cb ≡ cb' → cr ≡ cr' → IsRaised r (red_over_of cr) → IsRaised g (green_over_of cb cr) → IsRaised b (blue_over_of cb) → lowered y r ∷ lowered y g ∷ lowered y b ∷ [] ≡ colour_of Ycc a cb' cr'
 pixel_is {y} {r} {g} {b} {a} {cb} {cr} {cb'} {cr'} e f h red green blue =
     let same : colour_of Ycc y cb cr ≡ colour_of Ycc a cb' cr' = rw (e, f, h) refl in
     three_same (lowered_is y r (red_over_of cr) red) (lowered_is y g (green_over_of cb cr) green) (lowered_is y b (blue_over_of cb) blue) ∙ same
 
--- the same where samples are
+-- the same of equal samples
 pub raised_same : {v x y : ℕ} (f : ℕ → ℤ) → x ≡ y → IsRaised v (f x) → IsRaised v (f y)
 raised_same {v} f e h = subst (λ x. IsRaised v (f x)) e h
 
@@ -59,7 +59,7 @@ length_pixels f three m (suc n) =
     let more = length-append (f m) (flat_map f (range_with_len (m + 1) n)) in
     omega (arith, more, three m, length_pixels f three (m + 1) n)
 
--- n pixels more, behind m of them
+-- n pixels more, after m of them
 pub pixels_more : (f : ℕ → List ℕ) → ((k : ℕ) → length (f k) ≡ 3) → (m n : ℕ) (out : List ℕ) → 3 * (m + n) ≤ length out → take (3 * m) out ≡ flat_map f (range_with_len 0 m) → take (3 * (m + n)) (put_chunk (3 * m) out (flat_map f (range_with_len m n))) ≡ flat_map f (range_with_len 0 (m + n))
 pixels_more f three m n out room before =
     let new = flat_map f (range_with_len m n) in
@@ -70,7 +70,7 @@ pixels_more f three m n out room before =
     take_more_put_chunk (3 * m) out new (3 * (m + n)) (omega (arith, long)) room
     ∙ ap (λ z. z ++ new) before ∙ sym whole
 
--- fewer pixels stand too
+-- a prefix of the pixels is also written
 pub pixels_fewer : (f : ℕ → List ℕ) → ((k : ℕ) → length (f k) ≡ 3) → (m n : ℕ) (out : List ℕ) → m ≤ n → take (3 * n) out ≡ flat_map f (range_with_len 0 n) → take (3 * m) out ≡ flat_map f (range_with_len 0 m)
 pixels_fewer f three m n out p all =
     let front = flat_map f (range_with_len 0 m) in
@@ -81,11 +81,11 @@ pixels_fewer f three m n out p all =
     let seam : take (3 * m) (front ++ rest) ≡ front = rw (← long) (take-append_seam front rest) in
     sym (take-take (3 * m) (3 * n) out (omega (arith, p))) ∙ ap (take (3 * m)) (all ∙ split) ∙ seam
 
--- the last 32 pixels, some of which may stand already
+-- the last 32 pixels, some of which may already be written
 pub last_pixels : (f : ℕ → List ℕ) → ((k : ℕ) → length (f k) ≡ 3) → (m n : ℕ) (out : List ℕ) → m ≤ n → 3 * (m + 32) ≤ length out → take (3 * n) out ≡ flat_map f (range_with_len 0 n) → take (3 * (m + 32)) (put_chunk (3 * m) out (flat_map f (range_with_len m 32))) ≡ flat_map f (range_with_len 0 (m + 32))
 last_pixels f three m n out p room all = pixels_more f three m 32 out room (pixels_fewer f three m n out p all)
 
--- 32 pixels from number m on, where lanes by turns say what the colours have over luminance by chrominance b and c
+-- 32 pixels starting at number m, from lanes by turns with the differences of the colours from luminance, by chrominance b and c
 pub raised_pixels : (m : ℕ) (y b c : ℕ → ℕ) (red green blue : List (List ℕ)) → ((k : ℕ) → k < 32 → IsRaised (turn_of red k) (red_over_of (c (m + k)))) → ((k : ℕ) → k < 32 → IsRaised (turn_of green k) (green_over_of (b (m + k)) (c (m + k)))) → ((k : ℕ) → k < 32 → IsRaised (turn_of blue k) (blue_over_of (b (m + k))))
     → flat_map (λ k. colour_over (y (m + k)) (turn_of red k) (turn_of green k) (turn_of blue k)) (range_with_len 0 32) ≡ flat_map (λ k. colour_of Ycc (y k) (b k) (c k)) (range_with_len m 32)
 raised_pixels m y b c red green blue is_red is_green is_blue =
@@ -94,7 +94,7 @@ raised_pixels m y b c red green blue is_red is_green is_blue =
     let e : 0 + k ≡ k = omega arith in
     rw e (pixel_is {cb = b (m + k)} {cr = c (m + k)} refl refl refl (is_red k l) (is_green k l) (is_blue k l)))
 
--- what a lane says of two pixels: of 2 k and of the next
+-- a lane is of two pixels: of 2 k and of the next
 half : (i k : ℕ) → (2 * i + 2 * k) / 2 ≡ i + k
 half i k = omega arith
 
@@ -107,7 +107,7 @@ halved_lanes i v z h =
     (λ k l. subst (λ j. IsRaised (slice_index v k) (z j)) (sym (half i k)) (h k l))
     (λ k l. subst (λ j. IsRaised (slice_index v k) (z j)) (sym (half_more i k)) (h k l))
 
--- 32 pixels, two of which each lane says what the colours have over luminance for
+-- 32 pixels, from lanes that have the differences of the colours from luminance for two pixels each
 pub halved_pixels : (i : ℕ) (out : List ℕ) (y b c : ℕ → ℕ) (red green blue : List ℕ) → ((k : ℕ) → k < 16 → IsRaised (slice_index red k) (red_over_of (c (i + k)))) → ((k : ℕ) → k < 16 → IsRaised (slice_index green k) (green_over_of (b (i + k)) (c (i + k)))) → ((k : ℕ) → k < 16 → IsRaised (slice_index blue k) (blue_over_of (b (i + k))))
     → put_chunk (3 * (2 * i)) out (flat_map (λ k. colour_over (y (2 * i + k)) (turn_of (red ∷ red ∷ []) k) (turn_of (green ∷ green ∷ []) k) (turn_of (blue ∷ blue ∷ []) k)) (range_with_len 0 32))
     ≡ put_chunk (6 * i) out (flat_map (λ k. colour_of Ycc (y k) (b (k / 2)) (c (k / 2))) (range_with_len (2 * i) 32))

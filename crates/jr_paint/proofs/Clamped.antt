@@ -50,7 +50,7 @@ at_most-least y r p q =
           ap at_most (at_least-other (sum_of y r) (omega (arith, s, e))) ∙ (at_most-is (sum_of y r) (omega (arith, s, e)) ∙ omega (arith, s, e))
     ]
 
--- sixteen lanes before they are held
+-- sixteen lanes before they are clamped
 abbrev pub sums : List ℕ → List ℕ → List ℕ
 sums ys rs = zip2 (λ a b. (a + b) % 65536) (zip2 (λ a b. (a + (65536 - b)) % 65536) (map (λ a. a) ys) (replicate 16 1628)) (map (λ a. a) rs)
 
@@ -84,7 +84,7 @@ order = 0 ∷ 1 ∷ 2 ∷ 3 ∷ 4 ∷ 5 ∷ 6 ∷ 7 ∷ 16 ∷ 17 ∷ 18 ∷ 19 
 abbrev pub clamped : List ℕ → List ℕ → List ℕ → List ℕ → List ℕ
 clamped ys rs zs ss = lowered_to_byte (raised_to_zero (pick_l 0 (sums ys rs ++ sums zs ss) order))
 
--- what the last cast asks of a lane, and gives
+-- the conditions of the last cast of a lane, and its result
 abbrev pub IsByte : ℕ → Type 0
 IsByte a = T (non_neg (cast_signed w16 a)) × Fits w8 (unsigned_abs (cast_signed w16 a))
 

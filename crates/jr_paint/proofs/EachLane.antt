@@ -1,4 +1,4 @@
--- What each of the lanes of a vector holds.
+-- The number that each of the lanes of a vector holds.
 use Rattle.std.proofs.Common.{◌≡◌, ℕ, zero, suc, ◌+◌, ◌-◌, ◌<◌, cond, nat_lt, List, [], ◌∷◌, ◌++◌, Bool, true, false, ◌&&◌, length, get_or, map, replicate, ap, ap₂, sym, subst, ◌∙◌, inl, inr, arith, w8, Fits}
 use Rattle.std.proofs.lemmas.Bool.{cases_lt, lt-ltb, le-ltb}
 use Rattle.std.proofs.lemmas.Bool.Decides.{nat_tests}
@@ -7,7 +7,7 @@ use Rattle.std.proofs.lemmas.Simd.{length-zip2, get_or-zip2, get_or-replicate, l
 use Rattle.std.proofs.lemmas.Grind.{get_or_default_zero}
 use Rattle.std.specs.Simd.Lanes.{zip2, sel_l, pick_l, all_below, Each1}
 
--- each of n lanes holds what f says
+-- lane k of n lanes holds f k
 pub record Has {A : Type 0} (n : ℕ) (xs : List A) (f : ℕ → A) : Type 0 where
   pub long : length xs ≡ n
   pub each : (d : A) (k : ℕ) → k < n → get_or xs k d ≡ f k
@@ -96,7 +96,7 @@ has_each n P xs f p v =
 pub byte_below : (n : ℕ) (xs : List ℕ) (k : ℕ) → (length xs ≡ n) × Each1 (Fits w8) xs → k < n → get_or xs k 0 < 256
 byte_below n xs k fits l = (Each1-get_or (Fits w8) xs k 0 (omega (arith, l, fits.0)) fits.1).fits
 
--- what holds of eight numbers, or of sixteen
+-- a predicate that holds for each of eight numbers, or of sixteen
 pub below_eight : (P : ℕ → Type 0) → P 0 → P 1 → P 2 → P 3 → P 4 → P 5 → P 6 → P 7 → (i : ℕ) → i < 8 → P i
 below_eight P p0 p1 p2 p3 p4 p5 p6 p7 zero h = p0
 below_eight P p0 p1 p2 p3 p4 p5 p6 p7 (suc zero) h = p1

@@ -1,4 +1,4 @@
--- What a lawful head says of the factors of a component.
+-- What a valid header says about the factors of a component.
 use Rattle.std.proofs.Common.{◌≡◌, ℕ, zero, suc, inl, inr, ◌+◌, ◌-◌, ◌*◌, ◌/◌, ◌%◌, ◌<◌, ◌≤◌, arith, ap, ◌∙◌}
 use Rattle.std.specs.Int.{div_ceil}
 use Rattle.std.proofs.Math.Nat.{mul-le-mul_left, mul-le-mul_right, div-add-mod, mul-div-mul_left, div-mul-le_self}
@@ -46,7 +46,7 @@ blocks_before_few h c l p = omega (arith, blocks_before_le h c p, l.components.b
 pub units_few : (h : HeadValue) (c : ℕ) → IsLawful h → c < components_of h → horizontal_of h c * vertical_of h c ≤ 16
 units_few h c l p = mul-le (horizontal_of h c) (vertical_of h c) 4 4 (sampled_at h c l p).narrow (sampled_at h c l p).low
 
--- where a factor divides the greatest one, pixel x takes sample x / f
+-- if a factor divides the greatest one, pixel x has sample x / f
 pub scaled : (x a m f : ℕ) → 0 < a → m ≡ a * f → x * a / m ≡ x / f
 scaled x a m f p whole =
     let turned : x * a ≡ a * x = grind arith in
@@ -72,7 +72,7 @@ some_count n (suc c) f p h = omega arith
 added : (k a : ℕ) → (k + 1) * a ≡ k * a + a
 added k a = grind arith
 
--- the samples that n pixels take, f pixels for each sample
+-- the samples of n pixels, f pixels for each sample
 module _ (n f : ℕ) (some : 0 < n) (f_some : 0 < f) where
   pub enough : n ≤ f * div_ceil n f
   enough = let t = div_ceil_times n f f_some in omega (arith, t.0)
@@ -104,7 +104,7 @@ module _ (n f : ℕ) (some : 0 < n) (f_some : 0 < f) where
       let less : z < div_ceil (n * a) m = in_div_ceil z (n * a) m r (omega (arith, scaled_up, turned, p, added (z * f) a)) in
       omega (arith, less, one)
 
--- the samples that a line takes of component c, of which each stands for f pixels, are there
+-- the samples of component c for a line, each for f pixels, are there
 pub stretched_inside : (h : HeadValue) (c f : ℕ) → IsLawful h → c < components_of h → 0 < f → horizontal_max h ≡ horizontal_of h c * f → div_ceil h.width f ≤ samples_across h c
 stretched_inside h c f l p q whole =
     inside h.width f (omega (arith, l.wide, l.narrow)) q (horizontal_of h c) (horizontal_max h) (sampled_at h c l p).across l.components.across whole

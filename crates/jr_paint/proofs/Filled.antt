@@ -1,11 +1,11 @@
--- What is known of a list that is filled part by part.
+-- What is known about a list that is filled part by part.
 use Rattle.std.proofs.Common.{◌≡◌, ℕ, inl, inr, ◌+◌, ◌-◌, ◌<◌, ◌≤◌, List, length, take, get_or, refl, sym, ap, ◌∙◌, arith}
 use borrow.Rule.Slice.PartMut.{put_mid}
 use Rattle.std.proofs.lemmas.Slice.{take-put_mid}
 use Rattle.std.proofs.lemmas.List.{length-take-le, get_or-take, get_or_append_left, get_or-append_right}
 use Rattle.std.proofs.lemmas.Bool.{cases_lt}
 
--- what is behind the first a is known of the part that is written there, as far as its first m
+-- after a part is written after the first a elements, these and its first m are known
 pub filled_more : (f : ℕ → ℕ) (a m k : ℕ) (xs ys : List ℕ) → a ≤ length xs → m ≤ length ys → ((i : ℕ) → i < a → get_or xs i 0 ≡ f i) → ((j : ℕ) → j < m → get_or ys j 0 ≡ f (a + j))
     → (i : ℕ) → i < a + m → get_or (put_mid a k xs ys) i 0 ≡ f i
 filled_more f a m k xs ys h fits before here i lt =

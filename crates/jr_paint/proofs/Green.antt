@@ -16,7 +16,7 @@ highs = 4 ∷ 20 ∷ 5 ∷ 21 ∷ 6 ∷ 22 ∷ 7 ∷ 23 ∷ 12 ∷ 28 ∷ 13 ∷
 abbrev pub order : List ℕ
 order = 0 ∷ 1 ∷ 2 ∷ 3 ∷ 8 ∷ 9 ∷ 10 ∷ 11 ∷ 4 ∷ 5 ∷ 6 ∷ 7 ∷ 12 ∷ 13 ∷ 14 ∷ 15 ∷ []
 
--- what lanes say that are reckoned from pairs
+-- lanes that are computed from pairs have the differences of green from luminance
 abbrev pub AreGreen : List ℕ → List ℕ → Type 0
 AreGreen pairs lanes = (j b r : ℕ) → j < 8 → b < 256 → r < 256 → get_or pairs (2 * j) 0 ≡ b + b → get_or pairs (2 * j + 1) 0 ≡ r + r → IsRaised (get_or lanes j 0) (green_over_of b r)
 

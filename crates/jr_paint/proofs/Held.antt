@@ -11,7 +11,7 @@ module _ {T : Type 0} (known : T → Option (List ℕ)) where
   pub nothing_written : (a : Tally T) (text : List ℕ) → WritesUpTo known a a text text
   nothing_written a text = record { sent = []; whole = refl; appended = none_yet (known_in known a) }
 
-  -- what was held back is written up to less
+  -- of what was held back, all but `left` is written
   pub written_on : (a b c : Tally T) (text held left : List ℕ) → WritesUpTo known a b text held → WritesUpTo known b c held left → WritesUpTo known a c text left
   written_on a b c text held left p q = record {
     sent = p.sent ++ q.sent;
@@ -27,7 +27,7 @@ module _ {T : Type 0} (known : T → Option (List ℕ)) where
     appended = p.appended;
   }
 
-  -- what is painted behind the bytes that are held back
+  -- pixels are painted after the bytes that are held back
   pub painted : (a b : Tally T) (text xs ys : List ℕ) (at n k : ℕ) → length ys ≡ n → at ≤ length xs → WritesUpTo known a b text (take at xs) → WritesUpTo known a b (text ++ ys) (take (at + n) (put_mid at k xs ys))
   painted a b text xs ys at n k long inside p =
       let e : take (at + n) (put_mid at k xs ys) ≡ take at xs ++ ys = take-put_mid at k xs ys (at + n) (omega (arith, long)) inside in
@@ -36,7 +36,7 @@ module _ {T : Type 0} (known : T → Option (List ℕ)) where
   pub begun : (a b c : Tally T) (text held : List ℕ) → WritesUpTo known a b text held → WritesBeginning known b c held → WritesBeginning known a c text
   begun a b c text held p q = rw p.whole (front_after _ _ _ p.sent held p.appended q)
 
-  -- all that was held back is written, or a beginning of it
+  -- all that was held back is written, or a prefix of it
   pub rest_sent : {U E : Type 0} (a b c : Tally T) (r : Result U E) (text held : List ℕ) → WritesUpTo known a b text held → OnOk r (Writes known b c held) → OnErr r (WritesBeginning known b c held) → has_failed c ≡ is_err r → IsSent known a c r text
   rest_sent a b c (Ok v) text held p q e f = record { ok = rw p.whole (then _ _ _ _ _ p.appended q); err = tt; failed = f }
   rest_sent a b c (Err v) text held p q e f = record { ok = tt; err = begun a b c text held p e; failed = f }

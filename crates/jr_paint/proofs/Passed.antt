@@ -1,4 +1,4 @@
--- What the code passes on for a product, and for a difference of two.
+-- A product, and a difference of two, after the code's casts.
 use Rattle.std.proofs.Common.{to_z, of_z, ◌≡◌, ap, ap₂, ◌-ℤ◌, ℤ, w32, FitsSigned}
 use Rattle.std.proofs.Math.IntN.{◌*ℤ◌}
 use Rattle.std.proofs.lemmas.Int.{to_z-of_z}

@@ -13,7 +13,7 @@ use Rattle.jr_head.specs.Geometry.{component_count}
 use Rattle.jr_paint.specs.Lines.{IsStretched, line_of, next_lines_of}
 use Rattle.jr_paint.specs.Text.{header_of, value_at, bytes_of, pixel_of, pixels_of, lines_of, text_of}
 
--- the numbers from a on, and then those from a + m on
+-- the numbers starting at a, and then those starting at a + m
 pub range-append : (a m n : ℕ) → range_with_len a (m + n) ≡ range_with_len a m ++ range_with_len (a + m) n
 range-append a zero n = rw (zero-add, add-zero) refl
 range-append a (suc m) n =
@@ -24,7 +24,7 @@ range-append a (suc m) n =
 pub flat_map-range-append : (f : ℕ → List ℕ) (a m n : ℕ) → flat_map f (range_with_len a (m + n)) ≡ flat_map f (range_with_len a m) ++ flat_map f (range_with_len (a + m) n)
 flat_map-range-append f a m n = ap (flat_map f) (range-append a m n) ∙ flat_map-append f (range_with_len a m) (range_with_len (a + m) n)
 
--- the same lists, numbered from elsewhere
+-- the same lists, with other numbers
 pub flat_map-moved : (f g : ℕ → List ℕ) (a b n : ℕ) → ((k : ℕ) → k < n → f (a + k) ≡ g (b + k)) → flat_map f (range_with_len a n) ≡ flat_map g (range_with_len b n)
 flat_map-moved f g a b zero h = refl
 flat_map-moved f g a b (suc n) h =
@@ -38,7 +38,7 @@ flat_map-range_more f n = let e : 0 + n ≡ n = omega arith in sym (flat_map-ran
 joined_three : (xs : List ℕ) (p q r : ℕ) → ((xs ++ p ∷ []) ++ q ∷ []) ++ r ∷ [] ≡ xs ++ p ∷ q ∷ r ∷ []
 joined_three xs p q r = simp append_assoc
 
--- one more pixel of three bytes written
+-- one more pixel of three bytes is written
 pub three_more : (f : ℕ → List ℕ) (i : ℕ) (out : List ℕ) (p q r : ℕ) → 3 * i + 3 ≤ length out → f i ≡ p ∷ q ∷ r ∷ [] → take (3 * i) out ≡ flat_map f (range_with_len 0 i) → take (3 * (i + 1)) (set (set (set out (3 * i) p) (3 * i + 1) q) (3 * i + 2) r) ≡ flat_map f (range_with_len 0 (i + 1))
 three_more f i out p q r room is h =
     let one = set out (3 * i) p in
@@ -81,11 +81,11 @@ module _ (h : HeadValue) (f : ℕ → ℕ → ℕ → ℕ) (y : ℕ) where
       λ k l. let e : 0 + k ≡ k = omega arith in let m : k < h.width = omega (arith, l, long) in rw (e, p k m, q k m, r k m, is) (coloured h.kind (rw is at three) (λ d. value_at h f d k y)) in
       flat_map-moved (λ k. colour_of kind (a k) (b k) (c k)) (pixel_of h f y) 0 0 n same ∙ ap (pixels_of h f y 0) long
 
--- a sample that the next line takes too
+-- a sample that the next line shares
 pub shared_value : (h : HeadValue) (f : ℕ → ℕ → ℕ → ℕ) (c y k : ℕ) → IsShared h c y → value_at h f c k y ≡ value_at h f c k (y + 1)
 shared_value h f c y k e = rw e refl
 
--- n lines from line y on, and m more
+-- n lines starting at line y, and m more
 pub next_lines_more : (h : HeadValue) (f : ℕ → ℕ → ℕ → ℕ) (y n m : ℕ) → next_lines_of h f y (n + m) ≡ next_lines_of h f y n ++ next_lines_of h f (y + n) m
 next_lines_more h f y n m = flat_map-range-append (line_of h f) y n m
 
@@ -102,7 +102,7 @@ module _ (h : HeadValue) (f : ℕ → ℕ → ℕ → ℕ) where
   pub text_more : (n m : ℕ) → header_of h ++ lines_of h f (n + m) ≡ (header_of h ++ lines_of h f n) ++ next_lines_of h f n m
   text_more n m = ap (λ z. header_of h ++ z) (lines_append n m) ∙ sym (append_assoc (header_of h) (lines_of h f n) (next_lines_of h f n m))
 
-  -- the header and the first lines are a beginning of the text
+  -- the header and the first lines are a prefix of the text
   pub text_begins : (n : ℕ) → n ≤ h.height → (rest : List ℕ) × (text_of h f ≡ (header_of h ++ lines_of h f n) ++ rest)
   unfolding text_of
   text_begins n p =

@@ -1,4 +1,4 @@
--- The place of a sample: it is there, and it is the only one.
+-- The position of a sample: it is there, and it is the only one.
 use Rattle.std.proofs.Common.{◌≡◌, ℕ, ◌+◌, ◌*◌, ◌/◌, ◌%◌, ◌<◌, ◌≤◌, arith, refl, ◌∙◌, ap, take, get_or, [], ◌∷◌}
 use Rattle.std.proofs.Math.Nat.{div-add-mod, div-mul-le_self, mul-le-mul_right, lt_of_mul-lt-mul_right}
 use Rattle.std.specs.Prelude.{sum_by}
@@ -11,7 +11,7 @@ use Rattle.jr_head.specs.HeadValue.{HeadValue}
 use Rattle.jr_head.specs.Geometry.{components_of, no_component, horizontal_of, vertical_of, units_of, blocks_before, blocks_of}
 use Rattle.jr_paint.specs.Geometry.{Place, Where, place_of}
 
--- one direction of a place
+-- one direction of a position
 along : (n x : ℕ) → 0 < n → (x ≡ 8 * (n * (x / (8 * n)) + x % (8 * n) / 8) + x % 8) × (x % (8 * n) / 8 < n) × (x % 8 < 8)
 along n x h =
     let p : 0 < 8 * n = omega arith in
@@ -72,7 +72,7 @@ in_div_ceil x a m p h =
     let less : x * m < div_ceil a m * m = omega (arith, bound.0) in
     lt_of_mul-lt-mul_right m less
 
--- the MCU of a sample of the picture is one of the picture's
+-- the MCU of a sample of the image is one of the image's
 pub mcu_inside : (x size n m : ℕ) → 0 < n → 0 < m → x < div_ceil (size * n) m → x / (8 * n) < div_ceil size (8 * m)
 mcu_inside x size n m p q h =
     let inside = below_div_ceil x (size * n) m q h in

@@ -1,4 +1,4 @@
--- What the products of sixteen lanes hold.
+-- The products that sixteen lanes hold.
 use Rattle.std.proofs.Common.{◌≡◌, ℕ, zero, suc, ◌+◌, ◌*◌, ◌/◌, ◌%◌, ◌^◌, ◌<◌, pos, negsuc, neg_ℤ, ◌+ℤ◌, ◌-ℤ◌, ℤ, Bool, true, false, cond, eqb, inl, inr, List, [], ◌∷◌, ◌++◌, length, get_or, map, replicate, refl, ap, ap₂, ◌∙◌, arith, w16, Fits}
 use Rattle.std.proofs.lemmas.Bool.{cases_lt, eqb-true}
 use Rattle.std.proofs.Math.IntN.{◌*ℤ◌}
@@ -65,7 +65,7 @@ blue_raised = agree (λ x. pos (product 1582 58066 x / 65536)) (λ x. blue_over_
 abbrev pub paired : ℕ → ℕ → ℕ
 paired b r = ((b * 4294956019 % 4294967296 + r * 4294943895 % 4294967296) % 4294967296 + 115602944) % 4294967296
 
--- the sum is what it would be if nothing wrapped
+-- the sum is the same as without wrapping
 paired_is : (b r : ℕ) → b < 256 → r < 256 → paired (b + b) (r + r) + 46802 * r + 22554 * b ≡ 115602944
 paired_is b r p q = omega (arith, p, q)
 
@@ -104,11 +104,11 @@ halves n xs = zip2 (λ a b. a / 2 ^ b) xs (replicate n 16)
 has_halves : (n : ℕ) (xs : List ℕ) (f : ℕ → ℕ) → Has n xs f → Has n (halves n xs) (λ k. f k / 65536)
 has_halves n xs f h = has_zip2 n (λ a b. a / 2 ^ b) _ _ _ _ h (has_splat n 16)
 
--- what the cast to sixteen bits asks of each lane: the upper half of 32 bits
+-- the condition of the cast of each lane to sixteen bits: the upper half of 32 bits
 halves_fit : (n : ℕ) (xs : List ℕ) (f : ℕ → ℕ) → Has n xs f → ((k : ℕ) → k < n → f k < 4294967296) → Each1 (Fits w16) (halves n xs)
 halves_fit n xs f h small = has_each n (Fits w16) _ _ (has_halves n xs f h) (λ k l. record { fits = omega (arith, small k l) })
 
--- what it gives
+-- its result
 half_at : (n : ℕ) (xs : List ℕ) (f : ℕ → ℕ) → Has n xs f → (k : ℕ) → k < n → get_or (map (λ a. a) (halves n xs)) k 0 ≡ f k / 65536
 half_at n xs f h = (has_map n (λ a. a) _ _ (has_halves n xs f h)).each 0
 

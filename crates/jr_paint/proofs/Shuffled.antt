@@ -1,4 +1,4 @@
--- What the shuffles of lanes hold, and what three stores in a row write.
+-- What the shuffles of lanes hold, and what three stores one after another write.
 use Rattle.std.proofs.Common.{◌≡◌, ℕ, zero, suc, ◌+◌, List, [], ◌∷◌, ◌++◌, length, get_or, map, refl, ap, ◌∙◌, arith, subst}
 use Rattle.std.specs.List.{range_with_len}
 use Rattle.std.specs.Simd.Lanes.{put_chunk, pick_l}
@@ -22,11 +22,11 @@ put_three i xs a b c p q =
     put_chunks (i + 32) (i + 64) (put_chunk i xs a) b c (omega arith)
     ∙ put_chunks i (i + 32) xs a (b ++ c) (omega arith)
 
--- what holds of the n lanes of a vector holds of the vector
+-- a predicate that holds for the n lanes of a vector holds for the vector
 pub by_lanes : (n : ℕ) (P : List ℕ → Type 0) (v : List ℕ) → length v ≡ n → P (pick_l 0 v (range_with_len 0 n)) → P v
 by_lanes n P v long h = subst P (pick_l_whole 0 v n long) h
 
--- each second of three places from another vector, and each third one
+-- of each three positions, the second one from another vector, and the third one from another
 abbrev pub seconds : List ℕ
 seconds = 0 ∷ 33 ∷ 2 ∷ 3 ∷ 36 ∷ 5 ∷ 6 ∷ 39 ∷ 8 ∷ 9 ∷ 42 ∷ 11 ∷ 12 ∷ 45 ∷ 14 ∷ 15 ∷ 16 ∷ 49 ∷ 18 ∷ 19 ∷ 52 ∷ 21 ∷ 22 ∷ 55 ∷ 24 ∷ 25 ∷ 58 ∷ 27 ∷ 28 ∷ 61 ∷ 30 ∷ 31 ∷ []
 

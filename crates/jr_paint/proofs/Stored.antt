@@ -5,11 +5,11 @@ use Rattle.std.specs.Simd.Lanes.{put_chunk, pick_l}
 use Rattle.jr_paint.specs.Lines.{interleaving_of, spread}
 use Rattle.jr_paint.proofs.Shuffled.{put_three}
 
--- the bytes of a colour where they belong
+-- the bytes of a colour at their positions
 abbrev pub spread_of : ℕ → List ℕ → List ℕ
 spread_of shift v = map (λ q. get_or v (spread shift q) 0) (range_with_len 0 32)
 
--- the bytes of each third place of three vectors
+-- the bytes of each third position of three vectors
 abbrev pub thirds_of : List ℕ → List ℕ → List ℕ → List ℕ
 thirds_of a b c = map (λ q. get_or (slice_index_or (a ∷ b ∷ c ∷ []) (q % 16 % 3) []) q 0) (range_with_len 0 32)
 

@@ -21,7 +21,7 @@ two_digits p [] e = absurd (omega (arith, e))
 two_digits p (x ∷ []) e = absurd (omega (arith, e))
 two_digits p (x ∷ y ∷ z ∷ xs) e = absurd (omega (arith, e))
 
--- the words that 32 bytes are
+-- the 16-bit words of 32 bytes
 abbrev pub words_of : List ℕ → List ℕ
 words_of xs = digits_l 65536 16 (number_l 256 xs)
 
@@ -76,7 +76,7 @@ module _ (i : ℕ) (bytes : List ℕ) (inside : i + 32 ≤ length bytes) (small 
   pub odd_of : (k : ℕ) → k < 16 → get_or (zip2 (λ a b. a / 2 ^ b) (words_of (chunk i 32 bytes)) (replicate 16 8)) k 0 ≡ get_or bytes (i + (2 * k + 1)) 0
   odd_of k l = odd_bytes (chunk i 32 bytes) (length-chunk i 32 bytes inside) (chunk-fits w8 i 32 bytes small) k l ∙ get_or-chunk i 32 bytes (2 * k + 1) 0 (omega (arith, l))
 
--- what holds of the entries with even numbers, and of the others, holds of all
+-- a predicate that holds for the entries with even numbers, and for the others, holds for all
 pub by_turns : (P : ℕ → ℕ → Type 0) (a b : List ℕ) → ((k : ℕ) → k < 16 → P (2 * k) (get_or a k 0)) → ((k : ℕ) → k < 16 → P (2 * k + 1) (get_or b k 0)) → (k : ℕ) → k < 32 → P k (turn_of (a ∷ b ∷ []) k)
 by_turns P a b p q k l =
     elim (cases_lt (k % 2) 1) [
@@ -90,7 +90,7 @@ by_turns P a b p q k l =
           rw z (subst (λ j. P j (get_or b (k / 2) 0)) e (q (k / 2) (omega (arith, l))))
     ]
 
--- pixel k stands in the vector of its turn
+-- pixel k is in the vector of its turn
 packed_turn : (k : ℕ) → packed k / 8 % 2 ≡ k % 2
 packed_turn k = omega arith
 

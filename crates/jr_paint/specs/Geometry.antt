@@ -1,4 +1,4 @@
--- Where a sample lies among the data units of a picture (T.81, A.1.1 and A.2).
+-- The position of a sample among the data units of an image (T.81, A.1.1 and A.2).
 use Rattle.std.specs.Prelude.{◌≡◌, ℕ, ◌+◌, ◌*◌, ◌/◌, ◌%◌, ◌<◌}
 use Rattle.std.specs.Int.{div_ceil}
 use Rattle.jr_head.specs.HeadValue.{HeadValue}
@@ -21,7 +21,7 @@ pub record Place : Type 0 where
   pub row : ℕ
   pub col : ℕ
 
--- the sample in column x and line y of a component of these factors lies there
+-- the sample in column x and line y of a component with these factors is there
 pub record Where (across down x y : ℕ) (p : Place) : Type 0 where
   pub column : x ≡ 8 * (across * p.mcu_column + p.block_column) + p.col
   pub line : y ≡ 8 * (down * p.mcu_line + p.block_line) + p.row
@@ -34,7 +34,7 @@ pub record Where (across down x y : ℕ) (p : Place) : Type 0 where
 abbrev pub IsOnlyOne : {A : Type 0} → (A → Type 0) → Type 0
 IsOnlyOne {A} P = (a : A) × (P a × ((b : A) → P b → b ≡ a))
 
--- the one place, by division
+-- the one position, by division
 abbrev pub place_of : ℕ → ℕ → ℕ → ℕ → Place
 place_of across down x y = record {
   mcu_column = x / (8 * across);
@@ -54,11 +54,11 @@ spot_at h c p = record {
   col = p.col;
 }
 
--- where the sample in column x and line y of component c lies (T.81, A.2)
+-- the position of the sample in column x and line y of component c (T.81, A.2)
 abbrev pub spot_of : HeadValue → ℕ → ℕ → ℕ → Spot
 spot_of h c x y = spot_at h c (place_of (horizontal_of h c) (vertical_of h c) x y)
 
--- its place in its data unit
+-- its position in its data unit
 abbrev pub place_in : Spot → ℕ
 place_in s = 8 * s.row + s.col
 

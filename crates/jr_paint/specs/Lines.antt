@@ -1,4 +1,4 @@
--- Lines of samples put together to pixels of three bytes.
+-- Lines of samples combined to pixels of three bytes.
 use Rattle.std.specs.Prelude.{◌≡◌, ℕ, ◌+◌, ◌-◌, ◌*◌, ◌/◌, ◌%◌, ◌<◌, List, [], ◌∷◌, ◌++◌, slice_index, slice_index_or}
 use Rattle.std.specs.List.{flat_map, range_with_len}
 use Rattle.jr_head.specs.HeadValue.{HeadValue}
@@ -8,7 +8,7 @@ use Rattle.jr_paint.specs.Colours.{colour_of}
 use Rattle.jr_paint.specs.Shades.{lowered}
 use Rattle.jr_paint.specs.Text.{value_at, pixel_size, pixels_of}
 
--- n pixels from number i on, a sample of each of three lines for each
+-- n pixels starting at number i, a sample of each of three lines for each
 abbrev pub colours_of : Kind → List ℕ → List ℕ → List ℕ → ℕ → ℕ → List ℕ
 colours_of kind first second third i n =
     flat_map (λ k. colour_of kind (slice_index first k) (slice_index second k) (slice_index third k)) (range_with_len i n)
@@ -26,12 +26,12 @@ packed k = 16 * (k / 16) + 8 * (k % 2) + k % 16 / 2
 abbrev pub spread : ℕ → ℕ → ℕ
 spread shift q = packed (16 * (q / 16) + 11 * (q + 16 - shift) % 16)
 
--- n pixels of so much red, green and blue
+-- n pixels of this red, green and blue
 abbrev pub interleaving_of : List ℕ → List ℕ → List ℕ → ℕ → List ℕ
 interleaving_of red green blue n =
     flat_map (λ k. slice_index red (packed k) ∷ slice_index green (packed k) ∷ slice_index blue (packed k) ∷ []) (range_with_len 0 n)
 
--- one pixel of luminance y, where what the colours have over it is raised
+-- one pixel of luminance y, from the raised differences of its colours
 abbrev pub colour_over : ℕ → ℕ → ℕ → ℕ → List ℕ
 colour_over y red green blue = lowered y red ∷ lowered y green ∷ lowered y blue ∷ []
 
@@ -60,7 +60,7 @@ line_of h f y = pixels_of h f y 0 h.width
 abbrev pub two_lines_of : HeadValue → (ℕ → ℕ → ℕ → ℕ) → ℕ → List ℕ
 two_lines_of h f y = line_of h f y ++ line_of h f (y + 1)
 
--- n lines from line y on
+-- n lines starting at line y
 abbrev pub next_lines_of : HeadValue → (ℕ → ℕ → ℕ → ℕ) → ℕ → ℕ → List ℕ
 next_lines_of h f y n = flat_map (line_of h f) (range_with_len y n)
 

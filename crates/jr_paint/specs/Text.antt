@@ -1,4 +1,4 @@
--- The Netpbm text of a picture.
+-- The Netpbm text of an image.
 use Rattle.std.specs.Prelude.{ℕ, ◌*◌, ◌/◌, List, [], ◌∷◌, ◌++◌, codes, decimal}
 use Rattle.std.specs.List.{flat_map, range_with_len}
 use Rattle.jr_head.specs.HeadValue.{HeadValue}
@@ -35,7 +35,7 @@ pixel_size Ycc = 3
 unfoldable pub pixel_of : HeadValue → (ℕ → ℕ → ℕ → ℕ) → ℕ → ℕ → List ℕ
 pixel_of h f y x = bytes_of h.kind (λ c. value_at h f c x y)
 
--- n pixels of line y, from column x on
+-- n pixels of line y, starting at column x
 unfoldable pub pixels_of : HeadValue → (ℕ → ℕ → ℕ → ℕ) → ℕ → ℕ → ℕ → List ℕ
 pixels_of h f y x n = flat_map (pixel_of h f y) (range_with_len x n)
 

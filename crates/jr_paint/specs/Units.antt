@@ -1,11 +1,11 @@
--- Samples of a picture that is kept by data units (T.81, A.2.3).
+-- Samples of an image that is stored by data units (T.81, A.2.3).
 use Rattle.std.specs.Prelude.{ℕ, slice_index}
 use Rattle.jr_head.specs.HeadValue.{HeadValue}
 use Rattle.jr_paint.specs.Geometry.{spot_of, place_in}
 use Rattle.jr_paint.specs.declared.unit_lines.Unit.{Unit}
 use Rattle.jr_paint.specs.declared.unit_lines.Unit.TheVariants.{Even, Of}
 
--- the sample at a place of a data unit of which this is shown
+-- the sample at a position in a data unit, from what is shown of it
 abbrev pub sample_in_unit : Unit → ℕ → ℕ
 sample_in_unit (Even value) at = value
 sample_in_unit (Of samples) at = slice_index samples.now at

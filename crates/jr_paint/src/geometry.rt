@@ -20,7 +20,7 @@ pub struct Spot {
     pub col: u32,
 }
 
-/// States that there is exactly one place for each sample of a component with these sampling factors.
+/// States that there is exactly one position for each sample of a component with these sampling factors.
 pub fn exactly_one_place()
     ensures { (across down x y : ℕ) → 0 < across → 0 < down → IsOnlyOne (Where across down x y) }
 {}
@@ -49,7 +49,7 @@ fn earlier_blocks(head: &Head, c: u32) -> u32
     sum
 }
 
-/// Returns where the sample in column x and line y of component c lies.
+/// Returns the position of the sample in column x and line y of component c.
 pub fn place(head: &Head, c: u32, x: u32, y: u32) -> Spot
     requires component { c < components_of head.now }
     requires column { x < samples_across head.now c }

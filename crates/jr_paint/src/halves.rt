@@ -1,4 +1,4 @@
-//! Lines of pixels put together from their luminance and chrominance, a sample for two pixels of a line: one line, or
+//! Lines of pixels combined from their luminance and chrominance, a sample for two pixels of a line: one line, or
 //! two that share their chrominance.
 
 ghost use Rattle.std.specs.Prelude.{◌≡◌, ℕ, ◌+◌, ◌*◌, ◌/◌, ◌<◌, ◌≤◌, IfSome, length, slice_index, take};

@@ -3,7 +3,7 @@
 //!
 //! Twice a sample and an offset are multiplied, and each product keeps its upper half only. The offsets and the
 //! factors make the half that is dropped round as the definition does, for each of the samples, and bring red, green
-//! and blue out alike as 1628 more than they have over luminance: so the 1628 are taken from luminance, and once.
+//! and blue out alike as 1628 more than they have over luminance: so the 1628 are subtracted from luminance, and once.
 
 ghost use Rattle.std.specs.Prelude.{◌≡◌, ℕ, ◌+◌, ◌*◌, ◌/◌, ◌%◌, ◌<◌, ◌≤◌, length, slice_index, slice_index_or, pos, ◌+ℤ◌, [], ◌∷◌};
 ghost use Rattle.std.specs.Simd.Lanes.{put_chunk};

@@ -1,4 +1,4 @@
-//! The pixels of a line, and of two that take the same samples of chrominance.
+//! The pixels of a line, and of two that use the same samples of chrominance.
 
 ghost use Rattle.std.specs.Prelude.{◌≡◌, ◌+◌, ◌*◌, ◌<◌, ◌≤◌, length};
 ghost use Rattle.jr_head.specs.Geometry.{IsLawful, component_count};
@@ -72,7 +72,7 @@ fn fill_halved<S: Samples>(samples: &S, y: u32, room: &mut [u8], pixels: &mut [u
     convert_one(luma, cb, cr, pixels);
 }
 
-/// The pixels of line y and of the next, which take the same samples of chrominance.
+/// The pixels of line y and of the next, which use the same samples of chrominance.
 fn fill_two<S: Samples>(samples: &S, y: u32, room: &mut [u8], pixels: &mut [u8])
     requires shares { SharesChroma (S.head_of samples.now) y }
     requires room { line_room (S.head_of samples.now) ≤ length room.old }
@@ -92,7 +92,7 @@ fn fill_two<S: Samples>(samples: &S, y: u32, room: &mut [u8], pixels: &mut [u8])
     convert_two(luma, next_luma, cb, cr, upper, lower);
 }
 
-/// Returns the number of lines that are painted at once starting at line y: two if both take the same samples of
+/// Returns the number of lines that are painted at once starting at line y: two if both use the same samples of
 /// chrominance.
 pub(crate) fn lines_at_once(head: &Head, y: u32) -> u32
     requires lawful { IsLawful head.now }
@@ -105,7 +105,7 @@ pub(crate) fn lines_at_once(head: &Head, y: u32) -> u32
     if shares_chroma(head, y) { 2 } else { 1 }
 }
 
-/// Fills the pixels of `count` lines starting at line y: of one, or of two that take the same samples of chrominance.
+/// Fills the pixels of `count` lines starting at line y: of one, or of two that use the same samples of chrominance.
 pub(crate) fn fill_lines<S: Samples>(
     samples: &S,
     y: u32,

@@ -13,7 +13,7 @@ use crate::samples::Samples;
 use jr_base::{Tally, WriteFault, write_all};
 use std::io::Write;
 
-/// The most pixels of a line of most pictures.
+/// Number of pixels that a line of most images does not exceed.
 const NARROW: usize = 4096;
 
 /// Size in bytes of the buffer for painting lines of 4096 pixels.
@@ -26,7 +26,7 @@ pub const BATCH: usize = 73_728;
 /// Size in bytes of the buffer for painting lines of 65,535 pixels, the maximum.
 const WIDEST_ROOM: usize = 262_140;
 
-/// Size in bytes of two lines of as many pixels.
+/// Size in bytes of two lines of 65,535 pixels.
 const TWO_WIDEST: usize = 393_210;
 
 /// Writes what `pixels` has up to `filled` if fewer than `more` bytes are left after it. Returns where the bytes end

@@ -1,4 +1,4 @@
-//! Lines of values, a line for each component, put together to pixels of three bytes.
+//! Lines of values, a line for each component, combined to pixels of three bytes.
 
 ghost use Rattle.std.specs.Prelude.{◌≡◌, ◌+◌, ◌*◌, ◌≤◌, length, take};
 ghost use Rattle.std.specs.Simd.Lanes.{put_chunk};

@@ -9,7 +9,7 @@ use jr_head::Head;
 
 /// The decoded samples of an image: for each component, columns from the left and lines from the top.
 pub trait Samples {
-    // the head of the picture's file
+    // the header of the image's file
     ghost head_of: { Self → HeadValue };
 
     // the sample by component, column and line
@@ -37,7 +37,7 @@ pub trait Samples {
         ensures long { length result.now ≡ count }
         ensures samples { (k : ℕ) → k < count → slice_index result.now k ≡ shown self.now c k y }
     {
-        // By its contract a head has so few columns that their numbers fit.
+        // By its contract a header has few enough columns that their numbers fit.
         let _lawful = self.head();
         let room = &mut room[..count];
         let mut x = 0;

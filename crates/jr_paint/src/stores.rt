@@ -1,4 +1,4 @@
-//! 32 pixels of three bytes put together from their colours and stored. Each third place of a half of 16 bytes is
+//! 32 pixels of three bytes combined from their colours and stored. Each third position of a half of 16 bytes is
 //! red's, the one after it green's, then blue's; where a half begins, another of the three is first.
 
 ghost use Rattle.std.specs.Prelude.{◌≡◌, ◌+◌, ◌*◌, ◌/◌, ◌%◌, ◌≤◌, length, slice_index, slice_index_or, [], ◌∷◌, map};
@@ -8,7 +8,7 @@ ghost use Rattle.jr_paint.specs.Lines.{interleaving_of, spread};
 
 use std::simd::prelude::*;
 
-/// Interleaves the bytes of each third place of three vectors, starting with the first.
+/// Interleaves the bytes of each third position of three vectors, starting with the first.
 #[inline(always)]
 fn by_thirds(a: u8x32, b: u8x32, c: u8x32) -> u8x32
     ensures { result ≡ map (λ q. slice_index (slice_index_or (a ∷ b ∷ c ∷ []) (q % 16 % 3) []) q) (range_with_len 0 32) }
@@ -30,7 +30,7 @@ fn by_thirds(a: u8x32, b: u8x32, c: u8x32) -> u8x32
 }
 
 /// Bytes of red, green and blue where they belong in a half of what is stored: pixel k of 16 at 3 k, 3 k + 1 and 3 k + 2, less
-/// 16 or 32 where these are too many.
+/// 16 or 32 if these are too many.
 #[inline(always)]
 fn placed(red: u8x32, green: u8x32, blue: u8x32) -> (u8x32, u8x32, u8x32)
     ensures red { result.0 ≡ map (λ q. slice_index red (spread 0 q)) (range_with_len 0 32) }

@@ -1,4 +1,4 @@
-//! Lines of samples of pictures that are kept by data units.
+//! Lines of samples of images that are stored by data units.
 
 ghost use Rattle.std.specs.Prelude.{◌≡◌, ℕ, ◌+◌, ◌*◌, ◌/◌, ◌%◌, ◌<◌, ◌≤◌, length, slice_index};
 ghost use Rattle.jr_head.specs.Geometry.{IsLawful, components_of, blocks_of, mcus_of};
@@ -21,10 +21,10 @@ pub enum Unit<'a> {
 
 /// An image by its data units.
 pub trait Units {
-    // the head of the picture's file
+    // the header of the image's file
     ghost head_of: { Self → HeadValue };
 
-    // the sample by component, MCU, data unit in the MCU and place in the data unit
+    // the sample by component, MCU, data unit in the MCU and position in the data unit
     ghost shown_in: { Self → ℕ → ℕ → ℕ → ℕ → ℕ };
 
     /// Returns what is shown of data unit `block` of an MCU, one of component c.
@@ -61,7 +61,7 @@ fn put(unit: &Unit<'_>, from: usize, out: &mut [u8])
     }
 }
 
-/// Returns the sample of a data unit at a place.
+/// Returns the sample of a data unit at a position.
 fn sample_at(unit: &Unit<'_>, at: usize) -> u8
     requires { at < 64 }
     ensures { result ≡ sample_in_unit unit.now at }
@@ -113,14 +113,14 @@ fn fill_unit<U: Units>(head: &Head, units: &U, c: u32, y: u32, start: Spot, n: u
     requires across { 8 * n + length out.old ≤ samples_across head.now c }
     ensures { (k : ℕ) → k < length out.new → slice_index out.new k ≡ sample_by_units head.now (U.shown_in units.now) c (8 * n + k) y }
 {
-    // By its contract a picture has so few MCUs that their numbers fit.
+    // By its contract an image has few enough MCUs that their numbers fit.
     let _mcus = head.mcus();
     let (column, part) = in_mcu(n, head.horizontal(c));
     let unit = units.unit(c, start.mcu + column, start.block + part);
     put(&unit, 8 * start.row as usize, out);
 }
 
-/// Fills a line of samples of component c, starting at column 0, as many as fit: those of a data unit after the other.
+/// Fills `out` with a line of samples of component c, starting at column 0: those of a data unit after the other.
 pub fn fill_line<U: Units>(head: &Head, units: &U, c: u32, y: u32, out: &mut [u8])
     requires head { head.now ≡ U.head_of units.now }
     requires component { c < components_of head.now }

@@ -95,7 +95,7 @@ fn pixels_per_sample(head: &Head, c: u32) -> u32
     head.horizontal_max() / head.horizontal(c)
 }
 
-/// Returns the samples of component c that the pixels of line y take, one for each: a reference, or a copy in `out`.
+/// Returns the samples of component c that the pixels of line y use, one for each: a reference, or a copy in `out`.
 /// `near` is the space for them before they are repeated.
 pub(crate) fn upsample<'a, S: Samples>(
     samples: &'a S,
@@ -135,7 +135,7 @@ fn half_count(head: &Head) -> usize
     (head.width() as usize).div_ceil(2)
 }
 
-/// Returns the samples of both chrominances that the pixels of line y take, a sample for two pixels: references, or
+/// Returns the samples of both chrominances that the pixels of line y use, a sample for two pixels: references, or
 /// copies in `cb` and `cr`.
 pub(crate) fn read_halves<'a, S: Samples>(
     samples: &'a S,
@@ -189,7 +189,7 @@ pub(crate) fn halves_chroma(head: &Head) -> bool
     }
 }
 
-/// Returns whether line y has a next one that takes the same samples of both chrominances, each for two pixels of a
+/// Returns whether line y has a next one that uses the same samples of both chrominances, each for two pixels of a
 /// line.
 pub(crate) fn shares_chroma(head: &Head, y: u32) -> bool
     requires lawful { IsLawful head.now }

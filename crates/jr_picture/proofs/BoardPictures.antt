@@ -1,4 +1,4 @@
--- What a lawful board shows is a picture.
+-- What a valid board shows is an image.
 use Rattle.std.proofs.Common.{◌≡◌, ◌≢◌, ℕ, zero, suc, ◌+◌, ◌-◌, ◌*◌, ◌/◌, ◌%◌, ◌<◌, ◌≤◌, min, Bool, true, false, cond, inl, inr, Option, Some, None, List, [], ◌∷◌, map, length, get_or, refl, sym, ap, subst, ◌∙◌, arith}
 use Rattle.std.specs.Prelude.{ℤ, slice_get, slice_index}
 use Rattle.std.specs.List.{count_by}
@@ -29,7 +29,7 @@ use Rattle.jr_picture.specs.Boards.{IsLawfulBoard, piece_at, mark_at, mark_of, m
 use Rattle.jr_picture.specs.Headline.{interval_number, within_interval, spot_of, unit_number, place_in, Holds, Shows, mark_in, IsPicture, AreFirst, is_sound, is_damaged}
 use Rattle.jr_picture.specs.Samples.{sample_in, sample_of_piece, samples_of}
 
--- a sample of the picture lies in an MCU of it, in a data unit of that
+-- a sample of the image lies in an MCU of it, in a data unit of that
 mcu_there : (h : HeadValue) (c x y : ℕ) → heads.IsLawful h → c < components_of h → x < samples_across h c → y < samples_down h c → (spot_of h c x y).mcu < mcus_of h
 mcu_there h c x y l p q r =
     let s = sampled_at h c l p in
@@ -43,7 +43,7 @@ block_there h c x y l p =
     let there = place_of_lies (horizontal_of h c) (vertical_of h c) x y s.across s.down in
     block_inside h c _ _ p there.block_down there.block_across
 
--- an MCU of the picture is one of its interval
+-- an MCU of the image is one of its interval
 within_few : (h : HeadValue) (mcu : ℕ) → mcu < mcus_of h → within_interval h mcu < mcus_in h (interval_number h mcu)
 within_few h mcu lt = elim (eqb_tells h.restart 0) [
   | inl t ↦ subst (λ (b : Bool). cond b mcu (mcu % h.restart) < cond b (mcus_of h) (min h.restart (mcus_of h - cond b 0 (mcu / h.restart) * h.restart))) (sym t.0) lt
@@ -53,7 +53,7 @@ within_few h mcu lt = elim (eqb_tells h.restart 0) [
       subst (λ (b : Bool). cond b mcu (mcu % h.restart) < cond b (mcus_of h) (min h.restart (mcus_of h - cond b 0 (mcu / h.restart) * h.restart))) (sym f.0) rest
 ]
 
--- a data unit of an MCU of the picture is one of its interval
+-- a data unit of an MCU of the image is one of its interval
 pub unit_few : (h : HeadValue) (s : Spot) → s.mcu < mcus_of h → s.block < blocks_of h → length (order_of h) ≡ blocks_of h → unit_number h s < mcus_in h (interval_number h s.mcu) * length (order_of h)
 unit_few h s mcu block e =
     let within = within_few h s.mcu mcu in
@@ -72,17 +72,17 @@ grey_shown h zs us unit place s past = ap (λ (o : Option (List ℕ)). sample_in
 abbrev interval_by : ℕ → HeadValue → List (List ℕ) → IntervalValue
 interval_by i h data_of = record { number = i; mcus = mcus_in h i; bytes = get_or data_of i []; head = h }
 
--- scans with equal heads and data have equal intervals
+-- scans with equal headers and data have equal intervals
 pub same_interval : (a s : ScanValue) (i : ℕ) → IsSameScan a s → scans.interval_of a i ≡ scans.interval_of s i
 same_interval a s i same = ap (λ (h : HeadValue). interval_by i h a.intervals) same.0 ∙ ap (interval_by i s.head) same.1
 
--- the interval of a piece on a lawful board
+-- the interval of a piece on a valid board
 pub interval_is : (b : BoardValue) (s : ScanValue) (i : ℕ) (p : PieceValue) → IsLawfulBoard b → IsSameScan b.scan s → piece_at b i ≡ Some p → p.interval ≡ scans.interval_of s i
 interval_is b s i p lawful same e =
     let of = lawful.each i p e in
     of.interval.1 ∙ ap (scans.interval_of b.scan) of.number ∙ same_interval b.scan s i same
 
--- the sample that a head gives the place of
+-- the sample at the position that a header defines
 abbrev pub shown_by : HeadValue → List (Option PieceValue) → ℕ → ℕ → ℕ → ℕ
 shown_by h ps c x y = sample_of_piece h.kind c (get_or ps (interval_number h (spot_of h c x y).mcu) None) (unit_number h (spot_of h c x y)) (place_in (spot_of h c x y))
 
@@ -90,7 +90,7 @@ pub shown_is : (b : BoardValue) (c x y : ℕ) → samples_of b c x y ≡ shown_b
 unfolding samples_of
 shown_is b c x y = refl
 
--- what is shown of interval i, of which this is what is posted
+-- the samples of interval i, from its posted piece or none
 shown_there : (b : BoardValue) (c x y i : ℕ) (q : Option PieceValue) → interval_number b.scan.head (spot_of b.scan.head c x y).mcu ≡ i → piece_at b i ≡ q
     → samples_of b c x y ≡ sample_of_piece b.scan.head.kind c q (unit_number b.scan.head (spot_of b.scan.head c x y)) (place_in (spot_of b.scan.head c x y))
 shown_there b c x y i q e f =
@@ -147,14 +147,14 @@ marks_at [] i = refl
 marks_at (p ∷ ps) zero = refl
 marks_at (p ∷ ps) (suc i) = marks_at ps i
 
--- what a lawful board shows is a picture of its scan
+-- what a valid board shows is an image of its scan
 pub picture : (b : BoardValue) → IsLawfulBoard b → heads.IsLawful b.scan.head → IsPicture b.scan (marks_of b) (samples_of b)
 picture b l h = record {
   count = length-map b.pieces mark_of ∙ l.places;
   each = λ i. subst (λ (m : Mark). Shows m (scans.interval_of b.scan i) (samples_of b)) (sym (marks_at b.pieces i)) (shows b l h i (piece_at b i) refl);
 }
 
--- a picture of a scan is one of each equal scan
+-- an image of a scan is one of each equal scan
 pub same_picture : (a s : ScanValue) (marks : List Mark) (f : ℕ → ℕ → ℕ → ℕ) → IsSameScan a s → IsPicture a marks f → IsPicture s marks f
 same_picture a s marks f same p = record {
   count = p.count ∙ ap (λ (l : List (List ℕ)). length l) same.1;
@@ -188,7 +188,7 @@ damaged_counts [] = refl
 damaged_counts (p ∷ ps) =
     omega (arith, damaged_one p, damaged_counts ps, sum_by-cons (λ (m : Mark). cond (is_damaged m) 1 0) (mark_of p) (map mark_of ps), sum_by-cons (λ (q : Option PieceValue). cond (is_damaged_piece q) 1 0) p ps)
 
--- marks by the pieces at their places
+-- marks by the pieces at their positions
 pub first_marked : (b : BoardValue) (n : ℕ) → ((i : ℕ) → i < n → mark_at b i ≢ Blank) → ((i : ℕ) → n ≤ i → mark_at b i ≡ Blank) → AreFirst n (marks_of b)
 first_marked b n marked blank = record {
   marked = λ i lt. subst (λ (m : Mark). m ≢ Blank) (sym (marks_at b.pieces i)) (marked i lt);

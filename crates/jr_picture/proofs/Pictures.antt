@@ -1,4 +1,4 @@
--- A scan's first intervals have one picture.
+-- A scan's first intervals have one image.
 use Rattle.std.proofs.Common.{◌≡◌, ℕ, ◌+◌, ◌*◌, ◌/◌, ◌<◌, ◌≤◌, inl, inr, List, [], ◌∷◌, ◌++◌, length, refl, sym, ap, subst, ◌∙◌, arith}
 use Rattle.std.specs.Prelude.{ℤ}
 use Rattle.std.proofs.lemmas.Bool.{cases_lt}
@@ -34,7 +34,7 @@ same_mark i f g Blank Sound a b p q = sym (a refl)
 same_mark i f g Blank Damaged a b p q = sym (a refl)
 same_mark i f g Blank Blank a b p q = refl
 
--- what an interval with one mark shows is one
+-- the samples that an interval shows are determined by its mark
 pub same_shown : OneDecoding → OneFront → (i : IntervalValue) (f g : ℕ → ℕ → ℕ → ℕ) (m : Mark) → Shows m i f → Shows m i g → (c x y : ℕ) → Holds i c x y → f c x y ≡ g c x y
 same_shown one front i f g Sound p q c x y held =
     p.samples c x y held ∙ ap (λ (zs : List (List ℤ)). decoded_sample i zs c x y) (one i p.blocks q.blocks p.decodes q.decodes) ∙ sym (q.samples c x y held)
@@ -89,7 +89,7 @@ module _ (h : HeadValue) (l : IsLawful h) (f g : ℕ → ℕ → ℕ → ℕ) (y
   unfolding pixels_of
   line_same = flat_map-moved (pixel_of h f y) (pixel_of h g y) 0 0 h.width (λ x left. pixel_same (0 + x) (omega (arith, left)))
 
--- the text reads the picture's samples alone
+-- the text reads the image's samples alone
 module _ (h : HeadValue) (l : IsLawful h) (f g : ℕ → ℕ → ℕ → ℕ) (same : (c x y : ℕ) → c < components_of h → x < samples_across h c → y < samples_down h c → f c x y ≡ g c x y) where
   line_there : (y : ℕ) → y < h.height → pixels_of h f y 0 h.width ≡ pixels_of h g y 0 h.width
   line_there y top =
@@ -105,7 +105,7 @@ module _ (h : HeadValue) (l : IsLawful h) (f g : ℕ → ℕ → ℕ → ℕ) (s
   unfolding text_of
   text_same = ap (λ (s : List ℕ). header_of h ++ s) lines_same
 
--- a scan's first n intervals have one picture
+-- a scan's first n intervals have one image
 pub one_picture : (scan : ScanValue) (n : ℕ) → HasOnePicture scan n
 one_picture scan n = record {
   marks = λ k m f g a b. same_marks one_decoding one_front scan n k m f g a.picture b.picture a.first b.first;

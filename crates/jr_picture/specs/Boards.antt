@@ -41,7 +41,7 @@ pub record IsPieceOf (scan : ScanValue) (i : ℕ) (p : PieceValue) : Type 0 wher
   pub interval : IsFor p.interval scan
   pub outcome : IsOutcome p
 
--- there is a place for each interval, and each piece is that of its place
+-- there is an entry for each interval, and each piece is that of its entry
 pub record IsLawfulBoard (b : BoardValue) : Type 0 where
   pub places : length b.pieces ≡ length b.scan.intervals
   pub each : (i : ℕ) (p : PieceValue) → piece_at b i ≡ Some p → IsPieceOf b.scan i p

@@ -1,4 +1,4 @@
--- What a picture of a scan shows, by the marks of its intervals. f says its samples by component, column and line.
+-- What an image of a scan shows, by the marks of its intervals. f is its samples by component, column and line.
 use Rattle.std.specs.Prelude.{◌≡◌, ◌≢◌, ℕ, ◌+◌, ◌*◌, ◌/◌, ◌%◌, ◌<◌, ◌≤◌, ◌==◌, Bool, true, false, List, length, count_by, ℤ, slice_index, slice_index_or, if◌then◌else◌, min, Option, Some, None}
 use Rattle.jr_segments.specs.declared.kind.Kind.{Kind}
 use Rattle.jr_segments.specs.declared.kind.Kind.TheVariants.{Grey, Rgb, Ycc}
@@ -28,7 +28,7 @@ blank_of Ycc c = if c == 0 then 0 else 128
 abbrev pub unit_number : HeadValue → Spot → ℕ
 unit_number h s = within_interval h s.mcu * blocks_of h + s.block
 
--- the picture has this sample, and the interval holds it
+-- the image has this sample, and the interval holds it
 pub record Holds (i : IntervalValue) (c x y : ℕ) : Type 0 where
   pub component : c < components_of i.head
   pub column : x < samples_across i.head c
@@ -95,13 +95,13 @@ pub record AreFirst (n : ℕ) (marks : List Mark) : Type 0 where
   pub marked : (i : ℕ) → i < n → mark_in marks i ≢ Blank
   pub blank : (i : ℕ) → n ≤ i → mark_in marks i ≡ Blank
 
--- a picture of a scan, of which the first n intervals are marked, and no other
+-- an image of a scan, of which the first n intervals are marked, and no other
 pub record ShowsFirst (scan : ScanValue) (n : ℕ) (marks : List Mark) (f : ℕ → ℕ → ℕ → ℕ) : Type 0 where
   pub lawful : heads.IsLawful scan.head
   pub picture : IsPicture scan marks f
   pub first : AreFirst n marks
 
--- all such pictures have equal marks and the same text
+-- all such images have equal marks and the same text
 pub record HasOnePicture (scan : ScanValue) (n : ℕ) : Type 0 where
   pub marks : (k m : List Mark) (f g : ℕ → ℕ → ℕ → ℕ) → ShowsFirst scan n k f → ShowsFirst scan n m g → k ≡ m
   pub text : (k m : List Mark) (f g : ℕ → ℕ → ℕ → ℕ) → ShowsFirst scan n k f → ShowsFirst scan n m g → text_of scan.head f ≡ text_of scan.head g

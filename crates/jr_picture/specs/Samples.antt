@@ -1,4 +1,4 @@
--- What a board shows at a place.
+-- What a board shows at a position.
 use Rattle.std.specs.Prelude.{ℕ, ◌+◌, ◌*◌, ◌/◌, ◌%◌, List, slice_index, slice_get, Option, Some, None}
 use Rattle.jr_segments.specs.declared.kind.Kind.{Kind}
 use Rattle.jr_head.specs.Geometry.{blocks_of}
@@ -14,12 +14,12 @@ abbrev pub sample_in : Option (List ℕ) → ℕ → ℕ
 sample_in None place = 128
 sample_in (Some samples) place = slice_index samples place
 
--- the sample at a place of data unit k of an interval, whose piece is posted or not
+-- the sample at a position in data unit k of an interval, whose piece is posted or not
 abbrev pub sample_of_piece : Kind → ℕ → Option PieceValue → ℕ → ℕ → ℕ
 sample_of_piece kind c None k place = blank_of kind c
 sample_of_piece kind c (Some p) k place = sample_in (slice_get p.samples k) place
 
--- the sample at a place of a data unit of an MCU
+-- the sample at a position in a data unit of an MCU
 abbrev pub sample_in_mcu : BoardValue → ℕ → ℕ → ℕ → ℕ → ℕ
 sample_in_mcu b c mcu block place =
     let h = b.scan.head in

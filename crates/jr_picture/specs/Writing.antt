@@ -8,7 +8,7 @@ use Rattle.jr_picture.specs.declared.counts.Counts.{Counts}
 use Rattle.jr_picture.specs.declared.mark.Mark.{Mark}
 use Rattle.jr_picture.specs.Headline.{AreCounts, ShowsFirst}
 
--- the text of a picture of the scan was written, of which the first n intervals are marked; these are the marks' counts
+-- the text of an image of the scan was written, of which the first n intervals are marked; these are the marks' counts
 pub record WritesPicture {T : Type 0} (known : T → Option (List ℕ)) (old new : Tally T) (scan : ScanValue) (n : ℕ) (counts : Counts) : Type 0 where
   pub marks : List Mark
   pub f : ℕ → ℕ → ℕ → ℕ

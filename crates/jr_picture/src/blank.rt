@@ -5,7 +5,7 @@ ghost use Rattle.jr_picture.specs.Headline.{blank_of};
 
 use jr_head::Kind;
 
-/// Returns the sample of component c where an interval is not decoded: black.
+/// Returns the sample of component c if its interval is not decoded: black.
 pub fn blank_sample(kind: Kind, c: u32) -> u8
     ensures { result ≡ blank_of kind c }
 {

@@ -1,4 +1,4 @@
--- Each interval has an outcome: the samples of its decoding, or those of its longest front.
+-- Each interval has an outcome: the samples of its decoding, or those of its longest prefix.
 use Rattle.std.proofs.Common.{ℕ, true, false, inl, inr, List, [], ◌∷◌, ◌++◌, length, refl, sym, subst, append_assoc}
 use Rattle.std.specs.Prelude.{◌⊎◌, ℤ}
 use Rattle.std.proofs.lemmas.List.{append-nil}
@@ -11,14 +11,14 @@ use Rattle.jr_idct.specs.Transform.{samples}
 use Rattle.jr_piece.specs.Outcome.{AreSamples, HasOutcome}
 use Rattle.jr_piece.proofs.Outcomes.{no_samples, more_samples}
 
--- the laws of a longest front and of a decoding
+-- the laws of a longest prefix and of a decoding
 abbrev pub HasFront : Type 0
 HasFront = (i : IntervalValue) → (k : ℕ) × (zs : List (List ℤ)) × LongestFront i k zs
 
 abbrev pub DecodesOrNot : Type 0
 DecodesOrNot = (i : IntervalValue) → ((zs : List (List ℤ)) × Decodes i zs) ⊎ HasNoDecoding i
 
--- the samples of further blocks behind those that are there
+-- the samples of further blocks after the given ones
 samples_on : (h : HeadValue) (done more : List (List ℤ)) (units : List (List ℕ)) → AreSamples h done units → (us : List (List ℕ)) × AreSamples h (done ++ more) us
 samples_on h done [] units s = (units, subst (λ zs. AreSamples h zs units) (sym (append-nil done)) s)
 samples_on h done (z ∷ more) units s =

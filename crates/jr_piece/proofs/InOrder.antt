@@ -19,7 +19,7 @@ shared_at strips k strip s lt is value = slice_get-map arc_value strips k ∙ ap
 same_at : (ss : List StripValue) (k j : ℕ) (t s : StripValue) → k ≡ j → slice_get ss k ≡ Some t → slice_get ss j ≡ Some s → t ≡ s
 same_at ss k j t s e a b = sym (get_or_from_slice_get ss k t s a) ∙ ap (λ (n : ℕ). get_or ss n s) e ∙ get_or_from_slice_get ss j s s b
 
--- what holds of the strips before strip k, and of strip k
+-- the facts about the strips before strip k, and about strip k
 pub one_more : (P : ℕ → StripValue → Type 0) (ss : List StripValue) (k : ℕ) (t : StripValue) → slice_get ss k ≡ Some t → P k t
     → ((j : ℕ) (s : StripValue) → j < k → slice_get ss j ≡ Some s → P j s) → (j : ℕ) (s : StripValue) → j < k + 1 → slice_get ss j ≡ Some s → P j s
 one_more P ss k t is last before j s lt at = elim (cases_lt j k) [
@@ -32,7 +32,7 @@ one_more P ss k t is last before j s lt at = elim (cases_lt j k) [
 pub all_of : (P : StripValue → Type 0) (ss : List StripValue) (n : ℕ) → length ss ≤ n → ((j : ℕ) (s : StripValue) → j < n → slice_get ss j ≡ Some s → P s) → All P ss
 all_of P ss n long each = λ k d lt. each k (get_or ss k d) (omega (arith, lt, long)) (slice_get-get_or ss k d lt)
 
--- what the tests ask of strip k, where the strips before it end
+-- the tests of strip k, if the strips before it end there
 abbrev pub IsNext : (each front end : ℕ) (s : StripValue) → Type 0
 IsNext each front end s = (0 < s.mcus) × (s.first ≡ end) × (s.mcus ≡ min each (front - end))
 
@@ -53,7 +53,7 @@ next_end each front k end e = omega (arith, e, add-mul k 1 each)
 pub refused : (each front k end : ℕ) (ss : List StripValue) (s : StripValue) → each ≡ mcus_of_each ss → end ≡ min front (k * each) → slice_get ss k ≡ Some s → (IsNext each front end s → ⊥) → AreInOrder front ss → ⊥
 refused each front k end ss s is e at none o = none (at_next each front k end s e (subst (λ (n : ℕ). IsStripAt n front k s) (sym is) (o.at k s at)))
 
--- all strips are passed
+-- all strips are tested
 pub ended : (each front n end : ℕ) (ss : List StripValue) → each ≡ mcus_of_each ss → end ≡ min front (n * each) → length ss ≡ n
     → ((j : ℕ) (s : StripValue) → j < n → slice_get ss j ≡ Some s → IsStripAt each front j s) → (IsTrue (nat_eq end front) → AreInOrder front ss) × (AreInOrder front ss → IsTrue (nat_eq end front))
 ended each front n end ss is e long before = (

@@ -16,7 +16,7 @@ use Rattle.jr_piece.specs.Outcome.{AreSamples, IsSound, IsDamaged, IsOutcome}
 pub no_samples : (h : HeadValue) → AreSamples h [] []
 no_samples h = record { count = refl; each = λ n lt. absurd (omega arith) }
 
--- the samples of one more block
+-- the samples after one block is appended
 pub more_samples : (h : HeadValue) (zs : List (List ℤ)) (units : List (List ℕ)) (z : List ℤ) (u : List ℕ) → AreSamples h zs units → u ≡ samples z (quantiser_of h (component h (length zs))) → AreSamples h (zs ++ z ∷ []) (units ++ u ∷ [])
 more_samples h zs units z u s is =
     record {
@@ -47,7 +47,7 @@ first_samples h zs units m s =
 pub same_samples : (h : HeadValue) (zs : List (List ℤ)) (us vs : List (List ℕ)) → AreSamples h zs us → AreSamples h zs vs → us ≡ vs
 same_samples h zs us vs a b = ext_get_or [] us vs (a.count ∙ sym b.count) (λ n lt. a.each n (omega (arith, a.count)) ∙ sym (b.each n (omega (arith, a.count))))
 
--- what a reader that has ended tells of its interval
+-- what a reader that has ended reports about its interval
 pub record Ended (i : IntervalValue) (zs : List (List ℤ)) (units : List (List ℕ)) (is_sound : Bool) (front : ℕ) : Type 0 where
   pub samples : AreSamples i.head zs units
   pub longest : LongestFront i front zs
@@ -68,14 +68,14 @@ outcome i zs units is_sound front e =
       damaged = λ f. record { undecodable = e.none f; blocks = zs; longest = e.longest; samples = e.samples };
     }
 
--- the laws of one decoding and of one front
+-- the laws of one decoding and of one prefix
 abbrev pub OneDecoding : Type 0
 OneDecoding = (i : IntervalValue) (zs ys : List (List ℤ)) → Decodes i zs → Decodes i ys → zs ≡ ys
 
 abbrev pub OneFront : Type 0
 OneFront = (i : IntervalValue) (k : ℕ) (zs ys : List (List ℤ)) → Front i k zs → Front i k ys → zs ≡ ys
 
--- what a piece shows beside its interval
+-- what a piece has in addition to its interval
 abbrev piece : IntervalValue → Bool → ℕ → List (List ℕ) → PieceValue
 piece i b k us = record { interval = i; is_sound = b; front = k; samples = us }
 

@@ -1,21 +1,21 @@
--- Data units that are put into a list, those of an MCU and of the next one side by side.
+-- Data units that are written into a list, those of an MCU and of the next one side by side.
 use Rattle.std.proofs.Common.{◌≡◌, ◌≢◌, ℕ, ◌+◌, ◌-◌, ◌*◌, ◌<◌, ◌≤◌, List, [], inl, inr, length, get_or, set, sym, ap, subst, ◌∙◌, arith}
 use Rattle.std.proofs.lemmas.Bool.{cases_lt}
 use Rattle.std.proofs.lemmas.List.{get_or-set_same, get_or-set_other, length-set}
 
--- of `all` data units f from place `at` on the first j are put, and the first j of those from number `count` on
+-- of `all` data units f, starting at position `at`, the first j are written, and the first j starting at number `count`
 pub record Stand (f : ℕ → List ℕ) (at count all j : ℕ) (old us : List (List ℕ)) : Type 0 where
   pub long : length us ≡ length old
   pub kept : (k : ℕ) → k < at → get_or us k [] ≡ get_or old k []
   pub first : (k : ℕ) → k < j → get_or us (at + k) [] ≡ f k
   pub second : (k : ℕ) → k < j → count + k < all → get_or us (at + (count + k)) [] ≡ f (count + k)
 
--- as many as before
+-- the length is unchanged
 pub as_long : (us mid : List (List ℕ)) (n : ℕ) (x : List ℕ) → mid ≡ set us n x → length mid ≡ length us
 as_long us mid n x e = ap (λ (l : List (List ℕ)). length l) e ∙ length-set us n x
 
 module _ (f : ℕ → List ℕ) (at count all j : ℕ) (old us : List (List ℕ)) (s : Stand f at count all j old us) where
-  -- one more, and none of the others
+  -- one more is written, and none of the others
   pub put_one : (new : List (List ℕ)) → new ≡ set us (at + j) (f j) → j < count → at + j < length us → all ≤ count + j → Stand f at count all (j + 1) old new
   put_one new e low inside none = subst (Stand f at count all (j + 1) old) (sym e) (record {
     long = length-set us (at + j) (f j) ∙ s.long;
@@ -32,7 +32,7 @@ module _ (f : ℕ → List ℕ) (at count all j : ℕ) (old us : List (List ℕ)
       other : (k : ℕ) → k ≢ at + j → get_or (set us (at + j) (f j)) k [] ≡ get_or us k []
       other k away = get_or-set_other us (at + j) k (f j) [] away
 
-  -- one more of both
+  -- one more of both is written
   pub put_two : (mid new : List (List ℕ)) (next : ℕ) → mid ≡ set us (at + j) (f j) → new ≡ set mid next (f (count + j)) → next ≡ at + (count + j) → j < count → next < length us → Stand f at count all (j + 1) old new
   put_two mid new next e d place low inside = subst (Stand f at count all (j + 1) old) (sym (d ∙ ap (λ n. set mid n (f (count + j))) place)) (record {
     long = length-set mid (at + (count + j)) (f (count + j)) ∙ long ∙ s.long;
@@ -63,7 +63,7 @@ module _ (f : ℕ → List ℕ) (at count all j : ℕ) (old us : List (List ℕ)
       behind : (k : ℕ) → k ≢ at + (count + j) → get_or (set mid (at + (count + j)) (f (count + j))) k [] ≡ get_or mid k []
       behind k away = get_or-set_other mid (at + (count + j)) k (f (count + j)) [] away
 
--- all of them
+-- all of them are written
 pub all_put : (f : ℕ → List ℕ) (at count all j : ℕ) (old us : List (List ℕ)) → Stand f at count all j old us → count ≤ j → all ≤ 2 * count → (k : ℕ) → k < all → get_or us (at + k) [] ≡ f k
 all_put f at count all j old us s done few k lt = elim (cases_lt k count) [
   | inl l ↦ s.first k (omega (arith, l, done))

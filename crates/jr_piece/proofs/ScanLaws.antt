@@ -1,4 +1,4 @@
--- The laws of intervals that proofs of pieces rest on.
+-- The laws of intervals that the proofs about pieces use.
 use Rattle.std.proofs.Common.{subst}
 use Rattle.jr_code.proofs.CodeLemmas.{one_word}
 use Rattle.jr_scan.specs.IntervalValue.{IntervalValue}

@@ -29,7 +29,7 @@ record IsOne (i : IntervalValue) (each front k : ℕ) (s : StripValue) : Type 0 
   is : IsStrip s
   of : s.interval ≡ i
 
--- strips of an interval from strip k on
+-- strips of an interval starting at strip k
 abbrev From : IntervalValue → ℕ → ℕ → ℕ → List StripValue → Type 0
 From i each front k ss = (j : ℕ) (s : StripValue) → slice_get ss j ≡ Some s → IsOne i each front (k + j) s
 
@@ -65,11 +65,11 @@ even i each front k (s ∷ (t ∷ more)) from =
 abbrev strip_of : IntervalValue → ℕ → ℕ → List (List ℕ) → StripValue
 strip_of i first mcus us = record { interval = i; first = first; mcus = mcus; samples = us }
 
--- the MCUs from an MCU to the front, as one strip
+-- the MCUs starting at MCU `first` and before `front`, as one strip
 abbrev strip_to : IntervalValue → ℕ → ℕ → List StripValue → StripValue
 strip_to i front first ss = strip_of i first (front - first) (units_of_strips ss)
 
--- no MCUs at the front
+-- no MCUs, at `front`
 none : (i : IntervalValue) (front : ℕ) (zs : List (List ℤ)) → Front i front zs → IsStrip (strip_to i front front [])
 none i front zs f =
     let nothing : drop (front * length (order_of i.head)) zs ≡ [] = drop_all (front * length (order_of i.head)) zs (omega (arith, f.mcus.0)) in
@@ -100,7 +100,7 @@ together meet i each front zs f (s ∷ more) k from all =
     same : (a b : IntervalValue) (p q m : ℕ) → a ≡ b → p ≡ q → m ≡ front - q → (us : List (List ℕ)) → strip_of a p m us ≡ strip_of b q (front - q) us
     same a b p q m e g h us = rw (e, g, h) refl
 
--- each element of a list of which all do
+-- each element of a list whose elements all satisfy the predicate
 each_of : (P : StripValue → Type 0) (ss : List StripValue) → All P ss → (j : ℕ) (s : StripValue) → slice_get ss j ≡ Some s → P s
 each_of P ss all j s e = subst P (get_or_from_slice_get ss j s s e) (all j s (slice_get_within ss j s e))
 
@@ -113,7 +113,7 @@ pub record Ordered (i : IntervalValue) (front : ℕ) (ss : List StripValue) : Ty
   pub are : All IsStrip ss
   pub order : AreInOrder front ss
 
--- what the tests of a list of Arcs tell of the same list
+-- if the tests of a list of Arcs succeed, the strips of the same list are in order
 pub ordered : (i : IntervalValue) (front : ℕ) (strips tested : List (Arc StripValue Global)) (t : Bool) → tested ≡ strips → t ≡ true → (t ≡ true → AreInOrder front (shared_strips tested)) → (t ≡ true → All IsStrip (shared_strips tested))
     → AreOf i (shared_strips strips) → Ordered i front (shared_strips strips)
 ordered i front strips tested t e is order are of = record {

@@ -1,4 +1,4 @@
--- Runs of an interval that follow one another, and the fronts that they are.
+-- Runs of an interval that follow one another, and the prefixes that they are.
 use Rattle.std.proofs.Common.{◌≡◌, ℕ, zero, suc, ◌+◌, ◌-◌, ◌*◌, ◌^◌, ◌<◌, ◌≤◌, min, inl, inr, Option, Some, None, List, [], ◌++◌, length, take, drop, length-append, refl, sym, ap, subst, ◌∙◌, arith}
 use Rattle.std.specs.Prelude.{◌↔◌, ℤ}
 use Rattle.std.specs.List.{All}
@@ -25,7 +25,7 @@ use Rattle.jr_piece.proofs.Strips.{ShorterFront}
 pub written : (n : ℕ) (xs ys : List (List ℤ)) → length xs ≡ n → take n (xs ++ ys) ≡ xs
 written n xs ys e = ap (λ (k : ℕ). take k (xs ++ ys)) (sym e) ∙ take-append_seam xs ys
 
--- what a reader of whole MCUs has read or skipped that had read nothing of a run starting at this position
+-- what a reader of whole MCUs has read or skipped, if it had read nothing of a run starting at this position
 module _ (r r' : McuReaderValue) (j i : IntervalValue) (from : Place) (m n : ℕ) (ys : List (List ℤ)) (same : j ≡ i) (run : r.run ≡ run_from j from m) (start : r.mcu ≡ 0) (run' : r'.run ≡ r.run) (mcu : r'.mcu ≡ r.mcu + n)
     (read : HasRead r' ys) where
   its_run : r'.run ≡ run_from i from m
@@ -46,7 +46,7 @@ module _ (r r' : McuReaderValue) (j i : IntervalValue) (from : Place) (m n : ℕ
   pub passed_part : (n < m → HasEnded r') → FirstMcus (run_from i from m) n ys
   passed_part ended = record { to = r'.place; run = passed_place; none = λ lt. none_follows (ended lt) lt }
 
-  -- where they are fewer than may be, none follows: there was room for one more, or the bits can code no more
+  -- if fewer than `most` are read, none follows: one more had space, or the bits can code no more
   pub read_part : (most : ℕ) → IsLawful i.head → from.bit ≤ 8 * length i.bytes → (n < most → HasEnded r') → ((k : ℕ) (zs : List (List ℤ)) (to : Place) → IsRun (run_from i from k) zs to AllRead → k ≤ m → k ≤ most) → FirstMcus (run_from i from m) n ys
   read_part most lawful at ended enough = record {
     to = r'.place;
@@ -69,7 +69,7 @@ RunsMeet = (i : IntervalValue) (p : Place) (k m : ℕ) (a : RunRead (run_from i 
 abbrev read : (r : RunOf) (zs : List (List ℤ)) (to : Place) (end : RunEnd) → IsRun r zs to end → RunRead r
 read r zs to end is = record { blocks = zs; to = to; end = end; is = is }
 
--- a reader that has ended has read the blocks of its run, where this has all its MCUs
+-- a reader that has ended has read the blocks of its run, if this has all its MCUs
 pub all_read : OneRun → (r : McuReaderValue) (zs ys : List (List ℤ)) (to : Place) → IsLawful r.run.interval.head → IsRun r.run ys to AllRead → HasRead r zs → HasEnded r → zs ≡ ys
 all_read one r zs ys to lawful run has ended =
     let s = has.run in
@@ -87,7 +87,7 @@ all_read one r zs ys to lawful run has ended =
           (one r.run (read r.run zs r.place AllRead here) (read r.run ys to AllRead run) lawful).0
     ]
 
--- where no whole MCU follows, the front is the longest
+-- if no whole MCU follows, the prefix is the longest
 stuck : OneRun → ShorterFront → (i : IntervalValue) (k : ℕ) (zs : List (List ℤ)) (to : Place) → IsLawful i.head → IsRun (run_from i start_of_interval k) zs to AllRead → HasNoMcu i to → k ≤ i.mcus → LongestFront i k zs
 stuck one shorter i k zs to lawful r none few = record { front = front_of_run i k zs to r few; longest = λ j ys f. most j ys f }
   where
@@ -103,7 +103,7 @@ stuck one shorter i k zs to lawful r none few = record { front = front_of_run i 
           absurd (let z : NoMcu ≡ AllRead = e in cc)
     ]
 
--- all MCUs are the longest front
+-- all MCUs are the longest prefix
 whole : (i : IntervalValue) (k : ℕ) (zs : List (List ℤ)) → Front i k zs → k ≡ i.mcus → LongestFront i k zs
 whole i k zs f e = record { front = f; longest = λ j ys g. omega (arith, g.at_most, e) }
 
@@ -126,7 +126,7 @@ at_start i = record {
   short = λ e. let z : Some start_of_interval ≡ None = e in cc;
 }
 
--- the first MCUs of an interval, and those of the run behind them
+-- the first MCUs of an interval, and those of the run after them
 module _ (one : OneRun) (meet : RunsMeet) (shorter : ShorterFront) (i : IntervalValue) (lawful : IsLawful i.head) (first : ℕ) (zs : List (List ℤ)) (p : Place) (next : IsNext i first zs p) (n m : ℕ) (ys : List (List ℤ)) (here : FirstMcus (run_from i p m) n ys) (few : first + n ≤ i.mcus) where
   joined : IsRun (run_from i start_of_interval (first + n)) (zs ++ ys) here.to AllRead
   joined = meet i start_of_interval first n (read _ zs p AllRead next.run) (read _ ys here.to AllRead here.run) lawful refl
@@ -154,7 +154,7 @@ module _ (one : OneRun) (meet : RunsMeet) (shorter : ShorterFront) (i : Interval
     short = λ e. let lt = none e in omega (arith, lt, room);
   }
 
-  -- fewer than are asked for are read only where no further one follows
+  -- fewer than are asked for are read only if no further one follows
   ended : (most : ℕ) → Front i first zs → m ≡ min most (i.mcus - first) → n < most → HasLongestFront i (first + n)
   ended most f asked few_read = elim (cases_lt n m) [
     | inl l ↦ (zs ++ ys, longest l)
@@ -192,7 +192,7 @@ whole_strip one law r p k e all few zs f =
     let run : IsRun (whole_run i) k.blocks p AllRead = subst (λ (m : ℕ). IsRun (run_from i start_of_interval m) k.blocks p AllRead) all n.run in
     subst (Decodes i) same ((law i k.blocks).1 (p, run, omega (arith, left_is i p, few)))
 
--- where they are not, the interval has no decoding
+-- otherwise the interval has no decoding
 pub is_damaged : OneRun → WholeRun → (r : ReadingValue) → IsLawful r.interval.head → IsReading r → ((p : Place) → r.next ≡ Some p → r.first ≡ r.interval.mcus → 8 * length r.interval.bytes - p.bit < 8 → ⊥)
     → HasLongestFront r.interval r.first → HasNoDecoding r.interval
 is_damaged one law r lawful k none all_there ys d =

@@ -19,11 +19,11 @@ use Rattle.jr_piece.proofs.Outcomes.{first_samples, same_samples, OneFront}
 abbrev pub ShorterFront : Type 0
 ShorterFront = (i : IntervalValue) (j k : ℕ) (zs : List (List ℤ)) → j ≤ k → Front i k zs → Front i j (take (j * length (order_of i.head)) zs)
 
--- behind whole MCUs the components come as from the start on
+-- after whole MCUs the components repeat from the first
 pub component_on : (h : HeadValue) (k n : ℕ) → component h (k * length (order_of h) + n) ≡ component h n
 component_on h k n = ap (λ (j : ℕ). get_or (order_of h) j 0) (mul-add-mod_self_right k (length (order_of h)) n)
 
--- the samples of the blocks behind the first MCUs
+-- the samples of the blocks after the first MCUs
 pub later_samples : (h : HeadValue) (zs : List (List ℤ)) (us : List (List ℕ)) (k : ℕ) → AreSamples h zs us → AreSamples h (drop (k * length (order_of h)) zs) (drop (k * length (order_of h)) us)
 later_samples h zs us k s =
     let m = k * length (order_of h) in
@@ -36,7 +36,7 @@ later_samples h zs us k s =
           ∙ ap (λ (z : List ℤ). samples z (quantiser_of h (component h n))) (sym (get_or-drop m zs n []));
     }
 
--- every piece shows the longest front of its interval
+-- every piece has the samples of the longest prefix of its interval
 pub record Fronted (i : IntervalValue) (front : ℕ) (us : List (List ℕ)) : Type 0 where
   pub blocks : List (List ℤ)
   pub longest : LongestFront i front blocks
@@ -71,7 +71,7 @@ final one shorter p s e o t =
     let there : AreSamples i.head (drop (s.first * per) all) s.samples = subst (λ (zs : List (List ℤ)). AreSamples i.head zs s.samples) t.are.last t.samples in
     record { few = few; samples = same_samples i.head (drop (s.first * per) all) s.samples (drop (s.first * per) (take (j * per) p.samples)) there last }
 
--- the samples of blocks behind whole MCUs, and of those before them
+-- the samples of blocks after whole MCUs, and of those before them
 pub appended : (h : HeadValue) (xs ys : List (List ℤ)) (us vs : List (List ℕ)) (k : ℕ) → length xs ≡ k * length (order_of h) → AreSamples h xs us → AreSamples h ys vs → AreSamples h (xs ++ ys) (us ++ vs)
 appended h xs ys us vs k whole a b =
     record {
@@ -89,7 +89,7 @@ appended h xs ys us vs k whole a b =
         let z : get_or (xs ++ ys) n [] ≡ get_or ys m [] = get_or-append_right xs ys (length xs) n [] refl (omega (arith, e)) ∙ ap (λ (j : ℕ). get_or ys j []) (omega (arith, e)) in
         u ∙ b.each m lt ∙ ap (λ (j : ℕ). samples (get_or ys m []) (quantiser_of h j)) (sym c) ∙ ap (λ (x : List ℤ). samples x (quantiser_of h (component h n))) (sym z)
 
--- samples of blocks behind whole MCUs that are put behind those of the blocks before them
+-- samples of blocks after whole MCUs, written after those of the blocks before them
 pub placed : (h : HeadValue) (xs ys : List (List ℤ)) (us new : List (List ℕ)) (k : ℕ) → length xs ≡ k * length (order_of h) → AreSamples h xs us → length new ≡ length xs + length ys → ((n : ℕ) → n < length xs → get_or new n [] ≡ get_or us n [])
     → ((n : ℕ) → n < length ys → get_or new (length xs + n) [] ≡ unit_of h ys n) → AreSamples h (xs ++ ys) new
 placed h xs ys us new k whole a long kept here =
@@ -157,7 +157,7 @@ meet one shorter a b next s t =
       samples = appended i.head xs ys a.samples b.samples a.mcus count shows t.samples;
     })
 
--- a strip of all MCUs that there are tells the outcome
+-- a strip of all whole MCUs of the interval determines the outcome
 pub all_there : OneFront → (s : StripValue) (t : Bool) → IsStrip s → IsWhole s → TellsSound t s.interval → IsOutcome (piece_of t s)
 all_there one s t is whole told =
     let i = s.interval in

@@ -1,4 +1,4 @@
--- What is read of an interval is what each piece of it shows.
+-- What is read of an interval is what each piece of it contains.
 use Rattle.std.proofs.Common.{◌≡◌, ℕ, ◌*◌, ◌<◌, ◌≤◌, Bool, true, false, List, [], length, get_or, take, refl, sym, ap, subst, ◌∙◌, arith}
 use Rattle.std.specs.Prelude.{ℤ}
 use Rattle.std.proofs.lemmas.List.{get_or-take, get_or_default, get_or_past}
@@ -15,7 +15,7 @@ use Rattle.jr_piece.specs.Units.{grey_unit, unit_in_piece, zero_block}
 use Rattle.jr_piece.proofs.Outcomes.{OneFront}
 use Rattle.jr_piece.proofs.Strips.{ShorterFront, Fronted, fronted}
 
--- what a piece shows at the data units of a front, and behind the longest one
+-- what a piece contains at the data units of a prefix, and after the longest one
 module _ (one : OneFront) (shorter : ShorterFront) (i : IntervalValue) (p : PieceValue) (same : p.interval ≡ i) (o : IsOutcome p) (m : ℕ) (zs : List (List ℤ)) where
   abbrev n : ℕ
   n = length (order_of i.head)
@@ -38,7 +38,7 @@ module _ (one : OneFront) (shorter : ShorterFront) (i : IntervalValue) (p : Piec
       let past : length p.samples ≤ j = omega (arith, le, f.samples.count, f.longest.front.mcus.0, ap (λ (k : ℕ). k * n) e) in
       sym (get_or_past p.samples j grey_unit past)
 
--- whether the interval has a decoding is what each piece of it tells
+-- each piece of the interval says whether it has a decoding
 pub tells : (p : PieceValue) (i : IntervalValue) (zs : List (List ℤ)) (b : Bool) → p.interval ≡ i → IsOutcome p → (b ≡ true → Decodes i zs) → (b ≡ false → HasNoDecoding i) → p.is_sound ≡ b
 tells p i zs b same o sound damaged = go p.is_sound b refl refl
   where
@@ -52,6 +52,6 @@ tells p i zs b same o sound damaged = go p.is_sound b refl refl
 abbrev pub ZerosAreGrey : Type 0
 ZerosAreGrey = (q : List ℕ) → samples zero_block q ≡ grey_unit
 
--- data unit k of blocks, where block k is of zeros
+-- data unit k of blocks, if block k is of zeros
 pub zero_unit : ZerosAreGrey → (h : HeadValue) (zs : List (List ℤ)) (k : ℕ) → get_or zs k [] ≡ zero_block → unit_of h zs k ≡ grey_unit
 zero_unit grey h zs k zeros = ap (λ (z : List ℤ). samples z (quantiser_of h (component h k))) zeros ∙ grey (quantiser_of h (component h k))

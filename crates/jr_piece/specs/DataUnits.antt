@@ -20,7 +20,7 @@ abbrev pub units_held : Held → List (List ℕ)
 units_held (InList units) = units.items
 units_held (InStrips strips each) = units_of_strips (shared_strips strips.items)
 
--- where strips hold them, data unit k is found by k / each and k % each
+-- if strips hold them, data unit k is found by k / each and k % each
 abbrev pub AreFound : Held → Type 0
 AreFound (InList units) = ⊤
 AreFound (InStrips strips each) = (0 < each) × AreEven each (shared_strips strips.items)

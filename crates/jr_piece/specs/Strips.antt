@@ -19,7 +19,7 @@ use Rattle.jr_piece.specs.StripValue.{CodedStripValue, PlacedStripValue, StripVa
 abbrev pub units_before : IntervalValue → ℕ → ℕ
 units_before i k = k * length (order_of i.head)
 
--- the interval's bits begin with the blocks of its first MCUs, and these are those from MCU `first` on
+-- the interval's bits begin with the blocks of its first MCUs, and these are those starting at MCU `first`
 pub record AreBlocks (i : IntervalValue) (first mcus : ℕ) (ys : List (List ℤ)) : Type 0 where
   pub all : List (List ℤ)
   pub front : Front i (first + mcus) all
@@ -61,13 +61,13 @@ TellsSound false i = HasNoDecoding i
 abbrev pub piece_of : Bool → StripValue → PieceValue
 piece_of is_sound s = record { interval = s.interval; is_sound = is_sound; front = s.mcus; samples = s.samples }
 
--- these are the blocks of the first n MCUs of a run; where they are fewer than may be, no further one follows
+-- these are the blocks of the first n MCUs of a run; if they are fewer than allowed, no further one follows
 pub record FirstMcus (r : RunOf) (n : ℕ) (ys : List (List ℤ)) : Type 0 where
   pub to : Place
   pub run : IsRun (run_from r.interval r.from n) ys to AllRead
   pub none : n < r.mcus → HasNoMcu r.interval to
 
--- a place from which blocks of an interval can be read
+-- a position from which blocks of an interval can be read
 abbrev pub CanReadFrom : IntervalValue → Place → Type 0
 CanReadFrom i p = (p.bit ≤ 8 * length i.bytes) × All IsInDcRange p.predictions
 
@@ -76,7 +76,7 @@ pub record IsNext (i : IntervalValue) (first : ℕ) (zs : List (List ℤ)) (p : 
   pub run : IsRun (run_from i start_of_interval first) zs p AllRead
   pub can : CanReadFrom i p
 
--- the blocks of the strip's MCUs are those that follow its place
+-- the blocks of the strip's MCUs are those that follow its position
 pub record IsPlaced (s : PlacedStripValue) : Type 0 where
   pub blocks : List (List ℤ)
   pub are : AreBlocks s.interval s.first s.mcus blocks

@@ -15,6 +15,6 @@ grey_unit = replicate 64 128
 abbrev pub unit_in_piece : PieceValue → ℕ → List ℕ
 unit_in_piece p n = slice_index_or p.samples n grey_unit
 
--- the samples of these blocks, which begin with an MCU, are the data units of a piece from data unit `first` on
+-- the samples of these blocks, which begin with an MCU, are the data units of a piece starting at data unit `first`
 abbrev pub CodesUnits : PieceValue → ℕ → List (List ℤ) → Type 0
 CodesUnits p first blocks = (k : ℕ) → k < length blocks → unit_of p.interval.head blocks k ≡ unit_in_piece p (first + k)

@@ -55,7 +55,7 @@ pub(crate) fn read_samples(
     }
 }
 
-/// Decodes an interval to what T.81 gives for it.
+/// Decodes an interval to the result that T.81 defines for it.
 pub(crate) fn decode(alloc: Global, interval: &Interval) -> Result<Decoded, Memory>
     ensures { IfOk result (λ d. IsOutcome (record { interval = interval.now; is_sound = d.is_sound; front = d.front; samples = d.samples.items })) }
 {

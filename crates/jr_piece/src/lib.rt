@@ -1,4 +1,4 @@
-//! Decoded intervals: their samples, whether they have a decoding, and how far they go where they have none. Long ones
+//! Decoded intervals: their samples, whether they have a decoding, and otherwise their longest prefix. Long ones
 //! can be had strip by strip.
 #![tactic(auto)]
 

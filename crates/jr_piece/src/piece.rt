@@ -93,7 +93,7 @@ impl Piece {
         })
     }
 
-    /// Asserts that the piece has what T.81 gives for its interval.
+    /// Asserts that the piece has the result that T.81 defines for its interval.
     pub fn assert_invariant(&self)
         ensures { IsOutcome self.now }
     {
@@ -114,7 +114,7 @@ impl Piece {
         self.is_sound
     }
 
-    /// Returns the number of whole MCUs that it shows.
+    /// Returns the number of its whole MCUs.
     pub fn front(&self) -> u32
         ensures { result ≡ self.now.front }
     {

@@ -17,7 +17,7 @@ use std::alloc::Global;
 use std::marker::Model;
 use std::sync::Arc;
 
-/// The whole MCUs of a run, and where the next one starts; no place where no whole one follows.
+/// The whole MCUs of a run, and the position at which the next one starts; `None` if no whole one follows.
 #[derive(Drop)]
 struct Run {
     blocks: Vec<Coefficients>,
@@ -25,7 +25,7 @@ struct Run {
     next: Option<Place>,
 }
 
-/// Returns the number of MCUs, at most `mcus`, that the bits after a position can code, if each data unit takes two bits or more.
+/// Returns the number of MCUs, at most `mcus`, that the bits after a position can code: two bits or more a data unit.
 fn most_mcus(interval: &Interval, from: Place, mcus: u32) -> u32
     ensures claimed { result ≤ mcus }
     ensures enough { (k : ℕ) (zs : List (List ℤ)) (to : Place) → IsRun (run_from interval.now from k) zs to AllRead → k ≤ mcus → k ≤ result }
@@ -159,7 +159,7 @@ impl StripReader {
         self.first
     }
 
-    /// Returns the bit at which the next MCU starts; where no further one follows it is of no use.
+    /// Returns the bit at which the next MCU starts; if no further one follows it is of no use.
     pub fn bit(&self) -> u64
         ensures { IfSome self.now.next (λ p. result ≡ p.bit) }
     {

@@ -1,4 +1,4 @@
--- The lines of a band stand within its groups.
+-- The lines of a band lie within its groups.
 use Rattle.std.proofs.Common.{◌≡◌, ℕ, ◌+◌, ◌-◌, ◌*◌, ◌/◌, ◌%◌, ◌<◌, ◌≤◌, List, length, ap, subst, ◌∙◌, arith}
 use Rattle.std.proofs.lemmas.Nat.{div-add-mod', mod_below}
 use Rattle.jr_head.specs.HeadValue.{HeadValue}
@@ -31,7 +31,7 @@ module _ (h : HeadValue) (l : IsLawful h) (groups : List (List ℕ)) (room : Has
       let last = sample_inside (x + n - 1) (omega (arith, some, left)) in
       omega (arith, last, some)
 
--- the same of a band that is looked into
+-- the same of a band that is read through a reference
 pub within : (i b : BandValue) → i ≡ b → IsLawful i.head → HasGroups i.head (groups_across i.head) i.groups → (gs : List (List ℕ)) → gs ≡ i.groups → (c y x n start : ℕ) → c < components_of b.head
     → start ≡ 8 * ((lines_before b.head c + y % (8 * vertical_of b.head c)) * groups_across b.head) → 0 < n → x + n ≤ samples_across b.head c → start + x + n ≤ 8 * length gs
 within i b e lawful room gs same c y x n start p at some left =
@@ -40,7 +40,7 @@ within i b e lawful room gs same c y x n start p at some left =
     let long : length gs ≡ length b.groups = ap (λ (l : List (List ℕ)). length l) (same ∙ ap (λ (v : BandValue). v.groups) e) in
     omega (arith, line_inside b.head own b.groups there c y p x n some left, at, long)
 
--- what a band shows
+-- the samples of a band
 pub shown : (i b : BandValue) → i ≡ b → (gs : List (List ℕ)) → gs ≡ i.groups → (c x y at : ℕ) → at ≡ 8 * ((lines_before b.head c + y % (8 * vertical_of b.head c)) * groups_across b.head) + x
     → sample_in_groups gs at ≡ samples_in b c x y
 unfolding samples_in

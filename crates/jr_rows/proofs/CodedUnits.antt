@@ -1,4 +1,4 @@
--- What the MCUs of an interval show: those that are there, and those behind the last whole one.
+-- The data units of the MCUs of an interval: those of its longest prefix, and those after the last whole MCU.
 use Rattle.std.proofs.Common.{◌≡◌, ℕ, ◌+◌, ◌-◌, ◌*◌, ◌<◌, ◌≤◌, List, [], ◌++◌, length, get_or, refl, sym, ap, ◌∙◌, arith}
 use Rattle.std.specs.Prelude.{ℤ}
 use Rattle.std.proofs.lemmas.List.{get_or-append_right}
@@ -20,7 +20,7 @@ use Rattle.jr_piece.proofs.Strips.{component_on}
 use Rattle.jr_piece.proofs.StripRuns as runs
 use Rattle.jr_piece.proofs.UnitReading.{shown, behind}
 
--- those that are there
+-- those of the prefix
 module _ (i : IntervalValue) (lawful : IsLawful i.head) (first : ℕ) (zs : List (List ℤ)) (p : Place) (next : IsNext i first zs p) (n : ℕ) (ys : List (List ℤ)) (q : Place) (run : IsRun (run_from i p n) ys q AllRead) (few : first + n ≤ i.mcus) where
   abbrev per : ℕ
   per = length (order_of i.head)
@@ -41,7 +41,7 @@ module _ (i : IntervalValue) (lawful : IsLawful i.head) (first : ℕ) (zs : List
       ∙ ap (λ (c : ℕ). samples (get_or (zs ++ ys) (first * per + k) []) (quantiser_of i.head c)) (sym (component_on i.head first k))
       ∙ shown one_front shorter_front i o same is (first + n) (zs ++ ys) front (first * per + k) (omega (arith, lt, add-mul first n per))
 
--- those behind the last whole one
+-- those after the last whole MCU
 pub grey_codes : (i : IntervalValue) (front mcu : ℕ) (zs : List (List ℤ)) → front ≤ mcu → LongestFront i front zs → (o : PieceValue) → o.interval ≡ i → IsOutcome o → (k : ℕ) → grey_unit ≡ unit_in_piece o (mcu * length (order_of i.head) + k)
 grey_codes i front mcu zs le longest o same is k =
     let past : front * length (order_of i.head) ≤ mcu * length (order_of i.head) = mul-le-mul_right {m = front} {n = mcu} (length (order_of i.head)) le in

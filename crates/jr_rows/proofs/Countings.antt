@@ -1,4 +1,4 @@
--- The marks of all rows are those of the picture.
+-- The marks of all rows are those of the image.
 use Rattle.std.proofs.Common.{◌≡◌, ℕ, zero, suc, ◌+◌, ◌*◌, ◌<◌, ◌≤◌, Bool, false, cond, List, [], ◌∷◌, length, take, get_or, refl, sym, ap, ◌∙◌, arith}
 use Rattle.std.specs.List.{count_by}
 use Rattle.std.proofs.lemmas.List.Sums.{sum_by-cons}
@@ -17,7 +17,7 @@ use Rattle.jr_rows.proofs.FirstBoards.{counts_of}
 use Rattle.jr_rows.proofs.IntervalPlaces.{ends_before, first_end, first_few, mcus_in_some}
 use Rattle.jr_rows.proofs.PictureRows.{all_rows}
 
--- where the others are blank, the first ones have the whole count
+-- if the others are blank, the first ones have the whole count
 count_first : (f : Mark → Bool) → f Blank ≡ false → (ms : List Mark) (n : ℕ) → ((i : ℕ) → n ≤ i → get_or ms i Blank ≡ Blank) → count_by f (take n ms) ≡ count_by f ms
 count_first f e [] n rest = ap (count_by f) (take_none n)
   where

@@ -1,4 +1,4 @@
--- How a cursor goes over the MCUs of an interval.
+-- How a cursor moves over the MCUs of an interval.
 use Rattle.std.proofs.Common.{◌≡◌, ℕ, ◌+◌, ◌-◌, ◌*◌, ◌<◌, ◌≤◌, Bool, true, false, inl, inr, Option, Some, None, List, [], ◌++◌, length, get_or, take, refl, sym, ap, subst, ◌∙◌, arith}
 use Rattle.std.specs.Prelude.{ℤ}
 use Rattle.std.proofs.lemmas.Bool.{cases_lt}
@@ -42,7 +42,7 @@ pub record HasReadInto (r r' : McuReaderValue) (n : ℕ) (blocks : List (List �
   pub read : (zs : List (List ℤ)) → HasRead r zs → HasRead r' (zs ++ take (n * per_mcu r) blocks)
   pub ended : (n + 1) * per_mcu r ≤ length blocks → HasEnded r'
 
--- a reader that has taken n of at most `most` MCUs, all that its run has left, has read them into these blocks
+-- a reader that has read n of at most `most` MCUs, all that its run has left, has read them into these blocks
 pub taken_into : (r r' : McuReaderValue) (n most : ℕ) (blocks ys : List (List ℤ)) → IsLawful r.run.interval.head → r'.run ≡ r.run → r'.mcu ≡ r.mcu + n → r'.mcu ≤ r'.run.mcus → n ≤ most → r.mcu + most ≡ r.run.mcus
     → IsRun (run_from r.run.interval r.place n) ys r'.place AllRead → take (n * per_mcu r) blocks ≡ ys → (n < most → HasNoMcu r'.run.interval r'.place) → HasReadInto r r' n blocks
 taken_into r r' n most blocks ys lawful run mcus few le all is same none = record {
@@ -64,7 +64,7 @@ pub record HasSkipped (r r' : McuReaderValue) (most n : ℕ) : Type 0 where
   pub read : (zs : List (List ℤ)) → HasRead r zs → (ys : List (List ℤ)) × HasRead r' (zs ++ ys)
   pub ended : n < most → HasEnded r'
 
--- what a reader that was to read `mcus` MCUs has read, starting at a place
+-- what a reader of `mcus` MCUs has read, starting at a position
 pub record GoesOn (i : IntervalValue) (p : Place) (r r' : McuReaderValue) (mcus n : ℕ) (ys : List (List ℤ)) : Type 0 where
   pub run : r.run ≡ run_from i p mcus
   pub start : r.mcu ≡ 0
@@ -96,7 +96,7 @@ module _ (i : IntervalValue) (lawful : IsLawful i.head) (mcu mcus n : ℕ) (p : 
   own : r'.run.interval ≡ i
   own = ap (λ (o : RunOf). o.interval) (on.run' ∙ on.run)
 
-  -- it is where the reader is, or no further MCU is whole
+  -- the next position is the reader's, or no further MCU is whole
   pub moved : (q : Option Place) → ((x : Place) → q ≡ Some x → n ≡ mcus) → ((x : Place) → q ≡ Some x → x ≡ r'.place) → ((x : Place) → q ≡ Some x → CanReadFrom r'.run.interval x) → (q ≡ None → n < mcus) → IsPlaceAfter i (mcu + mcus) q
   moved q whole there can stuck = record {
     few = few;
@@ -107,7 +107,7 @@ module _ (i : IntervalValue) (lawful : IsLawful i.head) (mcu mcus n : ℕ) (p : 
     none = λ e. let lt = stuck e in (mcu + n, zs ++ ys, omega (arith, lt), longest lt);
   }
 
-  -- and the blocks are the interval's, where those behind the whole MCUs are zeros
+  -- and the blocks are the interval's, if those after the whole MCUs are zeros
   pub codes : (us : List (List ℤ)) → length us ≡ mcus * length (order_of i.head) → ((k : ℕ) → k < n * length (order_of i.head) → get_or us k [] ≡ get_or ys k [])
       → ((k : ℕ) → n * length (order_of i.head) ≤ k → k < length us → get_or us k [] ≡ zero_block)
       → (o : PieceValue) → IsOutcome o → o.interval ≡ i → CodesUnits o (units_before i mcu) us
@@ -126,7 +126,7 @@ module _ (i : IntervalValue) (lawful : IsLawful i.head) (mcu mcus n : ℕ) (p : 
             zero_unit grey i.head us k (zeros k g lt) ∙ grey_codes i (mcu + n) (mcu + n) (zs ++ ys) (omega arith) (longest not_all) o e out (k - n * per) ∙ ap (unit_in_piece o) (sym there)
       ]
 
--- where no further MCU is whole
+-- if no further MCU is whole
 module _ (i : IntervalValue) (mcu : ℕ) (place : Option Place) (at : IsPlaceAfter i mcu place) (is : place ≡ None) where
   pub grey_on : (mcus : ℕ) → mcu + mcus ≤ i.mcus → IsPlaceAfter i (mcu + mcus) place
   grey_on mcus few = record {
@@ -150,7 +150,7 @@ module _ (i : IntervalValue) (mcu : ℕ) (place : Option Place) (at : IsPlaceAft
       let le : i.mcus ≤ far.0 = (far.3).longest i.mcus ys (front_of_run i i.mcus ys w.0 w.1 (omega arith)) in
       omega (arith, le, before, all)
 
--- where all MCUs are whole the interval has a decoding, if fewer than eight bits are left
+-- if all MCUs are whole the interval has a decoding, provided that fewer than eight bits are left
 module _ (i : IntervalValue) (lawful : IsLawful i.head) (mcu : ℕ) (place : Option Place) (at : IsPlaceAfter i mcu place) (p : Place) (is : place ≡ Some p) (all : mcu ≡ i.mcus) where
   abbrev blocks : List (List ℤ)
   blocks = (at.next p is).0
@@ -173,12 +173,12 @@ module _ (i : IntervalValue) (lawful : IsLawful i.head) (mcu : ℕ) (place : Opt
   tells_there true few many = (blocks, sound_there (few refl))
   tells_there false few many = bits_there (many refl)
 
--- each piece of an interval says whether this has a decoding
+-- each piece of an interval says whether the interval has a decoding
 pub outcome_tells : (i : IntervalValue) (b : Bool) → TellsSound b i → (p : PieceValue) → IsOutcome p → p.interval ≡ i → p.is_sound ≡ b
 outcome_tells i true told p o e = tells p i told.0 true e o (λ t. told.1) (λ f. absurd cc)
 outcome_tells i false told p o e = tells p i [] false e o (λ t. absurd cc) (λ f. told)
 
--- a cursor that is ready to read on
+-- a cursor that is ready to read further
 pub record IsReady (s : ScanValue) (old r : Cursor) (left : ℕ) : Type 0 where
   pub number : r.number < intervals_of s.head
   pub some : 0 < left
@@ -186,7 +186,7 @@ pub record IsReady (s : ScanValue) (old r : Cursor) (left : ℕ) : Type 0 where
   pub to : mcus_to s.head r ≡ mcus_to s.head old
 
 module _ (s : ScanValue) (limit : ℕ) (old r : Cursor) (left : ℕ) (ready : IsReady s old r left) where
-  -- its interval is decoded, where further MCUs are
+  -- its interval is decoded if MCUs are left
   pub decoded : (some : ℕ) → 0 < some → mcus_to s.head old + some ≤ mcus_before s.head limit → r.number < limit
   decoded some positive few = of_first s.head limit r.number r.mcu some ready.number positive (omega (arith, few, ready.to))
 

@@ -30,7 +30,7 @@ pub not_blank : (t : Bool) → cond t Sound Damaged ≢ Blank
 not_blank true e = absurd cc
 not_blank false e = absurd cc
 
--- what T.81 gives for each of the first n intervals is posted
+-- the result that T.81 defines for each of the first n intervals is posted
 module _ (each : (i : IntervalValue) → HasOutcome i) (scan : ScanValue) (n : ℕ) where
   abbrev outcome_at : ℕ → PieceValue
   outcome_at i = (each (interval_of scan i)).0
@@ -96,7 +96,7 @@ module _ (each : (i : IntervalValue) → HasOutcome i) (scan : ScanValue) (n : �
       let marked : (i : ℕ) → i < n → mark_at board i ≢ Blank = λ i lt e. not_blank (outcome_at i).is_sound (sym (ap mark_of (there i (omega (arith, lt, few)) ∙ posted i lt)) ∙ e) in
       (board, record { scan_is = refl; lawful = lawful; first = first_marked board n marked blank_at })
 
--- what such a board shows is a picture of the scan
+-- what such a board shows is an image of the scan
 module _ (scan : ScanValue) (n : ℕ) (b : BoardValue) (f : HasFirst scan n b) where
   same_scan : IsSameScan b.scan scan
   same_scan = (ap (λ (s : ScanValue). s.head) f.scan_is, ap (λ (s : ScanValue). s.intervals) f.scan_is)

@@ -32,7 +32,7 @@ module _ (h : HeadValue) (groups : List (List ℕ)) (m j : ℕ) where
       let row : n / 8 < 8 = omega (arith, whole, small) in
       unit_sample n small ∙ rows (n / 8) (n % 8) row low ∙ ap (λ k. slice_index unit k) at)
 
-  -- a data unit whose rows are as they were
+  -- a data unit whose rows are unchanged
   pub unit_kept : (old : List (List ℕ)) → ((r : ℕ) → r < 8 → slice_index_or groups (group_of h m j r) [] ≡ slice_index_or old (group_of h m j r) []) → unit_in h groups m j ≡ unit_in h old m j
   unit_kept old same = same_number_lists (unit_in h groups m j) (unit_in h old m j) (unit_long ∙ sym (length-map-range_with_len (λ n. slice_index (slice_index_or old (group_of h m j (n / 8)) []) (n % 8)) 0 64)) (λ n lt.
       let small : n < 64 = omega (arith, lt, unit_long) in
@@ -50,7 +50,7 @@ units_at h groups k lt = get_or-map-range_with_len (λ k. unit_in h groups (k / 
 pub further : (h : HeadValue) (m j r : ℕ) → group_of h m j r ≡ group_of h 0 j r + m * horizontal_of h (component h j)
 further h m j r = omega arith
 
--- a list that a slice of it has written back
+-- a list to which a slice of it is written back
 pub written_back : (len : ℕ) (new old : List (List ℕ)) → len ≡ length new → take len (new ++ drop (length new) old) ≡ new
 written_back len new old e = ap (λ k. take k (new ++ drop (length new) old)) e ∙ take-append_seam new (drop (length new) old)
 
@@ -63,14 +63,14 @@ module _ (h : HeadValue) (first : ℕ) (new old : List (List ℕ)) (some : 0 < b
       ∙ kept (k / blocks_of h) (k % blocks_of h) ((div-lt_iff_lt-mul some).1 lt) ((div-lt_iff_lt-mul some).1 inside) (mod_below k (blocks_of h) some)
       ∙ sym (units_at h old k inside)
 
--- a data unit of which the number among all is there is one of an MCU of the row
+-- a data unit whose number is within the length of the list is one of an MCU of the row
 pub mcu_inside : (h : HeadValue) (groups : List (List ℕ)) (m j : ℕ) → j < blocks_of h → m * blocks_of h + j < length (units_in h groups) → m < mcus_across h
 mcu_inside h groups m j low lt =
     let some : 0 < blocks_of h = omega (arith, low) in
     let all : m * blocks_of h + j < mcus_across h * blocks_of h = omega (arith, lt, units_long h groups) in
     subst (λ n. n < mcus_across h) (div-mul-add m (blocks_of h) j low) ((div-lt_iff_lt-mul some).1 all)
 
--- the data units of all MCUs, of which one is put
+-- the data units of all MCUs, after one is written
 module _ (h : HeadValue) (m j : ℕ) (new old : List (List ℕ)) (unit : List ℕ) (inside : m * blocks_of h + j < mcus_across h * blocks_of h) (low : j < blocks_of h) (here : unit_in h new m j ≡ unit)
     (others : (n i : ℕ) → n < mcus_across h → i < blocks_of h → (n ≡ m → i ≡ j → ⊥) → unit_in h new n i ≡ unit_in h old n i) where
   some : 0 < blocks_of h

@@ -1,4 +1,4 @@
--- Where the samples of the data units of a row of MCUs stand: each row of eight at a place of its own, all within the
+-- Positions of the samples of the data units of a row of MCUs: each row of eight has a position of its own, within the
 -- lines of the row.
 use Rattle.std.proofs.Common.{◌≡◌, ℕ, suc, inl, inr, ◌+◌, ◌-◌, ◌*◌, ◌/◌, ◌%◌, ◌<◌, ◌≤◌, List, [], ◌∷◌, length, take, replicate, get_or, sym, ap, subst, ◌∙◌, arith}
 use Rattle.std.specs.Prelude.{sum_by}
@@ -58,7 +58,7 @@ whose h j l lt =
 below : (line r w place : ℕ) → (line + r) * w + place ≡ (line + 0) * w + place + r * w
 below line r w place = grind arith
 
--- row r of a data unit is r lines behind its first
+-- row r of a data unit is r lines after its first
 pub last_row : (h : HeadValue) (m j r : ℕ) → group_of h m j r ≡ group_of h m j 0 + r * groups_across h
 last_row h m j r =
     let c = component h j in
@@ -110,13 +110,13 @@ module _ (h : HeadValue) (l : IsLawful h) (c m i r : ℕ) (p : c < components_of
 own_number : (h : HeadValue) (j : ℕ) → IsLawful h → j < blocks_of h → (let c = component h j in j - blocks_before h c < horizontal_of h c * vertical_of h c)
 own_number h j l lt = let w = whose h j l lt in omega (arith, w.1, w.2)
 
--- all rows of all data units stand within the lines of the row of MCUs
+-- all rows of all data units lie within the lines of the row of MCUs
 pub inside : (h : HeadValue) (m j r : ℕ) → IsLawful h → m < mcus_across h → j < blocks_of h → r < 8 → group_of h m j r < all_lines h * groups_across h
 inside h m j r l column lt row =
     let c = component h j in
     group_inside h l c m (j - blocks_before h c) r (whose h j l lt).0 (own_number h j l lt) column row
 
--- one line and one place in it: one component, by the lines of each
+-- a line and a position in it determine the component, by the lines of each
 one_component : (h : HeadValue) (c n d k : ℕ) → c < components_of h → d < components_of h → n < 8 * vertical_of h c → k < 8 * vertical_of h d → lines_before h c + n ≡ lines_before h d + k → c ≡ d
 one_component h c n d k p q few less e =
     elim (cases_lt c d) [
@@ -127,7 +127,7 @@ one_component h c n d k p q few less e =
       ]
     ]
 
--- in one component the line tells the row of data units, and the place in it the column
+-- in one component the line determines the row of data units, and the position in it the column
 one_unit : (a m i r m' i' r' : ℕ) → 0 < a → r < 8 → r' < 8 → 8 * (i / a) + r ≡ 8 * (i' / a) + r' → m * a + i % a ≡ m' * a + i' % a → (m ≡ m') × (i ≡ i') × (r ≡ r')
 one_unit a m i r m' i' r' some row row' line place =
     let rows = same_from_place (i / a) r (i' / a) r' 8 row row' (omega (arith, line)) in
@@ -154,7 +154,7 @@ module _ (h : HeadValue) (l : IsLawful h) (c m i r c' m' i' r' : ℕ) (p : c < c
       let rest = one_unit (horizontal_of h c) m i r m' i' r' (sampled_at h c l p).across row row' (omega (arith, line)) across in
       (one, rest.0, rest.1, rest.2)
 
--- no two rows of data units stand at one place
+-- no two rows of data units have the same position
 pub apart : (h : HeadValue) (m j r m' j' r' : ℕ) → IsLawful h → m < mcus_across h → m' < mcus_across h → j < blocks_of h → j' < blocks_of h → r < 8 → r' < 8 → group_of h m j r ≡ group_of h m' j' r'
     → (m ≡ m') × ((j ≡ j') × (r ≡ r'))
 apart h m j r m' j' r' l column column' lt lt' row row' e =
@@ -186,7 +186,7 @@ unit_line y v some =
 group_at : (line place line' place' w : ℕ) → line ≡ line' → place ≡ place' → line * w + place ≡ line' * w + place'
 group_at line place line' place' w e f = ap (λ (n : ℕ). n * w + place) e ∙ ap (λ (n : ℕ). line' * w + n) f
 
--- a sample stands in its line, in the eight that are its column's
+-- a sample lies in its line, in the group of eight of its column
 pub on_line : (h : HeadValue) (c x y : ℕ) → IsLawful h → c < components_of h
     → (let s = spot_of h c x y in group_of h (x / (8 * horizontal_of h c)) s.block (y % 8) ≡ (lines_before h c + y % (8 * vertical_of h c)) * groups_across h + x / 8)
 on_line h c x y l p =

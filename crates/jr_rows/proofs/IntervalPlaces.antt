@@ -46,7 +46,7 @@ mcus_in_some h number some lt = elim (eqb_tells h.restart 0) [
       subst (λ (b : Bool). 0 < cond b (mcus_of h) (min h.restart (mcus_of h - number * h.restart))) (sym f.0) here
 ]
 
--- behind the last MCU of an interval the next one begins
+-- after the last MCU of an interval the next one begins
 pub next_there : (h : HeadValue) (number mcu : ℕ) → number < intervals_of h → mcu ≡ mcus_in h number → number * h.restart + mcu < mcus_of h
     → (number + 1 < intervals_of h) × (number * h.restart + mcu ≡ (number + 1) * h.restart)
 next_there h number mcu lt all more = elim (eqb_tells h.restart 0) [
@@ -61,7 +61,7 @@ next_there h number mcu lt all more = elim (eqb_tells h.restart 0) [
       (subst (λ (b : Bool). number + 1 < cond b 1 (div_ceil (mcus_of h) h.restart)) (sym f.0) there, next)
 ]
 
--- behind the last MCU of all no interval follows
+-- after the last MCU of all no interval follows
 pub last_there : (h : HeadValue) (number mcu : ℕ) → number < intervals_of h → mcu ≤ mcus_in h number → 0 < mcus_of h → number * h.restart + mcu ≡ mcus_of h
     → (number + 1 ≡ intervals_of h) × (mcu ≡ mcus_in h number)
 last_there h number mcu lt few some all = elim (eqb_tells h.restart 0) [
@@ -82,7 +82,7 @@ last_there h number mcu lt few some all = elim (eqb_tells h.restart 0) [
       (last ∙ sym (ap (λ (b : Bool). cond b 1 (div_ceil (mcus_of h) h.restart)) f.0), whole ∙ sym (ap (λ (b : Bool). cond b (mcus_of h) (min h.restart (mcus_of h - number * h.restart))) f.0))
 ]
 
--- an MCU of an interval is one of the picture's
+-- an MCU of an interval is one of the image's
 pub inside : (h : HeadValue) (number mcu : ℕ) → number < intervals_of h → mcu < mcus_in h number → number * h.restart + mcu < mcus_of h
 inside h number mcu lt few = elim (eqb_tells h.restart 0) [
   | inl t ↦
@@ -93,14 +93,14 @@ inside h number mcu lt few = elim (eqb_tells h.restart 0) [
       omega (arith, here)
 ]
 
--- before an MCU of an interval end those before it
+-- before an MCU of an interval exactly the intervals before it end
 pub ends_before : (h : HeadValue) (number mcu : ℕ) → number < intervals_of h → mcu < mcus_in h number → intervals_before h (number * h.restart + mcu) ≡ number
 ends_before h number mcu lt few = elim (leb_tells (mcus_of h) (number * h.restart + mcu)) [
   | inl t ↦ absurd (omega (arith, inside h number mcu lt few, t.1))
   | inr f ↦ ap (λ (b : Bool). cond b (intervals_of h) (interval_number h (number * h.restart + mcu))) f.0 ∙ (interval_at h number mcu lt few).0
 ]
 
--- with its last MCU it ends, too
+-- with its last MCU it also ends
 pub ends_with : (h : HeadValue) (number mcu : ℕ) → 0 < mcus_of h → number < intervals_of h → mcu ≡ mcus_in h number → intervals_before h (number * h.restart + mcu) ≡ number + 1
 ends_with h number mcu some lt all = elim (leb_tells (mcus_of h) (number * h.restart + mcu)) [
   | inl t ↦
@@ -136,7 +136,7 @@ of_first h n number mcu some lt positive few = elim (leb_tells (intervals_of h) 
       ]
 ]
 
--- an MCU behind those of the first n intervals is of none of them
+-- an MCU after those of the first n intervals is of none of them
 pub behind_first : (h : HeadValue) (n mcu : ℕ) → mcu < mcus_of h → mcus_before h n ≤ mcu → n ≤ interval_number h mcu
 behind_first h n mcu inside far = elim (leb_tells (intervals_of h) n) [
   | inl t ↦ let all = subst (λ (b : Bool). cond b (mcus_of h) (n * h.restart) ≤ mcu) t.0 far in absurd (omega (arith, all, inside))
@@ -167,11 +167,11 @@ first_end h n some few = elim (leb_tells (intervals_of h) n) [
     leb_refl : (n : ℕ) → nat_le n n ≡ true
     leb_refl n = search arith
 
--- the MCUs of the first intervals are not all, where these are not all
+-- the MCUs of the first intervals are not all, if these are not all
 pub first_inside : (h : HeadValue) (n : ℕ) → 0 < mcus_of h → n < intervals_of h → n * h.restart < mcus_of h
 first_inside h n some lt = let at = inside h n 0 lt (mcus_in_some h n some lt) in omega (arith, at)
 
--- the MCUs of the first n intervals are some of the picture's
+-- the MCUs of the first n intervals are some of the image's
 pub first_few : (h : HeadValue) (n : ℕ) → 0 < mcus_of h → mcus_before h n ≤ mcus_of h
 first_few h n some = elim (leb_tells (intervals_of h) n) [
   | inl t ↦ subst (λ (b : Bool). cond b (mcus_of h) (n * h.restart) ≤ mcus_of h) (sym t.0) (omega arith)

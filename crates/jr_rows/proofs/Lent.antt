@@ -1,4 +1,4 @@
--- What a list is once a part of it that was lent is given back.
+-- A list after a borrowed part of it is written back.
 use Rattle.std.proofs.Common.{◌≡◌, ℕ, ◌≤◌, List, ◌++◌, length, take, drop, ap, sym, ◌∙◌}
 use Rattle.std.proofs.lemmas.List.{length-take-le}
 use Rattle.std.proofs.Math.Seq.{drop-append_seam, take-append_seam}
@@ -15,7 +15,7 @@ part_back a k xs ys within long =
     let behind : drop a (put_mid a k xs ys) ≡ rest = ap (λ (j : ℕ). drop j (take a xs ++ rest)) (sym (length-take-le a xs within)) ∙ drop-append_seam (take a xs) rest in
     ap (take k) behind ∙ ap (λ (j : ℕ). take j rest) (sym long) ∙ take-append_seam ys (post_of a k xs)
 
--- what stands before the part
+-- the elements before the part
 pub front_kept : {X : Type 0} (a k : ℕ) (xs ys : List X) → a ≤ length xs → take a (put_mid a k xs ys) ≡ take a xs
 front_kept a k xs ys within =
     let rest = ys ++ post_of a k xs in

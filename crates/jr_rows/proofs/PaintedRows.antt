@@ -1,4 +1,4 @@
--- The lines of a row of MCUs are those of the picture.
+-- The lines of a row of MCUs are those of the image.
 use Rattle.std.proofs.Common.{◌≡◌, ℕ, ◌+◌, ◌*◌, ◌≤◌, List, ap, sym, subst, ◌∙◌}
 use Rattle.jr_head.specs.HeadValue.{HeadValue}
 use Rattle.jr_head.specs.Geometry.{IsLawful, mcus_across, vertical_max}

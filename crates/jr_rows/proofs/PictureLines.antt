@@ -1,4 +1,4 @@
--- A row of MCUs has the lines of the picture.
+-- A row of MCUs has the lines of the image.
 use Rattle.std.proofs.Common.{◌≡◌, ℕ, inl, inr, ◌+◌, ◌*◌, ◌/◌, ◌%◌, ◌<◌, ◌≤◌, List, [], length, get_or, Option, Some, None, sym, ap, ◌∙◌, arith}
 use Rattle.std.specs.Prelude.{slice_index, slice_index_or}
 use Rattle.std.proofs.Math.Nat.{div-div-eq-div-mul, mul-add-div_right, mul-add-mod_self_right, mul-div-mul_left}
@@ -43,7 +43,7 @@ unit_sample h c j n place (Some p) e low = elim (cases_lt n (length p.samples)) 
 same_unit : (b : BoardValue) (mcu j mcu' j' : ℕ) → mcu ≡ mcu' → j ≡ j' → unit_shown b mcu j ≡ unit_shown b mcu' j'
 same_unit b mcu j mcu' j' e f = ap (λ (n : ℕ). unit_shown b n j) e ∙ ap (λ (n : ℕ). unit_shown b mcu' n) f
 
--- sample n behind eights of them
+-- sample n after `g` groups of eight
 in_eights : (groups : List (List ℕ)) (g x : ℕ) → sample_in_groups groups (8 * g + x) ≡ slice_index (slice_index_or groups (g + x / 8) []) (x % 8)
 in_eights groups g x =
     let turned : 8 * g + x ≡ g * 8 + x = omega arith in
@@ -69,7 +69,7 @@ in_band h l groups c x y p =
     ∙ ap (λ n. slice_index (slice_index_or groups (group_of h m s.block n) []) ((8 * (y % 8) + x % 8) % 8)) line
     ∙ ap (λ n. slice_index (slice_index_or groups (group_of h m s.block (y % 8)) []) n) place)
 
--- the line of samples that line k of a row of MCUs takes lies in that row
+-- the line of samples that line k of a row of MCUs uses lies in that row
 pub row_of : (r k a m : ℕ) → 0 < a → k < 8 * m → (r * (8 * m) + k) * a / m / (8 * a) ≡ r
 row_of r k a m some lt =
     let n = r * (8 * m) + k in
@@ -78,7 +78,7 @@ row_of r k a m some lt =
     div-div-eq-div-mul (n * a) m (8 * a) ∙ ap (λ (d : ℕ). n * a / d) whole ∙ ap (λ (z : ℕ). z / (a * (8 * m))) turned ∙ mul-div-mul_left n (8 * m) some ∙ div-mul-add r (8 * m) k lt
 
 module _ (b : BoardValue) (l : IsLawful b.scan.head) (r : ℕ) (groups : List (List ℕ)) (shows : ShowsMcus b (r * mcus_across b.scan.head) (units_in b.scan.head groups)) where
-  -- the samples of a row are those of the picture
+  -- the samples of a row are those of the image
   pub row_samples : (c x y : ℕ) → c < components_of b.scan.head → x < samples_across b.scan.head c → y < samples_down b.scan.head c → y / (8 * vertical_of b.scan.head c) ≡ r
       → samples_in (record { head = b.scan.head; groups = groups }) c x y ≡ samples_of b c x y
   row_samples c x y p left top e =

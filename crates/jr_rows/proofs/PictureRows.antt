@@ -5,7 +5,7 @@ use Rattle.std.proofs.lemmas.Grind.{div_ceil_times}
 use Rattle.jr_head.specs.HeadValue.{HeadValue}
 use Rattle.jr_head.specs.Geometry.{IsLawful, mcus_across, mcus_down, mcus_of, vertical_max}
 
--- no line stands before the first row
+-- no line is before the first row
 pub no_lines : (h : HeadValue) → min (0 * (8 * vertical_max h)) h.height ≡ 0
 no_lines h = omega arith
 
@@ -15,7 +15,7 @@ all_lines h l =
     let some : 0 < 8 * vertical_max h = omega (arith, l.components.down) in
     omega (arith, (div_ceil_times h.height (8 * vertical_max h) some).0)
 
--- a row of MCUs is one of the picture's
+-- a row of MCUs is one of the image's
 pub row_inside : (h : HeadValue) (row : ℕ) → row < mcus_down h → row * mcus_across h + mcus_across h ≤ mcus_of h
 row_inside h row lt =
     let few : (row + 1) * mcus_across h ≤ mcus_down h * mcus_across h = mul-le-mul_right (mcus_across h) (omega (arith, lt)) in

@@ -1,4 +1,4 @@
--- The marks that are put into a buffer.
+-- The marks that are written into a buffer.
 use Rattle.std.proofs.Common.{◌≡◌, ℕ, ◌+◌, ◌<◌, ◌≤◌, Bool, cond, inl, inr, List, length, map, get_or, refl, sym, ap, ◌∙◌, arith}
 use Rattle.std.specs.Prelude.{slice_index}
 use Rattle.std.proofs.Math.ListN.{get_or-map}
@@ -16,7 +16,7 @@ use Rattle.jr_picture.proofs.BoardPictures.{marks_at}
 use Rattle.jr_rows.specs.MarkBytes.{PutsMarks, mark_byte}
 use Rattle.jr_rows.proofs.ReadRows.{mark_there}
 
--- none is put
+-- none is written
 pub puts_none : (scan : ScanValue) (n from to : ℕ) (bytes : List ℕ) → from ≡ to → PutsMarks scan n from to bytes bytes
 puts_none scan n from to bytes e = record {
   long = refl;
@@ -24,7 +24,7 @@ puts_none scan n from to bytes e = record {
   kept = λ k lt. refl;
 }
 
--- that of one interval is put
+-- that of one interval is written
 pub puts_one : (scan : ScanValue) (n number : ℕ) (old new : List ℕ) → number < n → (t : Bool) → ((p : PieceValue) → IsOutcome p → p.interval ≡ interval_of scan number → p.is_sound ≡ t)
     → length new ≡ length old → (0 < length old → slice_index new number ≡ mark_byte (cond t Sound Damaged)) → ((k : ℕ) → k < number → slice_index new k ≡ slice_index old k)
     → PutsMarks scan n number (number + 1) old new
@@ -37,7 +37,7 @@ puts_one scan n number old new decoded t tells long at kept = record {
   kept = kept;
 }
 
--- those of two parts are put
+-- those of two parts are written
 pub puts_both : (scan : ScanValue) (n from at to : ℕ) (old mid new : List ℕ) → from ≤ at → PutsMarks scan n from at old mid → PutsMarks scan n at to mid new → PutsMarks scan n from to old new
 puts_both scan n from at to old mid new le a c = record {
   long = c.long ∙ a.long;

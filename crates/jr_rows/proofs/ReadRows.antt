@@ -31,7 +31,7 @@ use Rattle.jr_rows.specs.Rows.{HasFirst, CountsMarks, GivesBehind}
 use Rattle.jr_rows.specs.declared.cursor.Cursor.{Cursor}
 use Rattle.jr_rows.specs.declared.marked.Marked.{Marked}
 
--- a count of one more
+-- a count after one more mark
 pub count_next : (f : Mark → Bool) (ms : List Mark) (n : ℕ) (m : Mark) → n < length ms → get_or ms n Blank ≡ m → count_by f (take (n + 1) ms) ≡ count_by f (take n ms) + cond (f m) 1 0
 count_next f [] n m lt e = absurd (omega (arith, lt))
 count_next f (x ∷ xs) zero m lt e =
@@ -79,7 +79,7 @@ counts_none scan n from to m s d e = record {
   damaged = λ b first. let same = ap (λ (k : ℕ). count_by is_damaged (take k (marks_of b))) e in omega (arith, d, same);
 }
 
--- the mark of a decoded interval on a board, where its outcome is known
+-- the mark of a decoded interval on a board, if its outcome is known
 pub mark_there : (scan : ScanValue) (n number : ℕ) → number < n → (t : Bool) → ((p : PieceValue) → IsOutcome p → p.interval ≡ interval_of scan number → p.is_sound ≡ t)
     → (b : BoardValue) → HasFirst scan n b → mark_of (piece_at b number) ≡ cond t Sound Damaged
 mark_there scan n number decoded t tells b first =
@@ -113,7 +113,7 @@ counts_both scan n from at to k m r a c s d = record {
   damaged = λ b first. omega (arith, a.damaged b first, c.damaged b first, d);
 }
 
--- the blocks of MCUs of an interval give what a board shows of the scan
+-- the blocks of MCUs of an interval have the samples that a board of the scan shows
 module _ (scan : ScanValue) (limit : ℕ) (r : Cursor) (mcus done : ℕ) (sub new : List (List ℤ)) (some : 0 < blocks_of scan.head) (number : r.number < intervals_of scan.head) (decoded : r.number < limit) (few : r.mcu + mcus ≤ mcus_in scan.head r.number)
     (long : length sub ≡ mcus * blocks_of scan.head)
     (codes : (p : PieceValue) → IsOutcome p → p.interval ≡ interval_of scan r.number → CodesUnits p (units_before (interval_of scan r.number) r.mcu) sub)
@@ -148,7 +148,7 @@ module _ (scan : ScanValue) (limit : ℕ) (r : Cursor) (mcus done : ℕ) (sub ne
       ∙ unit ∙ ap (unit_in_piece p.piece) per ∙ turned
       ∙ ap (λ (g : HeadValue). unit_shown_of g (k % n) (piece_at b (interval_number g (mcus_to h r + j))) (within_interval g (mcus_to h r + j) * blocks_of g + k % n)) (ap (λ (t : ScanValue). t.head) (sym first.scan_is))
 
--- the data units of more MCUs behind those of the first
+-- the data units of more MCUs after those of the first
 pub shown_more : (n done some start : ℕ) (f : ℕ → ℕ → List ℕ) (old new : ℕ → List ℕ) → 0 < n → ((k : ℕ) → k < done * n → old k ≡ f (start + k / n) (k % n)) → ((k : ℕ) → k < done * n → new k ≡ old k)
     → ((k : ℕ) → k < some * n → new (done * n + k) ≡ f (start + done + k / n) (k % n)) → (k : ℕ) → k < (done + some) * n → new k ≡ f (start + k / n) (k % n)
 shown_more n done some start f old new positive before kept behind k lt = elim (cases_lt k (done * n)) [

@@ -1,4 +1,4 @@
--- Where the cursor of a row of MCUs is.
+-- The cursor of a row of MCUs.
 use Rattle.std.proofs.Common.{◌≡◌, ℕ, ◌+◌, ◌*◌, ◌<◌, length, sym, ap, subst}
 use Rattle.jr_head.specs.HeadValue.{HeadValue}
 use Rattle.jr_scan.specs.ScanValue.{ScanValue, interval_of}

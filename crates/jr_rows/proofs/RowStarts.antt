@@ -1,4 +1,4 @@
--- Where a row of MCUs begins in its interval.
+-- The position at which a row of MCUs begins in its interval.
 use Rattle.std.proofs.Common.{◌≡◌, ℕ, ◌+◌, ◌*◌, ◌/◌, ◌%◌, ◌<◌, Bool, true, cond, inl, inr, ap, arith}
 use Rattle.std.specs.Int.{div_ceil}
 use Rattle.std.proofs.Math.Dec.{leb}
@@ -13,7 +13,7 @@ use Rattle.jr_rows.specs.Rows.{coded_before, mcus_before}
 use Rattle.jr_rows.proofs.PictureRows.{row_inside}
 use Rattle.jr_rows.proofs.WholeRows.{across_some}
 
--- an MCU of the picture stands in one of its intervals
+-- an MCU of the image is in one of its intervals
 pub mcu_there : (h : HeadValue) (m : ℕ) → m < mcus_of h → (interval_number h m < intervals_of h) × (interval_number h m * h.restart + within_interval h m ≡ m)
 mcu_there h m lt = elim (eqb_tells h.restart 0) [
   | inl t ↦

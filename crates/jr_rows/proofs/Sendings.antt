@@ -1,4 +1,4 @@
--- What is written of every board of a scan is written of a picture of it.
+-- What is written of every board of a scan is written of an image of it.
 use Rattle.std.proofs.Common.{◌≡◌, ℕ, ◌≤◌, List, length, Option, Result, Ok, Err}
 use Rattle.jr_base.specs.declared.tally.Tally.{Tally}
 use Rattle.jr_base.proofs.Appending.{from_err}

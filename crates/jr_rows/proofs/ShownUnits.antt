@@ -1,4 +1,4 @@
--- What a row of MCUs shows, of which the first ones are decoded and the others blank.
+-- What a row of MCUs shows if its first ones are decoded and the others blank.
 use Rattle.std.proofs.Common.{◌≡◌, ℕ, ◌+◌, ◌*◌, ◌/◌, ◌%◌, ◌<◌, ◌≤◌, inl, inr, None, List, [], length, replicate, slice_index_or, sym, ap, subst, ◌∙◌, arith}
 use Rattle.std.proofs.lemmas.Bool.{cases_lt}
 use Rattle.std.proofs.Math.Nat.{add-mul, mod-eq_of_lt, mul-le-mul_right, div-lt_iff_lt-mul}
@@ -33,7 +33,7 @@ module _ (scan : ScanValue) (n row : ℕ) (below : row < mcus_down scan.head) (s
   first_ones : 0 < coded_in h n row → coded_before h n row ≡ row * mcus_across h
   first_ones positive = omega (arith, positive, add-mul row 1 (mcus_across h))
 
-  -- the others lie behind all decoded ones
+  -- the others are after all decoded ones
   behind : (j : ℕ) → coded_in h n row ≤ j → j < mcus_across h → mcus_before h n ≤ row * mcus_across h + j
   behind j le lt = omega (arith, le, lt, add-mul row 1 (mcus_across h))
 

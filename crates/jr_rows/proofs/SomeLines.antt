@@ -1,4 +1,4 @@
--- Which lines of the picture a row of MCUs has.
+-- The lines of the image that a row of MCUs has.
 use Rattle.std.proofs.Common.{◌≡◌, ℕ, ◌+◌, ◌-◌, ◌*◌, ◌/◌, ◌<◌, ◌≤◌, ◌∙◌, List, length, max, min, ap, arith}
 use Rattle.std.proofs.lemmas.Nat.{mul-le}
 use Rattle.std.specs.Int.{div_ceil}
@@ -42,11 +42,11 @@ module _ (deep first end height : ℕ) (p : 0 < deep) (some : first < end) (insi
       let row = div_ceil end deep - 1 in
       omega (arith, some_row, in_div_ceil row height deep p (omega (arith, last row (omega (arith, some_row)), inside)))
 
--- how many of lines `first` to `end` stand before a row of MCUs
+-- the number of lines starting at line `first` and before `end` that are before a row of MCUs
 abbrev pub done_lines : HeadValue → (first end row : ℕ) → ℕ
 done_lines h first end row = min end (max first (row * (8 * vertical_max h))) - first
 
--- so many more with the row
+-- `count` more with the row
 pub next_done : (h : HeadValue) (first end row y count : ℕ) → first < end → row * (8 * vertical_max h) < end → first < (row + 1) * (8 * vertical_max h)
     → y ≡ max first (row * (8 * vertical_max h)) → y + count ≡ min end ((row + 1) * (8 * vertical_max h))
     → (y ≡ first + done_lines h first end row) × (done_lines h first end (row + 1) ≡ done_lines h first end row + count)
@@ -54,7 +54,7 @@ next_done h first end row y count some starts reaches at to =
     let next = add-mul row 1 (8 * vertical_max h) in
     (omega (arith, some, starts, at), omega (arith, some, starts, reaches, at, to, next))
 
--- what every board of a scan shows there is lines of its picture
+-- what every board of a scan shows there is lines of its image
 pub painted_lines : ((i : IntervalValue) → HasOutcome i) → (scan : ScanValue) → IsLawful scan.head → (first count : ℕ) (pixels : List ℕ) (m : Marked)
     → ((b : BoardValue) → HasFirst scan (length scan.intervals) b → pixels ≡ next_lines_of scan.head (samples_of b) first (first + count - first))
     → CountsBetween scan (row_with scan.head first) (row_behind scan.head (first + count)) m → PaintsLines scan first count pixels m
@@ -70,7 +70,7 @@ painted_lines each scan lawful first count pixels m lines counts =
       counted = record { sound_are = counts.sound board.0 board.1; damaged_are = counts.damaged board.0 board.1 };
     }
 
--- some lines of a row of MCUs fit where all of them do
+-- some lines of a row of MCUs fit if all of them do
 pub lines_fit : (count deep line size room : ℕ) → count ≤ deep → line ≡ size → deep * size ≤ room → count * line ≤ room
 lines_fit count deep line size room few is all =
     let same : count * line ≡ count * size = ap (λ (k : ℕ). count * k) is in

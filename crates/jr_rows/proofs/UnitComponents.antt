@@ -1,4 +1,4 @@
--- The component of a data unit of an MCU, by its place there (T.81, A.2.3).
+-- The component of a data unit of an MCU, by its position there (T.81, A.2.3).
 use Rattle.std.proofs.Common.{◌≡◌, ℕ, zero, suc, ◌+◌, ◌*◌, ◌/◌, ◌%◌, ◌<◌, List, [], ◌∷◌, length, take, replicate, get_or, ap, ◌∙◌, arith}
 use Rattle.std.specs.Prelude.{sum_by}
 use Rattle.std.proofs.Math.Nat.{mod-eq_of_lt}

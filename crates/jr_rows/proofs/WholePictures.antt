@@ -1,4 +1,4 @@
--- All lines of a scan's picture, and all its marks.
+-- All lines of a scan's image, and all its marks.
 use Rattle.std.proofs.Common.{◌≡◌, ℕ, ◌-◌, ◌<◌, List, length, map, refl, sym, ap, ◌∙◌, arith}
 use Rattle.jr_head.specs.HeadValue.{HeadValue}
 use Rattle.jr_head.specs.Geometry.{IsLawful, mcus_down, mcus_of}
@@ -24,7 +24,7 @@ use Rattle.jr_rows.proofs.PutMarks.{are_marks}
 pub first_row : (h : HeadValue) → row_with h 0 ≡ 0
 first_row h = omega arith
 
--- the lines from the first one on
+-- the lines starting at the first one
 all_lines : (h : HeadValue) (f : ℕ → ℕ → ℕ → ℕ) (n : ℕ) → next_lines_of h f 0 n ≡ lines_of h f n
 unfolding lines_of
 all_lines h f n = refl
@@ -39,7 +39,7 @@ module _ (scan : ScanValue) (some : 0 < mcus_of scan.head) (more : 0 < intervals
       let marks = marks_there scan n b first in
       are_marks (marks_of b) new (puts.long ∙ room there ∙ sym marks) (λ k lt. puts.put b first there k (omega (arith, from)) (omega (arith, to, lt, marks)))
 
-  -- what every board of the scan shows is its picture
+  -- what every board of the scan shows is its image
   pub painted_whole : ((i : IntervalValue) → HasOutcome i) → IsLawful scan.head → (pixels old new : List ℕ) (c : Counts)
       → ((b : BoardValue) → HasFirst scan (length scan.intervals) b → pixels ≡ next_lines_of scan.head (samples_of b) 0 (scan.head.height - 0))
       → HasMarkRoom scan old → PutsBetween scan 0 (mcus_down scan.head) old new → HasCounts scan (length scan.intervals) c → PaintsWhole scan pixels old new c

@@ -12,7 +12,7 @@ use Rattle.jr_scan.specs.ScanValue.{intervals_of}
 use Rattle.jr_rows.specs.Rows.{coded_before, mcus_before}
 use Rattle.jr_rows.proofs.PictureRows.{row_inside}
 
--- a picture with an MCU has one in a row
+-- an image with an MCU has one in a row
 pub across_some : (h : HeadValue) → 0 < mcus_of h → 0 < mcus_across h
 across_some h some = elim (cases_lt 0 (mcus_across h)) [
   | inl l ↦ l
@@ -39,7 +39,7 @@ module _ (h : HeadValue) (row intervals : ℕ) (pixels : 0 < mcus_of h) (below :
         subst (λ (b : Bool). row * intervals < cond b 1 (div_ceil (mcus_of h) h.restart)) (sym f.0) (in_div_ceil (row * intervals) (mcus_of h) h.restart r at)
   ]
 
-  -- where the first n intervals are decoded, as much is read before the row as its first interval, or the first that isn't decoded, has before it
+  -- if the first n intervals are decoded, what is read before the row ends where its first interval starts, or the first undecoded one
   pub row_at : (n : ℕ) → n ≤ intervals_of h → min (row * intervals) n * h.restart + 0 ≡ coded_before h n row
   row_at n few = elim (cases_lt n (intervals_of h)) [
     | inl some_blank ↦

@@ -1,4 +1,4 @@
--- What contracts see of a band: the head of a file, and the lines of one row of its MCUs.
+-- What contracts see of a band: the header of a file, and the lines of one row of its MCUs.
 use Rattle.std.specs.Prelude.{ℕ, List}
 use Rattle.jr_head.specs.HeadValue.{HeadValue}
 

@@ -15,7 +15,7 @@ use Rattle.jr_rows.specs.Groups.{groups_across, lines_before}
 abbrev pub sample_in_groups : List (List ℕ) → ℕ → ℕ
 sample_in_groups groups n = slice_index (slice_index_or groups (n / 8) []) (n % 8)
 
--- the picture of which each row of MCUs has these lines
+-- the samples of the image each of whose rows of MCUs has these lines
 unfoldable pub samples_in : BandValue → ℕ → ℕ → ℕ → ℕ
 samples_in b c x y =
     sample_in_groups b.groups (8 * ((lines_before b.head c + y % (8 * vertical_of b.head c)) * groups_across b.head) + x)
@@ -30,7 +30,7 @@ abbrev pub unit_shown : BoardValue → ℕ → ℕ → List ℕ
 unit_shown b mcu j =
     let h = b.scan.head in unit_shown_of h j (piece_at b (interval_number h mcu)) (within_interval h mcu * blocks_of h + j)
 
--- these are the data units of the MCUs from this one on, as a board shows them
+-- these are the data units of the MCUs starting at this one, as a board shows them
 abbrev pub ShowsMcus : BoardValue → ℕ → List (List ℕ) → Type 0
 ShowsMcus b mcu units =
     (k : ℕ) → k < length units → slice_index_or units k [] ≡ unit_shown b (mcu + k / blocks_of b.scan.head) (k % blocks_of b.scan.head)

@@ -11,7 +11,7 @@ use Rattle.jr_piece.specs.Strips.{IsNext}
 use Rattle.jr_rows.specs.declared.cursor.Cursor.{Cursor}
 use Rattle.jr_rows.specs.declared.interval_guesses.IntervalGuesses.{IntervalGuesses}
 
--- the first `mcu` MCUs of an interval are before this place; without a place no further one is whole
+-- the first `mcu` MCUs of an interval are before this position; if it is `None`, no further one is whole
 pub record IsPlaceAfter (i : IntervalValue) (mcu : ℕ) (place : Option Place) : Type 0 where
   pub few : mcu ≤ i.mcus
   pub next : (p : Place) → place ≡ Some p → (zs : List (List ℤ)) × IsNext i mcu zs p

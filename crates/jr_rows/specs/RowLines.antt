@@ -1,4 +1,4 @@
--- The lines of a row of MCUs of a picture, as they are kept.
+-- The lines of a row of MCUs of an image, as they are stored.
 use Rattle.std.specs.Prelude.{◌≡◌, ℕ, ◌*◌, ◌/◌, ◌<◌, List, length, slice_index_or}
 use Rattle.jr_head.specs.HeadValue.{HeadValue}
 use Rattle.jr_head.specs.Geometry.{blocks_of, horizontal_of}
@@ -27,7 +27,7 @@ pub record AreStarts (h : HeadValue) (starts : List UnitStart) : Type 0 where
   pub long : length starts ≡ blocks_of h
   pub each : (j : ℕ) (d : UnitStart) → j < blocks_of h → IsStartOf h j (slice_index_or starts j d)
 
--- these are the lines of a row of MCUs of this head's picture
+-- these are the lines of a row of MCUs of an image with this header
 pub record HasLines (h : HeadValue) (v : RowLinesValue) : Type 0 where
   pub room : HasGroups h (groups_across h) v.groups
   pub across : v.across ≡ groups_across h

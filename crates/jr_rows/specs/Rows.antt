@@ -45,7 +45,7 @@ pub record AreRowsOf (part : FirstIntervalsValue) (r : Rows) : Type 0 where
   pub stands : IsCursorOf part.scan r.cursor
   pub at : mcus_to part.scan.head r.cursor ≡ coded_before part.scan.head part.limit r.row
 
--- the numbers of the intervals from number `from` and before `to` that are sound and damaged, on every such board
+-- the numbers of the intervals starting at number `from` and before `to` that are sound and damaged, on every such board
 pub record CountsMarks (scan : ScanValue) (n from to : ℕ) (m : Marked) : Type 0 where
   pub few : from + (m.sound + m.damaged) ≤ to
   pub sound : (b : BoardValue) → HasFirst scan n b → count_by is_sound (take from (marks_of b)) + m.sound ≡ count_by is_sound (take to (marks_of b))
@@ -55,7 +55,7 @@ pub record CountsMarks (scan : ScanValue) (n from to : ℕ) (m : Marked) : Type 
 abbrev pub CountsMcus : ScanValue → (n from to : ℕ) → Marked → Type 0
 CountsMcus scan n from to m = CountsMarks scan n (intervals_before scan.head from) (intervals_before scan.head to) m
 
--- the samples of the first `mcus` MCUs of these blocks are what every such board shows from MCU `from` on
+-- the samples of the first `mcus` MCUs of these blocks are what every such board shows starting at MCU `from`
 abbrev pub GivesMcus : ScanValue → (n from mcus : ℕ) → List (List ℤ) → Type 0
 GivesMcus scan n from mcus blocks = (b : BoardValue) → HasFirst scan n b → (k : ℕ) → k < mcus * blocks_of scan.head
     → unit_of scan.head blocks k ≡ unit_shown b (from + k / blocks_of scan.head) (k % blocks_of scan.head)
@@ -110,7 +110,7 @@ abbrev pub ShowsLines : ScanValue → (n row : ℕ) → List ℕ → Type 0
 ShowsLines scan n row pixels = (b : BoardValue) → HasFirst scan n b
     → pixels ≡ next_lines_of scan.head (samples_of b) (first_line scan.head row) (line_count scan.head row)
 
--- the same, as every board of this head shows them that shows these samples there
+-- the same, as every board with this header shows them that shows these samples there
 abbrev pub PaintsRowLines : HeadValue → (row : ℕ) → (groups : List (List ℕ)) → List ℕ → Type 0
 PaintsRowLines h row groups pixels = (b : BoardValue) → b.scan.head ≡ h → ShowsMcus b (row * mcus_across h) (units_in h groups)
     → pixels ≡ next_lines_of h (samples_of b) (first_line h row) (line_count h row)

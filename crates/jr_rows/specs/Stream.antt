@@ -16,7 +16,7 @@ use Rattle.jr_rows.specs.FirstIntervalsValue.{FirstIntervalsValue}
 use Rattle.jr_rows.specs.Rows.{HasFirst, CountsRows}
 use Rattle.jr_rows.specs.declared.marked.Marked.{Marked}
 
--- of every board of the scan with the first n intervals marked the picture is written, or a beginning of it, and then the writer has failed
+-- of every board of the scan with the first n intervals marked the image is written, or a prefix of it, and then the writer has failed
 abbrev pub SendsPicture : {T U E : Type 0} → (T → Option (List ℕ)) → Tally T → Tally T → Result U E → ScanValue → ℕ → Type 0
 SendsPicture known old new result scan n = (b : BoardValue) → HasFirst scan n b → IsSent known old new result (text_of scan.head (samples_of b))
 
@@ -24,7 +24,7 @@ SendsPicture known old new result scan n = (b : BoardValue) → HasFirst scan n 
 abbrev pub HasCounts : ScanValue → ℕ → Counts → Type 0
 HasCounts scan n c = (b : BoardValue) → HasFirst scan n b → AreCounts (marks_of b) c.sound c.damaged c.blank
 
--- the picture of a scan, of which this part is decoded, is sent, and the marks of its intervals are answered
+-- the image of a scan, of which this part is decoded, is sent, and the marks of its intervals are returned
 pub record IsSentBy {T : Type 0} (known : T → Option (List ℕ)) (part : FirstIntervalsValue) (old new : Tally T) (result : Result Marked WriteFault) : Type 0 where
   pub counts : IfOk result (CountsRows part.scan part.limit)
   pub failed : has_failed new ≡ is_err result

@@ -1,4 +1,4 @@
--- All of a scan's picture in a buffer.
+-- All of a scan's image in a buffer.
 use Rattle.std.specs.Prelude.{◌≡◌, ℕ, ◌<◌, List, length, map}
 use Rattle.jr_paint.specs.Text.{lines_of}
 use Rattle.jr_scan.specs.ScanValue.{ScanValue}

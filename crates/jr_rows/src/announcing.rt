@@ -1,4 +1,4 @@
-//! What is reported to a gate of the intervals of a row of MCUs.
+//! What is reported to a gate about the intervals of a row of MCUs.
 
 ghost use Rattle.std.specs.Prelude.{◌<◌};
 ghost use Rattle.jr_head.specs.Geometry.{mcus_down};
@@ -22,7 +22,7 @@ pub fn announce<G: Gate>(scan: &Scan, limit: u32, row: u32, gate: &G)
 {
     let head = scan.head();
     let across = shape_of(head).across;
-    // By its contract a picture has so few MCUs that their numbers fit.
+    // By its contract an image has few enough MCUs that their numbers fit.
     let _all = head.mcus();
     let first = begun_before(head, row * across);
     let end = begun_before(head, row * across + across).min(limit);

@@ -67,7 +67,7 @@ pub(crate) fn paint_between(
     ensures puts { PutsBetween scan.now (row_with scan.now.head first) (row_behind scan.now.head end) marks.old marks.new }
 {
     let head = scan.head();
-    // By its contract a scan has as many intervals as its head says.
+    // By its contract a scan has the number of intervals that its header says.
     let _intervals = scan.intervals();
     let line = shape_of(head).line;
     let (row, behind) = rows_of(head, first, end);

@@ -1,4 +1,4 @@
-//! Marks as bytes, each in the place of its interval.
+//! Marks as bytes, each at the index of its interval.
 
 ghost use Rattle.std.specs.Prelude.{◌≡◌, ℕ, ◌<◌, cond, length, slice_index};
 ghost use Rattle.jr_picture.specs.declared.mark.Mark.TheVariants.{Sound, Damaged};

@@ -12,7 +12,7 @@ use crate::shape::lines_of;
 use jr_head::Head;
 use jr_paint::paint_lines;
 
-/// Paints the lines of a row of MCUs with these samples; `room` is for those that are repeated first.
+/// Paints the lines of a row of MCUs with these samples; `room` is scratch space for those that are repeated first.
 pub fn paint_row(head: &Head, samples: &RowLines, row: u32, room: &mut [u8], pixels: &mut [u8])
     requires lines { line_room head.now ≤ length room.old }
     requires row { row < mcus_down head.now }

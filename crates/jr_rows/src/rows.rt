@@ -49,7 +49,7 @@ impl Rows {
         ensures row { result.row ≡ row }
     {
         let scan = part.scan();
-        // By their contracts a picture has an MCU, and a scan as many intervals as its head says.
+        // By their contracts an image has an MCU, and a scan the number of intervals that its header says.
         let _some = (scan.head().mcus(), scan.intervals());
         let number = (row * intervals).min(part.limit());
         Rows {
@@ -67,7 +67,7 @@ impl Rows {
         ensures row { result.row ≡ row }
     {
         let scan = part.scan();
-        // By their contracts a picture has an MCU, and a scan as many intervals as its head says.
+        // By their contracts an image has an MCU, and a scan the number of intervals that its header says.
         let _some = (scan.head().mcus(), scan.intervals());
         let across = shape_of(scan.head()).across;
         let (number, before) = scan.head().interval_with(row * across);
@@ -80,7 +80,7 @@ impl Rows {
     pub fn next_start(&self, part: &FirstIntervals<'_>) -> (u32, u64)
         requires { AreRowsOf part.now self.now }
     {
-        // By its contract a scan has as many intervals as its head says.
+        // By its contract a scan has the number of intervals that its header says.
         let _most = part.scan().intervals();
         let mcus = part.scan().head().mcus_in(self.cursor.number);
         self.cursor.next_start(mcus)
@@ -102,7 +102,7 @@ impl Rows {
         ensures row { self.new.row ≡ self.old.row + 1 }
     {
         let scan = part.scan();
-        // By their contracts a picture has an MCU, and so few rows that their numbers fit.
+        // By their contracts an image has an MCU, and few enough rows that their numbers fit.
         let _counts = (scan.head().mcus(), shape_of(scan.head()));
         let coded = coded_of_row(scan, part.limit(), self.row);
         self.cursor.skip_mcus(scan, guesses, coded);

@@ -96,7 +96,7 @@ pub fn lines_of(head: &Head, row: u32) -> (u32, u32)
     (first, deep.min(height - first))
 }
 
-/// Returns the bytes that the lines of a row of MCUs take.
+/// Returns the size of the lines of a row of MCUs in bytes.
 pub fn bytes_of_row(head: &Head) -> usize
     ensures { result ≡ 8 * vertical_max head.now * line_size head.now }
 {
@@ -104,7 +104,7 @@ pub fn bytes_of_row(head: &Head) -> usize
     shape.deep as usize * shape.line
 }
 
-/// Returns the bytes that the lines of a row of MCUs take, and enough of them for a write.
+/// Returns the size of the lines of a row of MCUs in bytes, at least that of a write.
 pub fn room_for(head: &Head) -> usize
     ensures value { result ≡ max BATCH (8 * vertical_max head.now * line_size head.now) }
     ensures lines { 8 * vertical_max head.now * line_size head.now ≤ result }
@@ -132,7 +132,7 @@ pub fn coded_of_row(scan: &Scan, n: u32, row: u32) -> u32
     ensures inside { coded_before scan.now.head n row + result ≤ mcus_before scan.now.head n }
     ensures few { result ≤ mcus_across scan.now.head }
 {
-    // By its contract a picture has so few MCUs that their numbers fit.
+    // By its contract an image has few enough MCUs that their numbers fit.
     let _most = scan.head().mcus();
     let all = mcus_of_first(scan, n);
     let across = shape_of(scan.head()).across;

@@ -30,7 +30,7 @@ pub fn paint_scan(
     ensures marks { IfErr result (λ _. marks.new ≡ marks.old) }
 {
     let mut work = SampleRow::open(alloc, scan.head())?;
-    // By its contract a picture has an MCU.
+    // By its contract an image has an MCU.
     let _some = scan.head().mcus();
     let all = scan.intervals();
     let height = scan.head().height();

@@ -16,7 +16,7 @@ use jr_head::Head;
 use jr_piece::transform_blocks;
 use jr_scan::McuReader;
 
-/// Reads whole MCUs into blocks, at most `most`, as many as follow. Returns their number.
+/// Reads the whole MCUs that follow into blocks, at most `most`. Returns their number.
 fn read_whole(
     head: &Head,
     reader: &mut McuReader<'_>,

@@ -66,7 +66,7 @@ pub fn counts_of(scan: &Scan, limit: u32, marked: Marked) -> Counts
     requires counts { CountsRows scan.now limit marked }
     ensures { HasCounts scan.now limit result }
 {
-    // By its contract a picture has an MCU.
+    // By its contract an image has an MCU.
     let _some = scan.head().mcus();
     let Marked { sound, damaged } = marked;
     Counts {
@@ -101,7 +101,7 @@ pub fn write_scan<W: Write, G: Gate>(
     };
     let part = FirstIntervals::of(scan, first);
     let limit = part.limit();
-    // By its contract a scan has as many intervals as its head says.
+    // By its contract a scan has the number of intervals that its header says.
     let _all = scan.intervals();
     let mut painter = Alone::of(part, work, gate);
     match write_rows(scan.head(), &mut painter, &mut pixels, out) {

@@ -6,7 +6,7 @@ use Rattle.jr_head.specs.HeadValue.{HeadValue}
 use Rattle.jr_scan.specs.ImageEnd.{IsImageEndIn}
 use Rattle.jr_scan.specs.ScanValue.{intervals_of, scan_of_segments}
 
--- the image of a scan ends in a file where it ends in the file's bytes after the scan header
+-- the image of a scan in a file ends at its end in the file's bytes after the scan header
 pub is_image_end : (h : HeadValue) (file bytes : List ℕ) (segments : List (List ℕ)) (n at : ℕ) (end : ScanEnd) (place : Option ℕ) → n ≡ intervals_of h → at ≡ h.scan_at → bytes ≡ drop h.scan_at file
     → IsImageEndOf n at bytes end place → IsImageEndIn file (scan_of_segments h segments end) place
 is_image_end h file bytes segments n at end place en ea eb e =

@@ -1,4 +1,4 @@
--- How many whole MCUs the bytes of an interval can code.
+-- The maximum number of whole MCUs that the bytes of an interval can code.
 use Rattle.std.proofs.Common.{ℕ, ◌*◌, ◌/◌, ◌<◌, ◌≤◌, List, length, ap, length-append, arith}
 use Rattle.std.specs.Prelude.{ℤ}
 use Rattle.std.proofs.Math.Nat.{le-div_iff_mul-le}

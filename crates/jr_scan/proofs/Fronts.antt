@@ -1,4 +1,4 @@
--- At most one decoding and one front of so many MCUs, and what a reader tells of an interval.
+-- At most one decoding and one prefix of k MCUs, and what a reader reports about an interval.
 use Rattle.std.proofs.Common.{◌≡◌, ℕ, ◌*◌, ◌≤◌, Bool, true, false, IsTrue, List, [], length, take, refl, sym, ◌∙◌, arith}
 use Rattle.std.specs.Prelude.{ℤ}
 use Rattle.std.proofs.Math.Nat.{mul-le-mul_right}
@@ -26,11 +26,11 @@ front_less i j k zs le f =
     let b = blocks_front i.head no_predictions zs (bits i.bytes) f.taken f.rest m f.mcus.1 f.spelled room in
     record { at_most = omega (arith, f.at_most); taken = b.0; rest = b.1; mcus = (length-take-le m zs room, b.2); spelled = b.3 }
 
--- no blocks at all are a front
+-- the empty list of blocks is a prefix
 pub front_none : (i : IntervalValue) → Front i 0 []
 front_none i = record { at_most = omega arith; taken = []; rest = bits i.bytes; mcus = (omega arith, no_blocks i.head no_predictions); spelled = refl }
 
--- where the interval has a decoding, it is told
+-- if the interval has a decoding, the reader reports it
 pub told : (i : IntervalValue) (ys : List (List ℤ)) (b : Bool) → (b ≡ false → HasNoDecoding i) → Decodes i ys → IsTrue b
 told i ys b damaged d = go b damaged
   where

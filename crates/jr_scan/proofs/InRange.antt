@@ -1,4 +1,4 @@
--- The blocks of a decoding, or of a front, are in range.
+-- The blocks of a decoding, or of a prefix, are in range.
 use Rattle.std.proofs.Common.{ℕ, Bool, List, [], ℤ}
 use Rattle.std.specs.List.{All}
 use Rattle.std.proofs.lemmas.List.Elements.{All-from_get_or}

@@ -1,4 +1,4 @@
--- What a guess keeps, as it grows, and as it is taken over.
+-- The contents of a speculative read, as it grows, and as it is taken over.
 use Rattle.std.proofs.Common.{◌≡◌, ℕ, zero, suc, ◌+◌, ◌-◌, ◌*◌, ◌<◌, ◌≤◌, Bool, true, false, cond, eqb, List, [], ◌∷◌, ◌++◌, length, get_or, set, take, drop, refl, sym, ap, subst, ◌∙◌, inl, inr, length-append, length-drop, arith}
 use Rattle.std.specs.Prelude.{ℤ, pos, ◌+ℤ◌}
 use Rattle.std.specs.List.{All}
@@ -33,11 +33,11 @@ guess_of n mcus blocks = record { number = n; mcus = mcus; blocks = blocks }
 abbrev pub with_blocks : GuessValue → List (List ℤ) → GuessValue
 with_blocks g blocks = record { number = g.number; mcus = g.mcus; blocks = blocks }
 
--- without an MCU it is a guess of any interval of its number
+-- without an MCU it is a speculative read of any interval of its number
 pub none_yet : (i : IntervalValue) (n : ℕ) (blocks : List (List ℤ)) → n ≡ i.number → IsGuessOf i (guess_of n [] blocks)
 none_yet i n blocks is = record { number = is; room = omega arith; each = λ k d lt. absurd (omega (arith, lt)) }
 
--- blocks behind those of the MCUs mean nothing
+-- blocks after those of the MCUs mean nothing
 at_below : (m per k : ℕ) (xs ys : List (List ℤ)) → k < m → m * per + per ≤ length xs → take per (drop (k * per) (put_mid (m * per) (m * per + per - m * per) xs ys)) ≡ take per (drop (k * per) xs)
 at_below m per k xs ys lt room =
     let le : suc k * per ≤ m * per = mul-le-mul_right {m = suc k} {n = m} per (omega (arith, lt)) in
@@ -56,7 +56,7 @@ put_long m per xs ys room long =
     let k = m * per + per - m * per in
     omega (arith, length-append (take a xs) (ys ++ post_of a k xs), length-append ys (post_of a k xs), length-take-le a xs (omega (arith, room)), length-drop (a + k) xs, length-drop k (drop a xs), length-drop a xs, long, room)
 
--- blocks that are written behind the MCUs change none of these
+-- blocks that are written after the MCUs change none of these
 pub kept_before : (i : IntervalValue) (g : GuessValue) (xs ys : List (List ℤ)) (m per : ℕ) → IsGuessOf i g → xs ≡ g.blocks → m ≡ length g.mcus → per ≡ length (order_of i.head) → m * per + per ≤ length xs → length ys ≡ per
     → IsGuessOf i (with_blocks g (put_mid (m * per) (m * per + per - m * per) xs ys))
 kept_before i g xs ys m per is same count size room long =
@@ -72,7 +72,7 @@ kept_before i g xs ys m per is same count size room long =
           subst (IsGuessed i (get_or g.mcus k d)) (sym e2) (is.each k d lt);
     }
 
--- one more MCU
+-- one more MCU is appended
 pub kept_more : (i : IntervalValue) (g : GuessValue) (xs ys : List (List ℤ)) (m per : ℕ) (mcu : Guessed) → IsGuessOf i g → xs ≡ g.blocks → m ≡ length g.mcus → per ≡ length (order_of i.head) → m * per + per ≤ length xs → length ys ≡ per
     → IsGuessed i mcu ys → IsGuessOf i (guess_of g.number (g.mcus ++ mcu ∷ []) (put_mid (m * per) (m * per + per - m * per) xs ys))
 kept_more i g xs ys m per mcu is same count size room long next =
@@ -98,7 +98,7 @@ kept_more i g xs ys m per mcu is same count size room long next =
       ];
     }
 
--- how many the last bits are
+-- the number of the last bits is at most that of all
 pub last_few : (i : IntervalValue) (left : List Bool) → AreLastBits i left → length left ≤ 8 * length i.bytes
 last_few i left is = omega (arith, ap length is, left_is i (unpredicted (8 * length i.bytes - length left)))
 
@@ -108,7 +108,7 @@ taken_last i zs old new is t = subst (λ (b : List Bool). TakesMcu i.head no_pre
 pub last_behind : (i : IntervalValue) (zs : List (List ℤ)) (old new : List Bool) → AreLastBits i old → TakesMcu i.head no_predictions zs old new → AreLastBits i new
 last_behind i zs old new is t = left_behind i (unpredicted (8 * length i.bytes - length old)) (8 * length i.bytes - length new) zs new (omega arith) (taken_last i zs old new is t) refl
 
--- an MCU that is read is one of a guess
+-- an MCU that is read is one of a speculative read
 pub guessed : (i : IntervalValue) (mcu : Guessed) (zs : List (List ℤ)) (old new : List Bool) → AreLastBits i old → mcu.from ≡ 8 * length i.bytes - length old → mcu.to.bit ≡ 8 * length i.bytes - length new
     → TakesMcu i.head no_predictions zs old new → mcu.to.predictions ≡ predicted i.head no_predictions zs → HaveSmallFirst zs → IsGuessed i mcu zs
 guessed i mcu zs old new is from to t last small = record {
@@ -117,7 +117,7 @@ guessed i mcu zs old new is from to t last small = record {
   small = small;
 }
 
--- the bits from a bit on
+-- the bits starting at a given bit
 pub last_from : (i : IntervalValue) (from : ℕ) (left : List Bool) → from ≤ 8 * length i.bytes → left ≡ drop from (bits i.bytes) → AreLastBits i left
 last_from i from left within is =
     let e : from ≡ 8 * length i.bytes - length left = omega (arith, ap length is, left_is i (unpredicted from), within) in
@@ -131,7 +131,7 @@ chosen : (P : ℤ → Type 0) (b : Bool) (x y : ℤ) → P x → P y → P (cond
 chosen P true x y p q = p
 chosen P false x y p q = q
 
--- what holds of the first coefficients, and of the predictions to start with, holds of those behind
+-- a predicate that the DC coefficients and the initial predictions satisfy, the later predictions satisfy
 prediction_has : (P : ℤ → Type 0) (h : HeadValue) (start : List ℤ) (zs : List (List ℤ)) (c n : ℕ) → ((c : ℕ) → P (get_or start c (pos 0))) → ((m : ℕ) → m < length zs → P (get_or (block_of zs m) 0 (pos 0))) → n ≤ length zs
     → P (prediction h start zs c n)
 prediction_has P h start zs c zero first each le = first c
@@ -143,7 +143,7 @@ none_small (suc zero) = (omega (arith, ints), omega (arith, ints))
 none_small (suc (suc zero)) = (omega (arith, ints), omega (arith, ints))
 none_small (suc (suc (suc c))) = (omega (arith, ints), omega (arith, ints))
 
--- the predictions behind an MCU with small first coefficients
+-- the predictions after an MCU with small DC coefficients
 predicted_small : (h : HeadValue) (zs : List (List ℤ)) → HaveSmallFirst zs → All IsSmall (predicted h no_predictions zs)
 predicted_small h zs small =
     let at : (c : ℕ) → IsSmall (prediction h no_predictions zs c (length zs)) = λ c. prediction_has IsSmall h no_predictions zs c (length zs) none_small small (omega arith) in
@@ -152,7 +152,7 @@ predicted_small h zs small =
 pub behind_small : (i : IntervalValue) (mcu : Guessed) (zs : List (List ℤ)) → IsGuessed i mcu zs → All IsSmall mcu.to.predictions
 behind_small i mcu zs is = subst (All IsSmall) (sym is.run.predictions) (predicted_small i.head zs is.small)
 
--- each component is predicted to be greater than 0 by what it is predicted to be
+-- the predictions are greater than zeros by themselves
 from_none : (q : List ℤ) → AreGreater q no_predictions q
 from_none q zero lt = omega (arith, ints)
 from_none q (suc zero) lt = omega (arith, ints)
@@ -176,7 +176,7 @@ same_three a b p q same =
     ∙ ap (λ (x : ℤ). get_or b 0 (pos 0) ∷ get_or b 1 (pos 0) ∷ x ∷ []) (same 2 (omega arith))
     ∙ sym (three_places b q)
 
--- a reader at the bit where an MCU of a guess starts takes it over
+-- a reader at the bit where an MCU of a speculative read starts takes it over
 pub taken_over : (i : IntervalValue) (mcu : Guessed) (p to : Place) (zs ys : List (List ℤ)) → IsLawful i.head → IsGuessed i mcu zs → mcu.from ≡ p.bit → length p.predictions ≡ 3 → All IsSmall p.predictions
     → to.bit ≡ mcu.to.bit → length to.predictions ≡ 3 → AreGreater p.predictions mcu.to.predictions to.predictions → AreShifted i.head p.predictions zs ys
     → IsRun (run_from i p 1) ys to AllRead
@@ -191,7 +191,7 @@ taken_over i mcu p to zs ys lawful is from three small bit three' sums s =
     let run2 = subst (λ (n : ℕ). IsRun (run_from i p 1) ys (record { bit = n; predictions = predicted i.head q ys }) AllRead) (sym bit) run1 in
     subst (λ (ps : List ℤ). IsRun (run_from i p 1) ys (record { bit = to.bit; predictions = ps }) AllRead) last run2
 
--- there are as many blocks as MCU k ends at
+-- the blocks reach to the end of MCU k
 pub mcu_within : (i : IntervalValue) (g : GuessValue) (k per : ℕ) → IsGuessOf i g → k < length g.mcus → per ≡ length (order_of i.head) → k * per + per ≤ length g.blocks
 mcu_within i g k per is lt size =
     let le : suc k * per ≤ length g.mcus * per = mul-le-mul_right {m = suc k} {n = length g.mcus} per (omega (arith, lt)) in
@@ -199,7 +199,7 @@ mcu_within i g k per is lt size =
     let all : length g.mcus * per ≡ length g.mcus * length (order_of i.head) = ap (λ (n : ℕ). length g.mcus * n) size in
     omega (arith, le, next, all, is.room)
 
--- the blocks of MCU k, as they are lent
+-- the blocks of MCU k, as a borrowed slice
 pub lent : (i : IntervalValue) (g : GuessValue) (xs : List (List ℤ)) (k per : ℕ) → per ≡ length (order_of i.head) → xs ≡ g.blocks → take (k * per + per - k * per) (drop (k * per) xs) ≡ blocks_at i g k
 lent i g xs k per size same =
     let n : k * per + per - k * per ≡ per = omega arith in
@@ -211,7 +211,7 @@ any_mcu = record { from = 0; to = record { bit = 0; predictions = [] } }
 pub some_guessed : (i : IntervalValue) (g : GuessValue) (k : ℕ) → IsGuessOf i g → k < length g.mcus → (mcu : Guessed) × IsGuessed i mcu (blocks_at i g k)
 some_guessed i g k is lt = (get_or g.mcus k any_mcu, is.each k any_mcu lt)
 
--- a block has a first coefficient
+-- a block has a DC coefficient
 pub some_first : (i : IntervalValue) (mcu : Guessed) (zs : List (List ℤ)) → IsGuessed i mcu zs → (n : ℕ) → n < length zs → 0 < length (get_or zs n [])
 some_first i mcu zs is n lt = omega (arith, (run_in_range _ _ _ _ is.run n [] lt).count)
 

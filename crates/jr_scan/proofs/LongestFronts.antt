@@ -1,4 +1,4 @@
--- Each interval has a longest front, and a decoding or none: its blocks are taken one after the other, as far as they go.
+-- Each interval has a longest prefix, and a decoding or none: its blocks are read one after the other, as far as possible.
 use Rattle.std.proofs.Common.{◌≡◌, ℕ, zero, suc, ◌*◌, ◌/◌, ◌<◌, ◌≤◌, Bool, List, [], ◌∷◌, ◌++◌, length, take, refl, ap, inl, inr, length-append, arith}
 use Rattle.std.specs.Prelude.{◌⊎◌, ℤ}
 use Rattle.std.proofs.lemmas.Bool.{cases_lt}
@@ -14,7 +14,7 @@ use Rattle.jr_mcu.proofs.Words.{OneWord}
 use Rattle.jr_mcu.proofs.FirstBlocks.{first_block}
 use Rattle.jr_mcu.proofs.McuLaws.{Reads, HasNoNext, reads_none, reads_more, reads_stuck, reads_all, blocks_front, no_blocks}
 
--- the blocks in front of the bits, at most so many: they are as many, or no further one follows
+-- the blocks at the start of the bits, at most `most`: there are `most`, or no further one follows
 record BlocksInFront (h : HeadValue) (start : List ℤ) (all : List Bool) (most : ℕ) : Type 0 where
   pub blocks : List (List ℤ)
   pub left : List Bool
@@ -51,7 +51,7 @@ BlocksOf i = BlocksInFront i.head no_predictions (bits i.bytes) (i.mcus * length
 blocks_of : OneWord → (i : IntervalValue) → BlocksOf i
 blocks_of one i = first_blocks one i.head no_predictions (bits i.bytes) (i.mcus * length (order_of i.head))
 
--- no front has more blocks
+-- no prefix has more blocks
 no_longer : OneWord → (i : IntervalValue) (f : BlocksOf i) (j : ℕ) (ys : List (List ℤ)) → Front i j ys → length ys ≤ length f.blocks
 no_longer one i f j ys front = elim (cases_lt (length f.blocks) (length ys)) [
   | inr fits ↦ fits
@@ -63,7 +63,7 @@ no_longer one i f j ys front = elim (cases_lt (length f.blocks) (length ys)) [
   ]
 ]
 
--- as many whole MCUs as those blocks have
+-- the whole MCUs of those blocks are the longest prefix
 whole_mcus : OneWord → (i : IntervalValue) → 0 < length (order_of i.head) → (f : BlocksOf i) → (k : ℕ) × (zs : List (List ℤ)) × LongestFront i k zs
 whole_mcus one i some f =
     let per = length (order_of i.head) in
@@ -88,7 +88,7 @@ whole_mcus one i some f =
       },
     )
 
--- MCUs without data units are all there
+-- without data units, all MCUs are the longest prefix
 empty_mcus : (i : IntervalValue) → length (order_of i.head) ≡ 0 → LongestFront i i.mcus []
 empty_mcus i none = record {
   front = record {
@@ -107,7 +107,7 @@ longest_front one i = elim (cases_lt 0 (length (order_of i.head))) [
   | inr none ↦ (i.mcus, [], empty_mcus i (omega (arith, none)))
 ]
 
--- all blocks are there, and fewer than eight bits behind them
+-- if all blocks are there, with fewer than eight bits after them, they are a decoding; otherwise there is none
 decoding_of : OneWord → (i : IntervalValue) → BlocksOf i → ((zs : List (List ℤ)) × Decodes i zs) ⊎ HasNoDecoding i
 decoding_of one i f = elim f.ends [
   | inl all ↦ elim (cases_lt (length f.left) 8) [

@@ -1,4 +1,4 @@
--- A reader of whole MCUs goes from place to place, and what its end says of the interval.
+-- A reader of whole MCUs moves from position to position, and what its end means for the interval.
 use Rattle.std.proofs.Common.{◌≡◌, ℕ, ◌+◌, ◌-◌, ◌*◌, ◌/◌, ◌<◌, ◌≤◌, Bool, List, [], ◌++◌, length, take, drop, length-drop, refl, sym, ap, subst, ◌∙◌, inl, inr, length-append, arith}
 use Rattle.std.specs.Prelude.{ℤ}
 use Rattle.std.proofs.lemmas.Bool.{cases_lt}
@@ -42,7 +42,7 @@ no_run i p three = record {
   ends = refl;
 }
 
--- where what is taken from a place on leads
+-- the position after the bits that are read starting at a position
 behind : (i : IntervalValue) (p : Place) (bit : ℕ) (taken new : List Bool) → p.bit ≤ 8 * length i.bytes → left_at i p ≡ taken ++ new → bit ≡ 8 * length i.bytes - length new → (bit ≡ p.bit + length taken) × (drop bit (bits i.bytes) ≡ new)
 behind i p bit taken new within split at =
     let there : length taken + length new ≡ 8 * length i.bytes - p.bit = omega (arith, ap length split, length-append taken new, left_is i p) in
@@ -72,7 +72,7 @@ left_behind i p bit zs new within t at = sym (behind i p bit t.taken new within 
 abbrev pub value_of : Inside → McuReaderValue
 value_of r = record { run = record { interval = r.interval; from = r.from; mcus = r.mcus }; mcu = r.mcu; place = record { bit = 8 * length r.interval.bytes - length r.bits; predictions = r.predictions } }
 
--- a reader takes one more MCU
+-- a reader reads one more MCU
 pub next_mcu : (r : McuReaderValue) (left new : List Bool) (ps : List ℤ) (zs : List (List ℤ)) → IsMcuReader r left → r.mcu < r.run.mcus → r.place.bit ≤ 8 * length r.run.interval.bytes
     → TakesMcu r.run.interval.head r.place.predictions zs left new → ps ≡ predicted r.run.interval.head r.place.predictions zs → All IsInDcRange ps
     → IsMcuReader (record { run = r.run; mcu = r.mcu + 1; place = record { bit = 8 * length r.run.interval.bytes - length new; predictions = ps } }) new
@@ -92,7 +92,7 @@ next_mcu r left new ps zs kept more within t last range =
       one_mcu i r.place q zs new within t1 refl last,
     )
 
--- a reader that goes on has read both
+-- a reader that reads further MCUs has read both
 pub read_on : (r r' : McuReaderValue) (k : ℕ) (zs ys : List (List ℤ)) → IsLawful r.run.interval.head → r'.run ≡ r.run → r'.mcu ≡ r.mcu + k → r'.mcu ≤ r'.run.mcus
     → IsRun (run_from r.run.interval r.place k) ys r'.place AllRead → HasRead r zs → HasRead r' (zs ++ ys)
 read_on r r' k zs ys lawful run mcu few more s =
@@ -100,7 +100,7 @@ read_on r r' k zs ys lawful run mcu few more s =
     let here = subst (λ (n : ℕ). IsRun (run_from r.run.interval r.run.from n) (zs ++ ys) r'.place AllRead) (sym mcu) both in
     record { few = few; run = subst (λ (o : RunOf). IsRun (run_from o.interval o.from r'.mcu) (zs ++ ys) r'.place AllRead) (sym run) here }
 
--- a reader that passes over MCUs has read them
+-- a reader that skips MCUs has read them
 pub passed_on : (r r' new : McuReaderValue) (k : ℕ) (zs ys : List (List ℤ)) → IsLawful r.run.interval.head → r'.run ≡ r.run → r'.mcu ≡ r.mcu + k → r'.mcu ≤ r'.run.mcus
     → IsRun (run_from r.run.interval r.place k) ys r'.place AllRead → new ≡ r' → HasRead r zs
     → (ys : List (List ℤ)) × (length ys ≡ k * per_mcu r) × All IsInRange ys × HasRead new (zs ++ ys)
@@ -109,7 +109,7 @@ passed_on r r' new k zs ys lawful run mcu few more same s =
     let long : length ys ≡ k * per_mcu r = more.mcus.0 ∙ ap (λ (n : ℕ). n * per_mcu r) count in
     (ys, long, run_in_range _ _ _ _ more, subst (λ (x : McuReaderValue). HasRead x (zs ++ ys)) (sym same) (read_on r r' k zs ys lawful run mcu few more s))
 
--- the MCUs that a reader of a whole interval has read are a front
+-- the MCUs that a reader of a whole interval has read are a prefix
 pub front_of_run : (i : IntervalValue) (k : ℕ) (zs : List (List ℤ)) (to : Place) → IsRun (run_from i start_of_interval k) zs to AllRead → k ≤ i.mcus → Front i k zs
 front_of_run i k zs to r few = record { at_most = few; taken = r.taken; rest = left_at i to; mcus = subst (λ (n : ℕ). Mcus i.head no_predictions n zs r.taken) r.ends r.mcus; spelled = r.spelled }
 
@@ -121,7 +121,7 @@ run_of_front i k zs f =
       record { count = k; few = omega arith; taken = f.taken; mcus = f.mcus; spelled = f.spelled ∙ ap (λ (w : List Bool). f.taken ++ w) (sym left); bit = omega arith; predictions = refl; ends = refl },
     )
 
--- so many MCUs, behind which no whole one follows, where there may be more
+-- k of m MCUs, after which no whole one follows
 pub stopped : (i : IntervalValue) (from to : Place) (k m : ℕ) (zs : List (List ℤ)) → k < m → IsRun (run_from i from k) zs to AllRead → HasNoMcu i to → IsRun (run_from i from m) zs to NoMcu
 stopped i from to k m zs lt r none = let count : r.count ≡ k = r.ends in record { count = r.count; few = omega (arith, count, lt); taken = r.taken; mcus = r.mcus; spelled = r.spelled; bit = r.bit; predictions = r.predictions; ends = (omega (arith, count, lt), none) }
 
@@ -155,7 +155,7 @@ longest_read r i zs lawful all = record { front = front_read r i zs all.0; longe
           absurd (no_more one_word (run_from i start_of_interval j) zs ys r.place there.0 NoMcu AllRead three a there.1 (omega (arith, count, l)))
     ]
 
--- where they are not, the interval has no decoding
+-- otherwise the interval has no decoding
 pub damaged_read : (r : McuReaderValue) (left : List Bool) (i : IntervalValue) (zs : List (List ℤ)) → IsMcuReader r left → (r.mcu ≡ r.run.mcus → length left < 8 → ⊥) → HasReadAll r i zs → HasNoDecoding i
 damaged_read r left i zs kept far all ys d =
     let three = component_low i.head (own_lawful r i kept.lawful all.0.0) in
@@ -167,7 +167,7 @@ damaged_read r left i zs kept far all ys d =
     let same : r.place ≡ there.0 = (one_run one_word (whole_run i) zs ys r.place there.0 AllRead AllRead three mine there.1).1 in
     far (count ∙ ap (λ (o : RunOf). o.mcus) (sym all.0.0)) (omega (arith, there.2, ap (λ (p : Place). length (left_at i p)) same, ap length (kept.bits ∙ ap (λ (o : RunOf). left_at o.interval r.place) all.0.0)))
 
--- one more MCU, written behind those that a slice holds
+-- one more MCU, written after those that a slice holds
 pub more_held : (i : IntervalValue) (p q s : Place) (k per : ℕ) (xs ys : List (List ℤ)) → IsLawful i.head → k * per + per ≤ length xs → length ys ≡ per → IsRun (run_from i p k) (take (k * per) xs) q AllRead → IsRun (run_from i q 1) ys s AllRead
     → IsRun (run_from i p (k + 1)) (take ((k + 1) * per) (put_mid (k * per) (k * per + per - k * per) xs ys)) s AllRead
 more_held i p q s k per xs ys lawful room long before next =
@@ -175,7 +175,7 @@ more_held i p q s k per xs ys lawful room long before next =
     let e : take ((k + 1) * per) (put_mid (k * per) (k * per + per - k * per) xs ys) ≡ take (k * per) xs ++ ys = take-put_mid (k * per) (k * per + per - k * per) xs ys ((k + 1) * per) size (omega (arith, room)) in
     subst (λ (zs : List (List ℤ)). IsRun (run_from i p (k + 1)) zs s AllRead) (sym e) (runs_meet i p q s k 1 (take (k * per) xs) ys AllRead (component_low i.head lawful) before next)
 
--- where no whole MCU follows a place, no run from there on has one
+-- if no whole MCU follows a position, no run starting there has one
 pub no_first : (i : IntervalValue) (p q : Place) (k : ℕ) (zs : List (List ℤ)) → HasNoMcu i p → IsRun (run_from i p k) zs q AllRead → k ≡ 0
 no_first i p q k zs none r = elim (cases_lt 0 k) [
   | inl some ↦
@@ -187,12 +187,12 @@ no_first i p q k zs none r = elim (cases_lt 0 k) [
   | inr none_read ↦ omega (arith, none_read)
 ]
 
--- a reader that has ended takes none
+-- a reader that has ended reads none
 pub takes_none : (r : McuReaderValue) (q : Place) (k : ℕ) (zs : List (List ℤ)) → r.mcu + k ≤ r.run.mcus → IsRun (run_from r.run.interval r.place k) zs q AllRead → HasEnded r → k ≡ 0
 takes_none r q k zs few run (inl full) = omega (arith, full, few)
 takes_none r q k zs few run (inr none) = no_first r.run.interval r.place q k zs none run
 
--- where as many MCUs are read as can be, no whole one follows
+-- if the maximum number of MCUs is read, no whole one follows
 pub no_room : (i : IntervalValue) (from to : Place) (n m most : ℕ) (zs : List (List ℤ)) → IsLawful i.head → to.bit ≤ 8 * length i.bytes → IsRun (run_from i from n) zs to AllRead
     → ((k : ℕ) (ys : List (List ℤ)) (q : Place) → IsRun (run_from i from k) ys q AllRead → k ≤ m → k ≤ most) → most ≤ n → n < m → HasNoMcu i to
 no_room i from to n m most zs lawful within r enough full lt ys taken rest u e =
@@ -201,7 +201,7 @@ no_room i from to n m most zs lawful within r enough full lt ys taken rest u e =
     let both = runs_meet i from to q n 1 zs ys AllRead (component_low i.head lawful) r (one_mcu i to q ys rest within t refl refl) in
     omega (arith, enough (n + 1) (zs ++ ys) q both (omega (arith, lt)), full)
 
--- each data unit of a run takes two bits or more
+-- each data unit of a run has two bits or more
 pub run_few : (i : IntervalValue) (from to : Place) (k : ℕ) (zs : List (List ℤ)) → 0 < length (order_of i.head) → IsRun (run_from i from k) zs to AllRead → k ≤ (8 * length i.bytes - from.bit) / (2 * length (order_of i.head))
 run_few i from to k zs some r =
     let per = length (order_of i.head) in

@@ -1,4 +1,4 @@
--- What holds of bits that were taken where there are enough.
+-- What holds for bits that are read if there are enough.
 use Rattle.std.proofs.Common.{◌≡◌, ℕ, ◌≤◌, Bool, List, length, take, drop, Option, Some, None}
 use Rattle.std.specs.Prelude.{IsSome, IfSome}
 use Rattle.jr_code.specs.Bits.{number}

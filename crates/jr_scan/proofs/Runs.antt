@@ -25,7 +25,7 @@ use Rattle.jr_scan.specs.Run.{RunOf, whole_run, left_at, EndsAs, IsRun}
 use Rattle.jr_mcu.proofs.Words.{OneWord}
 use Rattle.jr_mcu.proofs.McuLaws.{prediction_same, is_block_same, one_blocks, blocks_front, blocks_before}
 
--- behind whole MCUs the components come as from the start on
+-- after whole MCUs the components repeat from the first
 component_on : (h : HeadValue) (k n : ℕ) → component h (k * length (order_of h) + n) ≡ component h n
 component_on h k n = ap (λ (j : ℕ). get_or (order_of h) j 0) (mul-add-mod_self_right k (length (order_of h)) n)
 
@@ -35,7 +35,7 @@ predicted_at h start zs (suc zero) lt = refl
 predicted_at h start zs (suc (suc zero)) lt = refl
 predicted_at h start zs (suc (suc (suc c))) lt = absurd (omega arith)
 
--- behind blocks of whole MCUs, the prediction is that of what follows from the last of those blocks on
+-- after blocks of whole MCUs, the prediction is that of the later blocks, starting with the predictions after the first ones
 prediction_on : (h : HeadValue) (start : List ℤ) (k : ℕ) (zs ys : List (List ℤ)) (c n : ℕ) → c < 3 → length zs ≡ k * length (order_of h) → n ≤ length ys → prediction h start (zs ++ ys) c (length zs + n) ≡ prediction h (predicted h start zs) ys c n
 prediction_on h start k zs ys c zero lt whole le =
     let e : length zs + 0 ≡ length zs = omega arith in
@@ -50,7 +50,7 @@ prediction_on h start k zs ys c (suc n) lt whole le =
     ∙ ap (λ (z : List ℤ). cond (eqb (component h n) c) (get_or z 0 (pos 0)) (prediction h start (zs ++ ys) c (length zs + n))) here
     ∙ ap (λ (q : ℤ). cond (eqb (component h n) c) (get_or (block_of ys n) 0 (pos 0)) q) before
 
--- blocks behind whole MCUs, and those before them, are blocks together
+-- blocks after whole MCUs, and those before them, are blocks together
 blocks_join : (h : HeadValue) (start : List ℤ) (k : ℕ) (zs ys : List (List ℤ)) (u v : List Bool) → ((n : ℕ) → component h n < 3) → length zs ≡ k * length (order_of h)
     → (b : Blocks h start zs u) → (d : Blocks h (predicted h start zs) ys v) → Blocks h start (zs ++ ys) (u ++ v)
 blocks_join h start k zs ys u v three whole b d =
@@ -110,7 +110,7 @@ runs_meet i p q s k m zs ys end three a b =
     ended AllRead h = let full : a.count ≡ k = a.ends in omega (arith, full, h)
     ended NoMcu h = let full : a.count ≡ k = a.ends in (omega (arith, full, h.0), h.1)
 
--- the blocks behind whole MCUs, by themselves
+-- the blocks after whole MCUs, by themselves
 blocks_behind : (h : HeadValue) (start : List ℤ) (k : ℕ) (zs ys : List (List ℤ)) (w : List Bool) → ((n : ℕ) → component h n < 3) → length zs ≡ k * length (order_of h)
     → (b : Blocks h start (zs ++ ys) w) → Blocks h (predicted h start zs) ys (all_bits (drop (length zs) b.parts))
 blocks_behind h start k zs ys w three whole b =
@@ -135,7 +135,7 @@ blocks_behind h start k zs ys w three whole b =
         let x3 = subst (λ (y : List ℤ). BlockAt (dc_of h (component h m)) (ac_of h (component h m)) (prediction h (predicted h start zs) ys (component h m) m) y (get_or b.parts n [])) z x2 in
         subst (λ (y : List Bool). BlockAt (dc_of h (component h m)) (ac_of h (component h m)) (prediction h (predicted h start zs) ys (component h m) m) (block_of ys m) y) (sym part) x3
 
--- a component's number is below three where there are at most three components
+-- a component's number is below three if there are at most three components
 order_low : (c : ℕ) (ks : List Component) (n : ℕ) → get_or (order_from c ks) n 0 ≤ c + length ks - 1
 order_low c [] n = omega arith
 order_low c (k ∷ ks) n = elim (cases_lt n (units_of k)) [
@@ -156,7 +156,7 @@ component_low h lawful n =
 same_place : (a b : Place) → a.bit ≡ b.bit → a.predictions ≡ b.predictions → a ≡ b
 same_place a b p q = ap (λ (k : ℕ). record { bit = k; predictions = a.predictions }) p ∙ ap (λ (k : List ℤ). record { bit = b.bit; predictions = k }) q
 
--- where no whole MCU follows whole MCUs, no run has more of them
+-- if no whole MCU follows whole MCUs, no run has more of them
 pub no_more : OneWord → (r : RunOf) (zs ys : List (List ℤ)) (a b : Place) (e f : RunEnd) → ((n : ℕ) → component r.interval.head n < 3) → (s : IsRun r zs a e) → (t : IsRun r ys b f) → s.count < t.count → ⊥
 no_more one r zs ys a b e f three s t lt = go e s.ends
   where
@@ -207,7 +207,7 @@ one_run one r zs ys a b e f three s t =
     ended NoMcu AllRead p q c = absurd (omega (arith, q, p.0, c))
     ended NoMcu NoMcu p q c = refl
 
--- an interval decodes where its whole run has all MCUs, and fewer than eight bits are left behind it
+-- an interval has a decoding if its whole run has all MCUs, and fewer than eight bits are left after it
 pub decoding_is_run : (i : IntervalValue) (zs : List (List ℤ)) → Decodes i zs → (to : Place) × IsRun (whole_run i) zs to AllRead × (length (left_at i to) < 8)
 decoding_is_run i zs d =
     let n = length d.taken in
@@ -243,7 +243,7 @@ three_places (a ∷ b ∷ []) e = absurd (omega arith)
 three_places (a ∷ b ∷ c ∷ []) e = refl
 three_places (a ∷ b ∷ c ∷ d ∷ es) e = absurd (omega arith)
 
--- the bits of bytes from a bit on
+-- the bits of bytes starting at a given bit
 drop_bytes : (n : ℕ) (bytes : List ℕ) → bits (drop n bytes) ≡ drop (8 * n) (bits bytes)
 drop_bytes zero bytes = refl
 drop_bytes (suc n) [] = sym (drop_all (8 * suc n) [] (omega arith))

@@ -25,7 +25,7 @@ is_scan h file bytes segments n at end en ea eb c =
     let c3 = subst (λ (k : ℕ). IsCut k h.scan_at (drop h.scan_at file) segments end) en c2 in
     record { segments = segments; cut = c3; intervals = refl }
 
--- the same, as it is kept
+-- the same, from the stored fields
 pub kept_scan : (h h' : HeadValue) (unstuffed unstuffed' : List ℕ) (spans : List Span) (n : ℕ) (end : ScanEnd) → h' ≡ h → unstuffed' ≡ unstuffed → n ≡ intervals_of h
     → ◌≡◌ {A = ScanValue} (record { head = h'; intervals = map (segment_data unstuffed') spans ++ replicate (n - length spans) []; ended = end }) (scan_of_segments h (map (segment_data unstuffed) spans) end)
 kept_scan h h' unstuffed unstuffed' spans n end eh eu en =
@@ -46,7 +46,7 @@ padded_at [] n i = none n i
 padded_at (s ∷ ss) n zero = refl
 padded_at (s ∷ ss) n (suc i) = padded_at ss n i
 
--- bytes are cut so
+-- the cut bytes are the scan so far
 pub has_come : (h : HeadValue) (c : PartialCutValue) (bytes : List ℕ) → c.intervals ≡ intervals_of h → h.scan_at ≤ length bytes → c.at + length c.rest ≤ length bytes → HasCut h.scan_at (drop h.scan_at bytes) c → HasCome (partial_scan h c) bytes
 unfolding is_scan
 has_come h c bytes en starts few cut = record {
@@ -69,7 +69,7 @@ come_more h old new bytes more en few on come =
 pub interval_is : (i : IntervalValue) (n m : ℕ) (b : List ℕ) (h : HeadValue) → i.number ≡ n → i.mcus ≡ m → i.bytes ≡ b → i.head ≡ h → i ≡ record { number = n; mcus = m; bytes = b; head = h }
 interval_is i n m b h p q r s = rw (← p, ← q, ← r, ← s) refl
 
--- as many intervals as the head has
+-- the number of intervals that the header says
 pub padded_count : (segments : List (List ℕ)) (n : ℕ) → length segments ≤ n → length (segments ++ replicate {A = List ℕ} (n - length segments) []) ≡ n
 padded_count segments n few = omega (arith, few, length-append segments (replicate (n - length segments) []), length-replicate {A = List ℕ} (n - length segments) [])
 

@@ -1,4 +1,4 @@
--- A run that begins with other predictions has the same bits, and shifted first coefficients.
+-- A run that begins with other predictions has the same bits, and shifted DC coefficients.
 use Rattle.std.proofs.Common.{◌≡◌, ℕ, zero, suc, ◌<◌, ◌≤◌, Bool, cond, List, [], ◌∷◌, length, get_or, refl, sym, ap, subst, ◌∙◌, inl, inr, arith}
 use Rattle.std.specs.Prelude.{ℤ, pos, ◌+ℤ◌}
 use Rattle.std.proofs.lemmas.Bool.Decides.{eqb_tells}
@@ -15,7 +15,7 @@ use Rattle.jr_mcu.specs.Shift.{of_component, AreGreater, IsShifted, AreShifted, 
 first_of : (d : ℤ) (z y : List ℤ) → IsShifted d z y → get_or y 0 (pos 0) ≡ get_or z 0 (pos 0) +ℤ d
 first_of d z y s = ap (λ (x : List ℤ). get_or x 0 (pos 0)) s.is ∙ ap (λ (x : List ℤ). get_or x 0 (pos 0) +ℤ d) (sym s.was)
 
--- predictions stay greater by what is given
+-- predictions stay greater by the given differences
 pub prediction_shifted : (h : HeadValue) (by p q : List ℤ) (zs ys : List (List ℤ)) (c n : ℕ) → c < 3 → AreGreater by p q → AreShifted h by zs ys → n ≤ length zs
     → prediction h q ys c n ≡ prediction h p zs c n +ℤ of_component by c
 prediction_shifted h by p q zs ys c zero low start s le = start c low
@@ -86,7 +86,7 @@ run_shifted i from to k by q zs ys three start s range r =
       ends = r.ends;
     }
 
--- what is predicted behind it is greater by as much
+-- the predictions after it are greater by the same differences
 pub predicted_shifted : (h : HeadValue) (by p q : List ℤ) (zs ys : List (List ℤ)) → AreGreater by p q → AreShifted h by zs ys → AreGreater by (predicted h p zs) (predicted h q ys)
 predicted_shifted h by p q zs ys start s c low =
     at c (predicted h q ys) q ys low ∙ ap (prediction h q ys c) s.count ∙ prediction_shifted h by p q zs ys c (length zs) low start s (omega arith) ∙ ap (λ (x : ℤ). x +ℤ of_component by c) (sym (at c (predicted h p zs) p zs low))

@@ -1,4 +1,4 @@
--- A reader that goes on over MCUs of a guess.
+-- A reader that takes over MCUs of a speculative read.
 use Rattle.std.proofs.Common.{◌≡◌, ℕ, ◌+◌, ◌-◌, ◌*◌, ◌<◌, ◌≤◌, List, [], ◌++◌, length, take, drop, append_assoc, length-append, refl, sym, ap, subst, ◌∙◌, inl, inr, arith}
 use Rattle.std.specs.Prelude.{ℤ}
 use Rattle.std.proofs.lemmas.List.{append-nil, length-take-le, take-append-le}
@@ -16,11 +16,11 @@ use Rattle.jr_scan.specs.Run.{RunOf, run_from, IsRun}
 use Rattle.jr_scan.specs.McuReader.{McuReaderValue, HasRead, HasEnded, per_mcu}
 use Rattle.jr_scan.proofs.McuReaders.{no_first, passed_on, read_on}
 
--- a reader, so many MCUs further on
+-- a reader, k MCUs later
 abbrev gone : McuReaderValue → ℕ → Place → McuReaderValue
 gone r k to = record { run = r.run; mcu = r.mcu + k; place = to }
 
--- the run of a guess's interval is one of the reader's
+-- the run of the speculative read's interval is one of the reader's
 pub own_run : (r : McuReaderValue) (i : IntervalValue) (p to : Place) (k : ℕ) (ys : List (List ℤ)) → i ≡ r.run.interval → p ≡ r.place → IsRun (run_from i p k) ys to AllRead → IsRun (run_from r.run.interval r.place k) ys to AllRead
 own_run r i p to k ys same at run = subst (λ (j : IntervalValue). IsRun (run_from j r.place k) ys to AllRead) same (subst (λ (q : Place). IsRun (run_from i q k) ys to AllRead) at run)
 
@@ -36,7 +36,7 @@ pub ended_stays : (r new : McuReaderValue) (k : ℕ) (to : Place) (ys : List (Li
 ended_stays r new k to ys some few run (inl full) = absurd (omega (arith, some, few, full))
 ended_stays r new k to ys some few run (inr none) = let first = no_first r.run.interval r.place to k ys none run in absurd (omega (arith, some, first))
 
--- the first of what a slice holds up to its part, and in it
+-- the first elements of a slice after a write: those before the part, and the part's first ones
 take_grown : (a k n : ℕ) (xs ys : List (List ℤ)) → n ≤ length ys → a ≤ length xs → take (a + n) (put_mid a k xs ys) ≡ take a xs ++ take n ys
 take_grown a k n xs ys fits le =
     let rest = ys ++ post_of a k xs in
@@ -46,7 +46,7 @@ take_grown a k n xs ys fits le =
     ∙ ap (λ (l : List (List ℤ)). take a xs ++ take n l) behind
     ∙ ap (λ (l : List (List ℤ)). take a xs ++ l) (take-append-le n ys (post_of a k xs) fits)
 
--- what a slice holds first is the blocks of so many MCUs, from a reader to another
+-- the first blocks of a slice are those of n MCUs, from a reader to another
 pub record HaveRead (r new : McuReaderValue) (n : ℕ) (blocks : List (List ℤ)) : Type 0 where
   pub read : (zs : List (List ℤ)) → HasRead r zs → HasRead new (zs ++ take (n * per_mcu r) blocks)
   pub in_range : All IsInRange (take (n * per_mcu r) blocks)
@@ -69,7 +69,7 @@ read_both r mid new done some per xs ys run size fits room first second =
       in_range = subst (All IsInRange) (sym e) (All-append IsInRange left right first.in_range second.in_range);
     }
 
--- some blocks of so many MCUs lead from a reader to another
+-- some blocks of n MCUs are between a reader and another
 abbrev pub HavePassed : McuReaderValue → McuReaderValue → ℕ → Type 0
 HavePassed r new n = (zs : List (List ℤ)) → HasRead r zs → (ys : List (List ℤ)) × (length ys ≡ n * per_mcu r) × All IsInRange ys × HasRead new (zs ++ ys)
 

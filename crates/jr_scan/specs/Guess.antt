@@ -14,7 +14,7 @@ use Rattle.jr_scan.specs.Run.{run_from, IsRun}
 abbrev pub unpredicted : ℕ → Place
 unpredicted bit = record { bit = bit; predictions = no_predictions }
 
--- one MCU with these blocks, from a bit on where each component is predicted to be 0
+-- one MCU with these blocks, starting at a bit with a prediction of 0 for each component
 pub record IsGuessed (i : IntervalValue) (mcu : Guessed) (zs : List (List ℤ)) : Type 0 where
   pub within : mcu.to.bit ≤ 8 * length i.bytes
   pub run : IsRun (run_from i (unpredicted mcu.from) 1) zs mcu.to AllRead

@@ -1,4 +1,4 @@
--- A run of MCUs: starting at a position of an interval, as many whole MCUs as there are, at most a given number.
+-- A run of MCUs: the whole MCUs starting at a position of an interval, at most a given number.
 use Rattle.std.specs.Prelude.{◌≡◌, ℕ, ◌+◌, ◌<◌, ◌≤◌, Bool, List, ◌++◌, length, drop, ℤ}
 use Rattle.jr_code.specs.Bits.{bits}
 use Rattle.jr_scan.specs.declared.place.Place.{Place}
@@ -28,7 +28,7 @@ run_from i p k = record { interval = i; from = p; mcus = k }
 abbrev pub place_with : Place → List ℤ → Place
 place_with p predictions = record { bit = p.bit; predictions = predictions }
 
--- the bits of the interval from the place on
+-- the bits of the interval starting at the position
 abbrev pub left_at : IntervalValue → Place → List Bool
 left_at i p = drop p.bit (bits i.bytes)
 
@@ -36,12 +36,12 @@ left_at i p = drop p.bit (bits i.bytes)
 abbrev pub HasNoMcu : IntervalValue → Place → Type 0
 HasNoMcu i p = BeginsNoMcu i.head p.predictions (left_at i p)
 
--- all MCUs that were asked for are there, or no further one follows
+-- all requested MCUs are there, or no further one follows
 abbrev pub EndsAs : RunOf → ℕ → Place → RunEnd → Type 0
 EndsAs r count to AllRead = count ≡ r.mcus
 EndsAs r count to NoMcu = (count < r.mcus) × HasNoMcu r.interval to
 
--- the run has these blocks, ends at that place, and for this reason
+-- the run has these blocks, ends at that position, and for this reason
 pub record IsRun (r : RunOf) (zs : List (List ℤ)) (to : Place) (end : RunEnd) : Type 0 where
   pub count : ℕ
   pub few : count ≤ r.mcus

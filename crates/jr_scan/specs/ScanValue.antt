@@ -6,13 +6,13 @@ use Rattle.jr_cut.specs.declared.scan_end.ScanEnd.{ScanEnd}
 use Rattle.jr_cut.specs.Cut.{IsCut}
 use Rattle.jr_scan.specs.IntervalValue.{IntervalValue}
 
--- the head, the data bytes of each interval, and what ended the scan
+-- the header, the data bytes of each interval, and what ended the scan
 pub record ScanValue : Type 0 where
   pub head : HeadValue
   pub intervals : List (List ℕ)
   pub ended : ScanEnd
 
--- the scan of a head that is cut into these segments; further intervals have no data
+-- the scan of a header that is cut into these segments; further intervals have no data
 abbrev pub scan_of_segments : HeadValue → List (List ℕ) → ScanEnd → ScanValue
 scan_of_segments h segments end = record { head = h; intervals = segments ++ replicate (intervals_of h - length segments) []; ended = end }
 
@@ -25,7 +25,7 @@ pub record IsScanOf (file : List ℕ) (s : ScanValue) : Type 0 where
   pub cut : IsCut (intervals_of s.head) s.head.scan_at (drop s.head.scan_at file) segments s.ended
   pub intervals : s.intervals ≡ segments ++ replicate (intervals_of s.head - length segments) []
 
--- equal heads, and the same data in each interval; what ended them may differ
+-- equal headers, and the same data in each interval; what ended them may differ
 abbrev pub IsSameScan : ScanValue → ScanValue → Type 0
 IsSameScan s t = (s.head ≡ t.head) × (s.intervals ≡ t.intervals)
 

@@ -22,8 +22,8 @@ use jr_mcu::{all_small, put_shifted, read_unpredicted, sums};
 use std::alloc::Global;
 use std::marker::Model;
 
-/// Returns how often a speculative read of these bits starts at most. Each start reads one MCU in vain, of 640 codes or
-/// fewer, so that all of them read fewer codes in vain than there are bits, but for some thousands.
+/// Returns the maximum number of starts of a speculative read of these bits. Each reads one MCU in vain, of 640 codes
+/// or fewer, so that all of them read fewer codes in vain than there are bits, but for some thousands.
 fn most_starts(from: u64, to: u64) -> u64 {
     16 + to.saturating_sub(from) / 1024
 }

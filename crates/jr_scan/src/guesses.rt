@@ -55,7 +55,7 @@ impl Guesses {
         }
     }
 
-    /// These, and another in the place of the oldest.
+    /// Returns these, with another instead of the oldest.
     pub fn with(self, guess: Arc<Guess>) -> Guesses
         ensures { (i : IntervalValue) → AreGuessesOf i self → IsGuessOf i (arc_value guess) → AreGuessesOf i result }
     {

@@ -121,7 +121,7 @@ impl Interval {
     }
 
     /// Returns the maximum number of whole MCUs of the interval: as many as its header claims, and no more than its
-    /// bits can code, since each data unit takes two bits or more.
+    /// bits can code, since each data unit has two bits or more.
     pub fn most_mcus(&self) -> u32
         ensures enough { (k : ℕ) (zs : List (List ℤ)) → Front self.now k zs → k ≤ result }
         ensures claimed { result ≤ self.now.mcus }

@@ -50,7 +50,7 @@ pub fn runs_meet()
         → a.end ≡ AllRead → IsRun (run_from i p (k + m)) (a.blocks ++ b.blocks) b.to b.end }
 {}
 
-/// An interval decodes to the blocks of its whole run, where this has all MCUs and leaves fewer than eight bits.
+/// An interval decodes to the blocks of its whole run, if this has all MCUs and leaves fewer than eight bits.
 pub fn decoding_is_whole_run()
     ensures { (i : IntervalValue) (zs : List (List ℤ)) → Decodes i zs ↔ IsSoundRun i zs }
 {}

@@ -26,7 +26,7 @@ impl Place {
 /// Why a run of MCUs ends.
 #[derive(Clone, Copy)]
 pub enum RunEnd {
-    /// The run has as many MCUs as it may have.
+    /// The run has the maximum number of MCUs.
     AllRead,
     /// No further MCU follows.
     NoMcu,

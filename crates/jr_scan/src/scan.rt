@@ -132,7 +132,7 @@ impl Scan {
         Ok(Interval::of(head, unstuffed, span, i, self.head.mcus_in(i)))
     }
 
-    /// Returns interval i, borrowed from the scan. It takes no memory.
+    /// Returns interval i, borrowed from the scan. It allocates nothing.
     pub fn interval_ref(&self, i: u32) -> IntervalRef<'_>
         requires { i < length self.now.intervals }
         ensures { result ≡ interval_of self.now i }

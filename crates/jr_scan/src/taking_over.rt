@@ -152,7 +152,7 @@ impl<'a> McuReader<'a> {
         done
     }
 
-    /// Takes over what one of the speculative reads has from here on, or reads the next MCU.
+    /// Takes over what one of the speculative reads has starting here, or reads the next MCU.
     fn read_some(&mut self, guesses: &Guesses, blocks: &mut [Coefficients]) -> u32
         requires same { AreGuessesOf self.old.run.interval guesses.now }
         requires room { per_mcu self.old ≤ length blocks.old }
@@ -201,7 +201,7 @@ impl<'a> McuReader<'a> {
         done
     }
 
-    /// Skips what one of the speculative reads has from here on, or the next MCU.
+    /// Skips what one of the speculative reads has starting here, or the next MCU.
     fn skip_some(&mut self, guesses: &Guesses, mcus: u32) -> u32
         requires same { AreGuessesOf self.old.run.interval guesses.now }
         requires some { 0 < mcus }

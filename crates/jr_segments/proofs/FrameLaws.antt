@@ -40,7 +40,7 @@ repeats_more : (cs : List FrameComponent) (i : ℕ) (d : FrameComponent) → i <
 unfolding has_repeats
 repeats_more cs i d h = ap has_repeats (drop_more cs i d h)
 
--- the rest as the code takes it
+-- the rest as the slice that the code reads
 pub repeats_slice : (cs : List FrameComponent) (i : ℕ) (d : FrameComponent) (b : Bool) → i < length cs
     → b ≡ list_any (λ c. c.id == (get_or cs i d).id) (take (length cs - (i + 1)) (drop (i + 1) cs)) → has_repeats (drop i cs) ≡ (b || has_repeats (drop (i + 1) cs))
 repeats_slice cs i d b h e =
@@ -52,7 +52,7 @@ pub repeats_end : (cs : List FrameComponent) → has_repeats (drop (length cs) c
 unfolding has_repeats
 repeats_end cs = ap has_repeats (drop_all (length cs) cs (omega arith))
 
--- how many entries a frame header has
+-- the number of entries of a frame header
 components_count : (n : ℕ) (s : List ℕ) → length s ≡ 3 * n → length (components_in s) ≡ n
 unfolding components_in
 components_count zero [] h = refl

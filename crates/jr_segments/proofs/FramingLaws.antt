@@ -7,7 +7,7 @@ use Rattle.jr_segments.specs.Tests.{Test, first_fault}
 use Rattle.jr_segments.specs.Segments.{framing_tests, marker_tests, code_tests, length_tests, at_code}
 use Rattle.jr_segments.proofs.TestLaws.{obeys_front, obeys_back}
 
--- a refusal of these tests, but for want of memory
+-- a refusal of these tests, unless memory ran out
 abbrev pub Refuses : Refusal → List Test → Type 0
 Refuses r ts = r ≢ Memory → first_fault ts ≡ Some r
 

@@ -10,7 +10,7 @@ use Rattle.jr_segments.specs.Tables.{last_where}
 use Rattle.jr_segments.specs.HuffmanTables.{HuffmanTable, huffman_table, huffman_tables, huffman_table_len, huffman_table_for, AreHuffmanTables}
 use Rattle.jr_segments.proofs.TableLaws.{hd, tl, map_split, tables_none, last_push}
 
--- a table of another class leaves the places as they are
+-- a table of another class leaves the entries unchanged
 other_case : (now : List HuffmanTable) (places : List (Option Table)) (class : ℕ) (d : HuffmanTable) (th : ℕ) (b : Bool) → eqb d.class class ≡ b → d.class ≢ class → get_or places th None ≡ huffman_table_for now class th
     → get_or places th None ≡ option_map (λ (x : HuffmanTable). x.table) (if (b && eqb d.destination th) then Some d else last_where (λ (x : HuffmanTable). eqb x.class class && eqb x.destination th) now)
 unfolding huffman_table_for

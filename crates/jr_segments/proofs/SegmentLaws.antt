@@ -1,4 +1,4 @@
--- A segment that passes the tests of its framing is spelled so.
+-- A segment that passes the tests of its framing has the bytes of its spelling.
 use Rattle.std.proofs.Common.{◌≡◌, ◌≢◌, ℕ, suc, ◌+◌, ◌-◌, ◌*◌, ◌/◌, ◌%◌, ◌<◌, ◌≤◌, Bool, true, false, cond, eqb, ltb, List, [], ◌∷◌, ◌++◌, length, get_or, take, drop, replicate, None, refl, sym, ap, ◌∙◌, append_assoc, arith}
 use Rattle.std.specs.List.{prefix_len}
 use Rattle.std.specs.Prelude.{◌==◌}
@@ -26,7 +26,7 @@ front_case b bs true e h =
     rw s (ap (λ (x : ℕ). x ∷ bs) (eqb-true b PREFIX e) ∙ ap (λ (t : List ℕ). PREFIX ∷ t) h)
 front_case b bs false e h = refl
 
--- FF bytes stand in front of the code
+-- FF bytes are before the code
 pub front_is : (bytes : List ℕ) → bytes ≡ replicate (fill_count bytes) PREFIX ++ at_code bytes
 front_is [] = refl
 front_is (b ∷ bs) = front_case b bs (eqb b PREFIX) refl (front_is bs)
@@ -55,7 +55,7 @@ body_is (a ∷ b ∷ rest) fits h k l =
       omega (arith, len, fa, fb),
     )
 
--- what the tests of the framing give
+-- the facts about bytes that pass the tests of the framing
 pub record Framed (framed : Bool) (bytes : List ℕ) : Type 0 where
   pub is : bytes ≡ segment_bytes (segment_at bytes) ++ behind_segment bytes
   pub short : length (segment_at bytes).payload + 2 < 65536

@@ -17,7 +17,7 @@ tables_skip size (suc k) [] = refl
 tables_skip size zero (b ∷ bs) = refl
 tables_skip size (suc k) (b ∷ bs) = tables_skip size k bs
 
--- the first table, as the code takes it
+-- the first table, as the slice that the code reads
 pub tables_first : (size : ℕ → List ℕ → ℕ) (s : List ℕ) → 1 ≤ length s
     → tables size s ≡ (get_or s 0 0, take (length s - 1) (drop 1 s)) ∷ tables size (drop (size (get_or s 0 0) (take (length s - 1) (drop 1 s))) (take (length s - 1) (drop 1 s)))
 unfolding tables

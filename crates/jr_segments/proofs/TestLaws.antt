@@ -10,7 +10,7 @@ some_none : (t : Test) (ts ys : List Test) (b : Bool) → t.fails ≡ b → firs
 some_none t ts ys true e h = absurd (let k = rw e at h in cc)
 some_none t ts ys false e h = (refl, rw e at h)
 
--- the first test passes, and so do the others
+-- if no test fails, the first one passes, and so do the others
 pub passes_first : (t : Test) (ts : List Test) → first_fault (t ∷ ts) ≡ None → (t.fails ≡ false) × (first_fault ts ≡ None)
 passes_first t ts h = some_none t ts [] t.fails refl h
 
@@ -49,7 +49,7 @@ obeys_back xs ys r e h n = rw (first_append xs ys e) (h n)
 pub none_both : (xs ys : List Test) → first_fault xs ≡ None → first_fault ys ≡ None → first_fault (xs ++ ys) ≡ None
 none_both xs ys e h = rw (first_append xs ys e) h
 
--- a refusal of these tests, but for want of memory
+-- a refusal of these tests, unless memory ran out
 abbrev pub Refuses : Refusal → List Test → Type 0
 Refuses r ts = r ≢ Memory → first_fault ts ≡ Some r
 

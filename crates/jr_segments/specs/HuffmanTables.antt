@@ -36,10 +36,10 @@ huffman_tables_tests payload = flat_map huffman_table_tests (tables (λ _ p. huf
 unfoldable pub huffman_table_for : List HuffmanTable → ℕ → ℕ → Option Table
 huffman_table_for all class th = option_map (λ d. d.table) (last_where (λ d. d.class == class && d.destination == th) all)
 
--- the places of a class hold those in force
+-- the entries of a class hold those in force
 abbrev pub AreHuffmanTables : List HuffmanTable → ℕ → List (Option Table) → Type 0
 AreHuffmanTables all class places = (th : ℕ) → slice_index_or places th None ≡ huffman_table_for all class th
 
--- the places of a class hold those in force, also with what a payload defines
+-- the entries of a class hold those in force, also with what a payload defines
 abbrev pub DefinesHuffmanTables : List ℕ → ℕ → List (Option Table) → List (Option Table) → Type 0
 DefinesHuffmanTables payload class old new = (before : List HuffmanTable) → AreHuffmanTables before class old → AreHuffmanTables (before ++ huffman_tables payload) class new

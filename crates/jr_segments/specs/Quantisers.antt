@@ -39,10 +39,10 @@ quantisations_tests payload = flat_map quantisation_tests (tables (λ b _. eleme
 unfoldable pub quantiser_for : List Quantisation → ℕ → Option Quantiser
 quantiser_for all tq = option_map (λ d. d.quantiser) (last_where (λ d. d.destination == tq) all)
 
--- the places hold those in force
+-- the entries hold those in force
 abbrev pub AreQuantisers : List Quantisation → List (Option Quantiser) → Type 0
 AreQuantisers all places = (tq : ℕ) → slice_index_or places tq None ≡ quantiser_for all tq
 
--- the places hold those in force, also with what a payload defines
+-- the entries hold those in force, also with what a payload defines
 abbrev pub DefinesQuantisers : List ℕ → List (Option Quantiser) → List (Option Quantiser) → Type 0
 DefinesQuantisers payload old new = (before : List Quantisation) → AreQuantisers before old → AreQuantisers (before ++ quantisations payload) new

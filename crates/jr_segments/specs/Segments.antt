@@ -44,7 +44,7 @@ has_frame segments = is_some (frame_in segments)
 abbrev pub fill_count : List ℕ → ℕ
 fill_count bytes = length (take_while (λ b. b == PREFIX) bytes)
 
--- the bytes from the code on
+-- the bytes starting at the code
 abbrev pub at_code : List ℕ → List ℕ
 at_code bytes = drop (fill_count bytes) bytes
 

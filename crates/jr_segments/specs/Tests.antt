@@ -16,7 +16,7 @@ abbrev pub first_fault : List Test → Option Refusal
 first_fault [] = None
 first_fault (t ∷ ts) = if t.fails then Some t.refusal else first_fault ts
 
--- what a function answered is what the tests say, unless memory ran out
+-- the function returns what the tests say, unless memory ran out
 abbrev pub Obeys : {X : Type 0} → Result X Refusal → List Test → Type 0
 Obeys (Ok x) ts = first_fault ts ≡ None
 Obeys (Err e) ts = e ≢ Memory → first_fault ts ≡ Some e

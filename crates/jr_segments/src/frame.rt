@@ -190,13 +190,13 @@ fn check_components(components: &[FrameComponent]) -> Result<(), Refusal>
     Ok(())
 }
 
-/// X and Y, where the tests before those of the components pass.
+/// Returns X and Y, if the tests before those of the components pass.
 ///
 /// # Errors
 ///
-/// In this order: `BadLength` for fewer than six bytes, `BadPrecision` for samples not of 8 bits, `BadSize` where X or Y is
-/// 0, `TooManyPixels`, `BadComponents` for a number of components other than 1 and 3, `BadLength` where the entries of the
-/// components do not fill the payload.
+/// In this order: `BadLength` for fewer than six bytes, `BadPrecision` for samples not of 8 bits, `BadSize` if X or Y
+/// is 0, `TooManyPixels`, `BadComponents` for a number of components other than 1 and 3, `BadLength` if the entries of
+/// the components do not fill the payload.
 #[tactic(auto, unfolding(crate::specs::Frames::size_tests))]
 fn read_sizes(code: u8, payload: &[u8]) -> Result<(u16, u16), Refusal>
     ensures obeys { Obeys result (size_tests code payload.now) }

@@ -1,8 +1,8 @@
 //! Huffman tables (T.81, B.2.4.2).
 //!
 //! A payload holds tables one after the other until it ends. Each has a byte with its class Tc in the high half, 0 for
-//! DC and 1 for AC, and its destination Th in the low half; then sixteen counts, of the words of 1 to 16 bits, and as
-//! many symbols as there are words.
+//! DC and 1 for AC, and its destination Th in the low half; then sixteen counts, of the codes of 1 to 16 bits, and a
+//! symbol for each code.
 
 ghost use Rattle.std.specs.Prelude.{◌≡◌, ◌<◌, ◌≤◌, ◌+◌, ◌++◌, ◌/◌, ◌%◌, ℕ, List, length, drop, take, sum, OnOk, IfOk};
 ghost use Rattle.jr_segments.specs.Bytes.{high, low};
@@ -39,7 +39,7 @@ fn counts_of(bytes: &[u8]) -> [u8; 16]
 /// # Errors
 ///
 /// In this order: `BadCodeTable` if Tc is over 1 or Th over 3; `BadLength` if counts are missing; `BadCodeTable` for
-/// more than 256 words; `BadLength` if symbols are missing; `BadCodeTable` if the words do not fit into a tree.
+/// more than 256 codes; `BadLength` if symbols are missing; `BadCodeTable` if the codes do not fit into a tree.
 #[tactic(auto, unfolding(crate::specs::HuffmanTables::huffman_table_tests))]
 fn read_huffman_table(
     alloc: Global,

@@ -25,7 +25,7 @@ pub fn is_jfif_mark(payload: &[u8]) -> bool
     payload.starts_with(b"JFIF\0")
 }
 
-/// Returns the transform byte of an APP14 segment's payload, at offset 11, where it is an Adobe mark.
+/// Returns the transform byte of an APP14 segment's payload, at offset 11, if it is an Adobe mark.
 ///
 /// An Adobe mark has at least twelve bytes and begins with `Adobe`.
 pub fn adobe_transform(payload: &[u8]) -> Option<u8>

@@ -1,7 +1,7 @@
 //! Quantisation tables (T.81, B.2.4.1).
 //!
 //! A payload holds tables one after the other until it ends. Each has a byte with its precision Pq in the high half and
-//! its destination Tq in the low half, and 64 elements in zigzag order: of one byte where Pq is 0, of two where it is 1.
+//! its destination Tq in the low half, and 64 elements in zigzag order: of one byte if Pq is 0, of two if it is 1.
 
 ghost use Rattle.std.specs.Prelude.{◌≡◌, ◌<◌, ◌≤◌, ◌+◌, ◌*◌, ◌++◌, ◌/◌, ◌%◌, ◌==◌, ℕ, List, length, drop, take, OnOk, IfOk};
 ghost use Rattle.jr_segments.specs.Bytes.{high, low};

@@ -30,7 +30,7 @@ pub enum Refusal {
     /// Pq is over 1 or Tq over 3 (B.2.4.1), or a baseline frame uses elements of two bytes.
     #[error("bad quantisation table")]
     BadQuantTable,
-    /// Tc is over 1 or Th over 3 (B.2.4.2), or the words are more than 256 or do not fit into a tree.
+    /// Tc is over 1 or Th over 3 (B.2.4.2), or the codes are more than 256 or do not fit into a tree.
     #[error("bad code table")]
     BadCodeTable,
     /// There are two frame headers.

@@ -8,11 +8,11 @@ use crate::refusal::Refusal;
 use byteorder::{BigEndian, ByteOrder};
 use jr_base::marker::DRI;
 
-/// Ri, the number of MCUs in a restart interval, 0 where there are no restart markers.
+/// Returns Ri, the number of MCUs in a restart interval, 0 if there are no restart markers.
 ///
 /// # Errors
 ///
-/// `BadLength` where the payload has not two bytes.
+/// `BadLength` if the payload does not have two bytes.
 #[tactic(auto, unfolding(crate::specs::Restart::restart_tests))]
 pub fn read_restart(payload: &[u8]) -> Result<u16, Refusal>
     ensures obeys { Obeys result (restart_tests payload.now) }

@@ -50,7 +50,7 @@ three_bits_111 : value (true ∷ true ∷ true ∷ []) ≡ pos 7
 unfolding number
 three_bits_111 = refl
 
--- The code table of table K.3, luminance DC coefficients: the words of the categories 0, 6 and 11.
+-- The code table of table K.3, luminance DC coefficients: the codes of the categories 0, 6 and 11.
 
 abbrev table_k3 : Table
 table_k3 = record { counts = 0 ∷ 1 ∷ 5 ∷ 1 ∷ 1 ∷ 1 ∷ 1 ∷ 1 ∷ 1 ∷ replicate 7 0; symbols = 0 ∷ 1 ∷ 2 ∷ 3 ∷ 4 ∷ 5 ∷ 6 ∷ 7 ∷ 8 ∷ 9 ∷ 10 ∷ 11 ∷ [] }
@@ -117,7 +117,7 @@ luma_of_pixel_19_9 = refl
 second_chroma_of_pixel_19_19 : spot_of head_420 2 9 9 ≡ record { mcu = 3; block = 5; row = 1; col = 1 }
 second_chroma_of_pixel_19_19 = refl
 
--- Colours: the middle is grey, and full red of JFIF 1.02 comes back to one unit.
+-- Colours: the middle is grey, and full red of JFIF 1.02 is restored to within one unit.
 
 middle_is_grey : colour_of Ycc 128 128 128 ≡ 128 ∷ 128 ∷ 128 ∷ []
 middle_is_grey = refl
@@ -125,7 +125,7 @@ middle_is_grey = refl
 red : colour_of Ycc 76 85 255 ≡ 254 ∷ 0 ∷ 0 ∷ []
 red = refl
 
--- The lines of a picture of two grey pixels over two others, from the top and from the left.
+-- The lines of an image of two grey pixels over two others, from the top and from the left.
 
 abbrev head_of_four_pixels : HeadValue
 head_of_four_pixels = record { width = 2; height = 2; kind = Grey; components = component_of 1 ∷ []; restart = 0; scan_at = 0 }
@@ -134,7 +134,7 @@ lines_of_four_pixels : lines_of head_of_four_pixels (λ c x y. 10 * y + x) 2 ≡
 unfolding lines_of pixels_of pixel_of
 lines_of_four_pixels = refl
 
--- An interval of one MCU: the word 01 of category 3 with the bits 100, the end of the block, and two bits of padding.
+-- An interval of one MCU: the code 01 of category 3 with the bits 100, the end of the block, and two bits of padding.
 
 abbrev pub dc_table : Table
 dc_table = record { counts = 0 ∷ 3 ∷ replicate 14 0; symbols = 0 ∷ 3 ∷ 11 ∷ [] }
@@ -188,7 +188,7 @@ does_not_decode_to_5 d =
     let same : pos 4 ≡ pos 5 = ap (λ zs. get_or (get_or zs 0 []) 0 (pos 0)) (one_decoding one_word interval (block_with (pos 4) ∷ []) (block_with (pos 5) ∷ []) decodes d) in
     omega (arith, ints, same)
 
--- The same word has no other symbol.
+-- The same code has no other symbol.
 
 category_0_alone : IsWord table_k3 (false ∷ false ∷ []) 1 → ⊥
 category_0_alone w =

@@ -14,7 +14,7 @@ use test_files::waiting::has_come;
 /// There is no list of names.
 pub(crate) const NO_LIST: Option<BufReader<Cursor<[u8; 1]>>> = None;
 
-/// Returns what the words of a line ask for.
+/// Returns what the arguments in a line ask for.
 pub(crate) fn request_of(alloc: Global, line: &str) -> Result<CheckRequest, Fail> {
     let mut all = Vec::new(alloc);
     for word in line.split_whitespace() {

@@ -1,4 +1,4 @@
-//! State files: their lines, damaged ones, and what a run with one reads, tells and records.
+//! State files: their lines, damaged ones, and what a run with one reads, reports and records.
 
 use crate::archive::{NO_LIST, request_of};
 use jri_archive::{
@@ -430,7 +430,7 @@ fn run_into<R: Threads + Wait + Sync + AllocGlobal, const N: usize>(
     Ok(report)
 }
 
-/// A run ends where a record cannot be written.
+/// A run ends if a record cannot be written.
 #[test]
 fn full_state_files_end_runs(rt: HostRuntime) -> Result<(), Fail> {
     let report = run_into(&rt, [0; 10])?;

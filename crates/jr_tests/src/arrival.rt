@@ -1,4 +1,4 @@
-//! Files that arrive in parts: how many lines are final when.
+//! Files that arrive in parts: the number of lines that are final at each time.
 
 use jr_arrival::PartialFile;
 use std::alloc::Global;
@@ -6,28 +6,28 @@ use std::test::Fail;
 use test_files::files::{file, put_parts};
 
 /// The restart interval of an image of 8 by 24 pixels, the bytes of its scan that have arrived, and the number of its lines that are
-/// final then. The words 00, 01 and 10 code 0, 3 and 11 additional bits, no word begins with 11, and 0 ends a block: 011000 is a
-/// block, and so is 000.
+/// final then. The codes 00, 01 and 10 have 0, 3 and 11 additional bits, no code begins with 11, and 0 ends a block:
+/// 011000 is a block, and so is 000.
 const FINAL: [(&str, &str, u32); 33] = [
     ("", "", 0),
     ("", "63", 8),
     ("", "61", 8),
     ("", "61 86", 16),
     ("", "61 86 3F", 24),
-    // No bytes mend these bits, but so few do not say it before the interval's end.
+    // No bytes mend these bits, but they are too few to say so before the interval's end.
     ("", "E0", 0),
     ("", "E0 FF", 0),
     ("", "E0 FF FF", 0),
     ("", "E0 FF D9", 24),
     ("", "63 FF C4", 24),
     ("", "63 FF D0", 24),
-    // FF bytes at the end belong to nothing yet. The third block has eleven ones.
+    // FF bytes at the end are part of nothing yet. The third block has eleven ones.
     ("", "02", 16),
     ("", "02 FF", 16),
     ("", "02 FF FF", 16),
     ("", "02 FF FF 00", 16),
     ("", "02 FF FF 00 E0", 24),
-    // As many bits as an MCU has at most, 16,650, which begin with no word: after the block in 63 two ones are left.
+    // The maximum number of bits of an MCU, 16,650, which begin with no code: after the block in 63 two ones are left.
     ("", "2081*FF00", 0),
     ("", "2081*FF00 FF", 0),
     ("", "2082*FF00", 24),
@@ -37,7 +37,7 @@ const FINAL: [(&str, &str, u32); 33] = [
     ("", "63 2081*FF00", 24),
     ("I", "2081*FF00", 0),
     ("I", "2082*FF00", 8),
-    // A restart marker ends an interval once its code is there, also where no data follow.
+    // A restart marker ends an interval once its code is there, also if no data follow.
     ("I", "E0 FF", 0),
     ("I", "E0 FF FF", 0),
     ("I", "E0 FF D0", 8),

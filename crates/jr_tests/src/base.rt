@@ -1,10 +1,10 @@
-//! A `Tally` passes its calls on to the device that it holds, and returns its answers.
+//! A `Tally` passes its calls on to the reader or writer that it holds, and returns its results.
 
 use jr_base::Tally;
 use std::io::{Read, Result as IoResult, Write};
 use std::test::Fail;
 
-/// A call of a device, with the length of its buffer.
+/// A call of a reader or writer, with the length of its buffer.
 #[derive(Clone, Copy, PartialEq, Eq)]
 enum Call {
     Read(usize),

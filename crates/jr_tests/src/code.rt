@@ -1,4 +1,4 @@
-//! Words and bits of a code table, by calls that no other crate makes.
+//! Codes and bits of a code table, by calls that no other crate makes.
 
 use jr_code::{Bits, CodeBook, CodeFault};
 use std::alloc::Global;
@@ -13,7 +13,7 @@ fn luminance_book(alloc: Global) -> Result<CodeBook, Fail> {
     Ok(CodeBook::new(alloc, &LUMINANCE_DC, &symbols)?)
 }
 
-/// What a word, a word with additional bits, two additional bits and three bits are, one after the other.
+/// A code, a code with additional bits, two additional bits and three bits, one after the other.
 type Answers = (Option<u8>, Option<(u8, i32)>, Option<i32>, Option<u16>);
 
 fn answers(book: &CodeBook, bits: &mut Bits<'_>) -> Answers {
@@ -25,7 +25,7 @@ fn answers(book: &CodeBook, bits: &mut Bits<'_>) -> Answers {
     )
 }
 
-/// By this table the word of 0 is 00 and that of 3 is 100.
+/// By this table the code of 0 is 00 and that of 3 is 100.
 #[test]
 fn reads_words_and_bits(rt: HostRuntime) -> Result<(), Fail> {
     let book = luminance_book(rt.alloc())?;

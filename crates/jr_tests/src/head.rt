@@ -1,4 +1,4 @@
-//! Heads of millions of segments, the largest head, and the texts of refusals that no small file has.
+//! Headers of millions of segments, the largest header, and the texts of refusals that no small file has.
 
 use jr_head::{Head, Refusal, read_head};
 use std::alloc::Global;
@@ -16,8 +16,8 @@ fn head_of(alloc: Global, part: &str, times: u32, others: &str) -> Result<Head, 
     Ok(read_head(alloc, bytes.as_slice())?)
 }
 
-/// Code tables that others replace, and how often each stands: without words, with one, with one of each length, and with
-/// 255 of sixteen bits.
+/// Code tables that others replace, and how often each occurs: without codes, with one, with one of each length, and
+/// with 255 of sixteen bits.
 const TABLES: [(&str, u32); 4] = [
     ("FF C4 00 13 00 16*00", 1_000_000),
     ("FF C4 00 14 00 01 15*00 00", 1_000_000),

@@ -7,7 +7,7 @@ use jr_base::{Coefficients, Quantisers};
 use jr_idct::{even, matrix_transform, odd, transform, transform_one, transform_two};
 use std::process::Abort;
 
-/// Returns a block with two coefficients, the second one at a zigzag place.
+/// Returns a block with two coefficients, the second one at a zigzag position.
 fn block_with(first: i32, place: usize, value: i32) -> [i32; 64]
     requires place_in { place < 64 }
     requires first_small { IsWithin 32768 first }
@@ -20,8 +20,8 @@ fn block_with(first: i32, place: usize, value: i32) -> [i32; 64]
     coefficients
 }
 
-/// Returns the samples of a block with two coefficients, the second one beside the first, at quantisers of 16: by the two
-/// forms for numbers of 32 bits, and by the two for blocks as they are read, beside a block of zeros and alone.
+/// Returns the samples of a block with two coefficients, the second next to the first, at quantisers of 16: by the two
+/// forms for numbers of 32 bits, and by the two for blocks as they are read, next to a block of zeros and alone.
 fn two_coefficients(first: i16, second: i16) -> [[u8; 64]; 4] {
     let wide = block_with(i32::from(first), 1, i32::from(second));
     let mut block = Coefficients::zeros();

@@ -1,5 +1,5 @@
-//! Tests through the crates' public calls, for what the program `cases` does not show: devices, bits and code tables, long heads,
-//! scans beside a plain reader, the transform, desks, archives, when the lines of a file that arrives are there, and boards.
+//! Tests through the crates' public calls, for what the program `cases` does not show: devices, bits and code tables,
+//! long headers, scans compared with a plain reader, the transform, desks, archives, lines of an arriving file, boards.
 #![tactic(auto)]
 
 #[cfg(test)]

@@ -1,4 +1,4 @@
-//! Words and extra bits as T.81 defines them (Annex C, F.2.2.1), bit by bit and by no code of jri.
+//! Codes and additional bits as T.81 defines them (Annex C, F.2.2.1), bit by bit and by no code of jri.
 
 /// Returns the number of the next n bits, from the most significant bit of each byte.
 pub(crate) fn number(bytes: &[u8], at: usize, n: usize) -> Option<u32> {
@@ -13,8 +13,8 @@ pub(crate) fn number(bytes: &[u8], at: usize, n: usize) -> Option<u32> {
     Some(v)
 }
 
-/// Returns the word in front: its symbol, and how many bits it has. A word is the room of all words before it, over its
-/// own.
+/// Returns the code that the bits begin with: its symbol and length. A code is the space of all codes before it
+/// divided by its own.
 pub(crate) fn word(counts: &[u8], symbols: &[u8], bytes: &[u8], at: usize) -> Option<(u8, usize)> {
     let mut room: u32 = 0;
     let mut place: usize = 0;
@@ -35,7 +35,7 @@ pub(crate) fn word(counts: &[u8], symbols: &[u8], bytes: &[u8], at: usize) -> Op
     None
 }
 
-/// What extra bits stand for.
+/// Returns the value of additional bits.
 pub(crate) fn value(size: usize, v: u32) -> i32 {
     let v = (v % 65536) as i32;
     let full = 1i32 << (size % 16);

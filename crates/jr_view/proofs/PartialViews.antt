@@ -26,16 +26,16 @@ use Rattle.jr_arrival.proofs.HeadsStay.{head_stays}
 use Rattle.jr_arrival.proofs.LinesOfPictures.{one_lines}
 use Rattle.jr_view.specs.PartialViews.{PartialViewValue, AreSettled, ViewHasLines, AreScanLines, IsSeen, KeepsLines, ViewShowsLines, lines_shown, view_of}
 
--- what more bytes can become, those before can
+-- lines that are final for some bytes are final for more bytes
 pub final_stays : (bytes more : List ℕ) (first count : ℕ) (pixels : List ℕ) → AreFinal bytes first count pixels → AreFinal (bytes ++ more) first count pixels
 final_stays bytes more first count pixels are file t marks f can has shows =
     are file t marks f (record { more = more ++ can.more; is = can.is ∙ append_assoc bytes more can.more; are_bytes = can.are_bytes; small = can.small }) has shows
 
--- bytes have one head
+-- bytes have one header
 pub one_head : (bytes : List ℕ) (g h : HeadValue) → All (λ b. b < 256) bytes → HeadOf bytes g → HeadOf bytes h → g ≡ h
 one_head bytes g h each a b = elim (one_head_or_one_fault bytes each) [ inl one ↦ one.only g a ∙ sym (one.only h b) | inr fault ↦ absurd (fault.no_head g a) ]
 
--- no line is final of whatever the bytes
+-- the first 0 lines are final, whatever the bytes
 pub no_lines : (bytes pixels : List ℕ) (line : ℕ) → AreFinal bytes 0 0 (take (0 * line) pixels)
 no_lines bytes pixels line file t marks f can has shows = let zero : 0 * line ≡ 0 = omega arith in ap (λ (k : ℕ). take k pixels) zero
 
@@ -61,7 +61,7 @@ seen_more a b pixels room bytes more each lines come seen = record {
       };
 }
 
--- what a slice of bytes has
+-- each element of a slice of bytes is a byte
 pub all_bytes : (xs : List ℕ) → ((k : ℕ) → get_or xs k 0 < 256) → All (λ b. b < 256) xs
 all_bytes xs each k d l = subst (λ (b : ℕ). b < 256) (get_or_default xs k 0 d l) (each k)
 
@@ -72,7 +72,7 @@ none_or_some (x ∷ xs) = inr (λ e. absurd cc)
 pub not_empty : (old new : List ℕ) → length new ≡ length old → old ≢ [] → new ≢ []
 not_empty old new long some e = some (nil_from_length old (sym long ∙ ap (λ (l : List ℕ). length l) e))
 
--- ---- the head is there
+-- ---- the header is there
 
 grey_shown : (bytes : List ℕ) (h : HeadValue) (pixels : List ℕ) → pixels ≡ replicate (h.height * line_size h) 128 → ViewShowsLines bytes h 0 pixels
 grey_shown bytes h pixels grey =
@@ -101,7 +101,7 @@ seen_grey a b h old pixels room next bytes empty lines come head grey wide seen 
       };
     }
 
--- the file as it is looked at shows the same
+-- the file after a look shows the same
 pub seen_same : (a b : PartialFileValue) (pixels : List ℕ) (room next : ℕ) (bytes : List ℕ) → given_of b.partial_image ≡ given_of a.partial_image → IsPartialFile b bytes → next ≡ room
     → IsSeen (record { partial_file = a; pixels = pixels; room = room }) bytes → IsSeen (record { partial_file = b; pixels = pixels; room = next }) bytes
 seen_same a b pixels room next bytes lines come same seen = record {
@@ -120,7 +120,7 @@ seen_same a b pixels room next bytes lines come same seen = record {
 
 -- ---- further lines
 
--- lines are put behind those that are shown, of so many bytes a line
+-- lines of `line` bytes each are written after those that are shown
 pub record Puts (old new row : List ℕ) (first n line : ℕ) : Type 0 where
   pub long : length new ≡ length old
   pub before : take (first * line) new ≡ take (first * line) old
@@ -148,7 +148,7 @@ more_lines bytes h first n old new row high puts are s =
 
 module _ (a b : PartialFileValue) (old row : List ℕ) (room n : ℕ) (bytes : List ℕ) (some : old ≢ []) (wide : length row ≡ room) (lines : given_of b.partial_image ≡ given_of a.partial_image + n) (come : IsPartialFile b bytes)
     (next : GivesNext bytes (given_of a.partial_image) n row) (seen : IsSeen (record { partial_file = a; pixels = old; room = room }) bytes) where
-  -- the head that the view has is the bytes'
+  -- the view's header is the bytes'
   there : (x : NextLines bytes (given_of a.partial_image) n row) → ViewHasLines (record { partial_file = a; pixels = old; room = room }) bytes
   there x = seen.some some x.scan.head.small
 
@@ -181,7 +181,7 @@ module _ (a b : PartialFileValue) (old row : List ℕ) (room n : ℕ) (bytes : L
         }
   ]
 
-  -- there is room for them
+  -- they fit
   pub row_fits : (g : HeadValue) → 0 < n → (length bytes ≤ MAX_FILE_BYTES → HeadOf bytes g) → (n * line_size g ≤ length row) × ((given_of a.partial_image + n) * line_size g ≤ length old)
   row_fits g more head = elim next [
     | inl none ↦ absurd (omega (arith, none.0, more))
@@ -199,7 +199,7 @@ module _ (a b : PartialFileValue) (old row : List ℕ) (room n : ℕ) (bytes : L
         subst (λ (v : HeadValue). (n * line_size v ≤ length row) × ((first + n) * line_size v ≤ length old)) (sym same) (room, inside)
   ]
 
-  -- where no line is given, all that are settled are shown
+  -- if no line is returned, all that are final are shown
   pub all_settled : n ≡ 0 → AreSettled bytes (given_of b.partial_image)
   all_settled none = elim next [
     | inl w ↦ inl w.1
@@ -220,7 +220,7 @@ module _ (a b : PartialFileValue) (old row : List ℕ) (room n : ℕ) (bytes : L
         inr (x.settled, x.scan, x.rows, omega (arith, x.count, none, lines, one'))
   ]
 
--- what was shown stays as it was
+-- what was shown stays unchanged
 pub row_keeps : (old new : List ℕ) (first : ℕ) (bytes : List ℕ) (g h : HeadValue) → All (λ b. b < 256) bytes → HeadOf bytes g → HeadOf bytes h → take (first * line_size g) new ≡ take (first * line_size g) old
     → take (first * line_size h) new ≡ take (first * line_size h) old
 row_keeps old new first bytes g h each is_g is_h before = let same = one_head bytes g h each is_g is_h in subst (λ (v : HeadValue). take (first * line_size v) new ≡ take (first * line_size v) old) same before
@@ -233,7 +233,7 @@ still_kept first later line old now new le before after =
 pub keeps_more : (old now new : PartialViewValue) → ((bytes : List ℕ) → IsSeen old bytes → IsSeen now bytes) → lines_shown old ≤ lines_shown now → KeepsLines old now → KeepsLines now new → KeepsLines old new
 keeps_more old now new on le before after bytes h seen is = still_kept (lines_shown old) (lines_shown now) (line_size h) old.pixels now.pixels new.pixels le (before bytes h seen is) (after bytes h (on bytes seen) is)
 
--- room for lines takes none away
+-- space for further lines keeps the lines that are shown
 pub keeps_open : (a b : PartialFileValue) (old new row next : List ℕ) → (old ≢ [] → new ≡ old) → KeepsLines (view_of a old row) (view_of b new next)
 keeps_open a b old new row next same bytes h seen is = elim (none_or_some old) [
   | inl e ↦
@@ -242,7 +242,7 @@ keeps_open a b old new row next same bytes h seen is = elim (none_or_some old) [
   | inr some ↦ ap (λ (l : List ℕ). take (given_of a.partial_image * line_size h) l) (same some)
 ]
 
--- what a slice of all elements has in their place
+-- a list whose elements are all written back is the new one
 pub with_items_is : (v : ℕ) (old new : List ℕ) → v ≡ length old → length new ≡ length old → take v (new ++ drop (length new) old) ≡ new
 with_items_is v old new is long = take-append-le v new (drop (length new) old) (omega (arith, is, long)) ∙ take_all v new (omega (arith, is, long))
 
@@ -258,20 +258,20 @@ keeps_as b d pixels row ps rs ps' rs' pixels' row' ep er ep' er' keeps =
 
 -- ---- nothing more comes
 
--- what is put behind the first elements
+-- what is written after the first elements
 pub put_behind : (a : ℕ) (xs ys : List ℕ) → a ≤ length xs → drop a (put_mid a (length xs - a) xs ys) ≡ ys
 put_behind a xs ys le =
     let post = drop (length xs - a) (drop a xs) in
     let none : length post ≡ 0 = length-drop (length xs - a) (drop a xs) ∙ ap (λ (n : ℕ). n - (length xs - a)) (length-drop a xs) ∙ omega arith in
     drop_at (take a xs) (ys ++ post) a (length-take-le a xs le) ∙ ap (λ (l : List ℕ). ys ++ l) (nil_from_length post none) ∙ append-nil ys
 
--- further lines of one picture are those of another
+-- further lines of one image are those of another
 pub rest_same : (scan : ScanValue) (first count : ℕ) (tail : List ℕ) (m : Marked) → first + count ≤ scan.head.height → PaintsLines scan first count tail m → (marks : List Mark) (f : ℕ → ℕ → ℕ → ℕ) → ShowsFirst scan (length scan.intervals) marks f
     → tail ≡ next_lines_of scan.head f first count
 rest_same scan first count tail m high p marks f shows = p.lines ∙ one_lines scan (length scan.intervals) p.marks marks p.f f first count high p.shows shows
 
 module _ (a : PartialFileValue) (old : List ℕ) (room : ℕ) (bytes : List ℕ) (scan : ScanValue) (has : HasScan bytes scan) (seen : IsSeen (record { partial_file = a; pixels = old; room = room }) bytes) where
-  -- the lines that are shown are lines of the scan's picture
+  -- the lines that are shown are lines of the scan's image
   shown_there : old ≢ [] → ViewShowsLines bytes scan.head (given_of a.partial_image) old
   shown_there some =
       let there = seen.some some has.head.small in
@@ -289,7 +289,7 @@ module _ (a : PartialFileValue) (old : List ℕ) (room : ℕ) (bytes : List ℕ)
     | inr some ↦ subst (λ (l : List ℕ). AreFinal bytes 0 (given_of a.partial_image) (take (given_of a.partial_image * line_size scan.head) l)) (sym (there some)) (shown_there some).shown
   ]
 
-  -- with the others they are the picture
+  -- with the others they are the image
   pub whole_picture : (whole painted : List ℕ) → (old ≢ [] → whole ≡ old) → take (given_of a.partial_image * line_size scan.head) painted ≡ take (given_of a.partial_image * line_size scan.head) whole
       → ((marks : List Mark) (f : ℕ → ℕ → ℕ → ℕ) → ShowsFirst scan (length scan.intervals) marks f → drop (given_of a.partial_image * line_size scan.head) painted ≡ next_lines_of scan.head f (given_of a.partial_image) (scan.head.height - given_of a.partial_image))
       → AreScanLines scan painted

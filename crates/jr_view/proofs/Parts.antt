@@ -1,4 +1,4 @@
--- A view that is a part of its picture stays one by what is shown of its own scan.
+-- A view that is a part of its image stays one if MCUs of its own scan are shown.
 use Rattle.std.proofs.Common.{◌≡◌, ℕ, inl, inr, ◌+◌, ◌-◌, ◌*◌, ◌/◌, ◌<◌, ◌≤◌, min, Bool, true, false, cond, List, length, take, get_or, slice_index_or, sym, ap, subst, ◌∙◌, arith}
 use Rattle.std.specs.Int.{div_ceil}
 use Rattle.std.proofs.lemmas.Bool.{cases_lt}
@@ -35,14 +35,14 @@ AreOwn scan first count units =
     → slice_index_or units ((mcu - first) * blocks_of scan.head + k) grey_unit ≡ slice_index_or p.samples ((mcu - first_mcu_of scan.head p.interval.number) * blocks_of scan.head + k) grey_unit
 
 module _ (scan : ScanValue) (us vs : List (List ℕ)) (bs cs : List Bool) (first count : ℕ) (units : List (List ℕ)) (a : AddsMcus (view_of scan us bs) first count units (view_of scan vs cs)) where
-  -- what is as it was shows its own
+  -- an MCU that is unchanged shows its own
   same_own : (mcu : ℕ) → IsSameAt (view_of scan us bs) (view_of scan vs cs) mcu → ShowsOwn (view_of scan us bs) mcu → ShowsOwn (view_of scan vs cs) mcu
   same_own mcu s own = record {
     seen = λ t p is k lt. sym (s.units k lt) ∙ own.seen (s.seen ∙ t) p is k lt;
     unseen = λ f k lt. sym (s.units k lt) ∙ own.unseen (s.seen ∙ f) k lt;
   }
 
-  -- so does what is shown
+  -- and so does an MCU that is shown
   more_own : AreOwn scan first count units → (mcu : ℕ) → IsAmong scan.head first count mcu → ShowsOwn (view_of scan us bs) mcu → ShowsOwn (view_of scan vs cs) mcu
   more_own are mcu among own = elim (tells (has_seen (view_of scan us bs) mcu)) [
     | inl t ↦ same_own mcu (a.kept mcu t) own
@@ -82,7 +82,7 @@ number_is h i mcu few from before = elim (eqb_tells h.restart 0) [
       ap (λ (b : Bool). cond b 0 (mcu / h.restart)) f.0 ∙ ap (λ k. k / h.restart) sum ∙ div-mul-add i h.restart rest short
 ]
 
--- an interval has no more MCUs than that
+-- an interval has at most that number of MCUs
 few_in : (h : HeadValue) (i : ℕ) → mcus_in h i ≤ size_of h
 few_in h i = elim (eqb_tells h.restart 0) [
   | inl t ↦ subst (λ (b : Bool). cond b (mcus_of h) (min h.restart (mcus_of h - i * h.restart)) ≤ cond b (mcus_of h) h.restart) (sym t.0) (omega arith)
@@ -132,7 +132,7 @@ piece_own scan p counts is mcu among q of k lt =
     let same : p ≡ q = one_outcome one_decoding one_front p q (same_interval scan p.interval q.interval is.interval of.interval (sym (of.number ∙ here))) is.outcome of.outcome in
     ap (λ (r : PieceValue). slice_index_or r.samples ((mcu - first_mcu_of h r.interval.number) * blocks_of h + k) grey_unit) same
 
--- what is shown of a view's own scan leaves it a part of its picture
+-- showing data units of a view's own scan keeps it a part of its image
 adds_own : (old new : ViewValue) (first count : ℕ) (units : List (List ℕ)) → AddsMcus old first count units new → AreOwn old.scan first count units → IsPartOfPicture old → IsPartOfPicture new
 adds_own old new first count units a are p =
     let one : AddsMcus old first count units (view_of old.scan new.units new.seen) = subst (λ (s : ScanValue). AddsMcus old first count units (view_of s new.units new.seen)) a.scan a in
@@ -144,7 +144,7 @@ strip_part old new s a is p has = adds_own old new (first_of_strip old.scan.head
 pub piece_part : (old new : ViewValue) (p : PieceValue) → AddsMcus old (first_mcu_of old.scan.head p.interval.number) (size_of old.scan.head) p.samples new → IsPieceOf old.scan p.interval.number p → IsPartOfPicture old → IsPartOfPicture new
 piece_part old new p a is part = adds_own old new (first_mcu_of old.scan.head p.interval.number) (size_of old.scan.head) p.samples a (piece_own old.scan p part.intervals is) part
 
--- a view of which nothing was seen is a part of each picture
+-- a view of which nothing was seen is a part of each image
 pub new_part : (v : ViewValue) → length v.scan.intervals ≡ intervals_of v.scan.head → ((mcu : ℕ) → has_seen v mcu ≡ false) → ((mcu k : ℕ) → unit_at v mcu k ≡ grey_unit) → IsPartOfPicture v
 new_part v counts unseen grey = record {
   intervals = counts;

@@ -1,4 +1,4 @@
--- How many rows of MCUs were seen whole, where one more MCU is seen.
+-- The number of rows of MCUs that were seen whole, after one more MCU is seen.
 use Rattle.std.proofs.Common.{◌≡◌, ℕ, zero, suc, inl, inr, ◌⊎◌, ◌+◌, ◌-◌, ◌*◌, ◌/◌, ◌%◌, ◌<◌, ◌≤◌, Bool, true, false, List, length, take, drop, get_or, set, cond, refl, sym, ap, ◌∙◌, arith}
 use mir.Val.{bool_byte}
 use Rattle.std.specs.List.{count_by, list_all, range_with_len, slice_range}
@@ -22,7 +22,7 @@ use Rattle.jr_view.proofs.Showing.{tells}
 abbrev weight : Bool → ℕ
 weight b = cond b 1 0
 
--- as many pass where each answer is the same
+-- the count is the same if each test is
 same_count : (p q : ℕ → Bool) (a n : ℕ) → ((r : ℕ) → a ≤ r → q r ≡ p r) → count_by q (range_with_len a n) ≡ count_by p (range_with_len a n)
 same_count p q a zero same = refl
 same_count p q a (suc n) same =
@@ -30,7 +30,7 @@ same_count p q a (suc n) same =
     let rest : count_by q (range_with_len (a + 1) n) ≡ count_by p (range_with_len (a + 1) n) = same_count p q (a + 1) n (λ r le. same r (omega arith)) in
     omega (arith, here, rest, sum_by-cons (λ r. weight (q r)) a (range_with_len (a + 1) n), sum_by-cons (λ r. weight (p r)) a (range_with_len (a + 1) n))
 
--- one more may pass where one answer that was no changes
+-- the count is one more at most if one test that failed changes
 more_count : (p q : ℕ → Bool) (row a n : ℕ) → ((r : ℕ) → (r < row) ⊎ (row < r) → q r ≡ p r) → p row ≡ false → a ≤ row → row < a + n
     → count_by q (range_with_len a n) ≡ count_by p (range_with_len a n) + weight (q row)
 more_count p q row a zero others none from before = absurd (omega arith)
@@ -52,7 +52,7 @@ more_count p q row a (suc n) others none from before =
       ]
     ]
 
--- a part of a list is as it was where another place is written
+-- a part of a list is unchanged if another index is written
 apart : (seen : List Bool) (m i j : ℕ) → (m < i) ⊎ (j ≤ m) → slice_range (set seen m true) i j ≡ slice_range seen i j
 apart seen m i j s = elim s [
   | inl lt ↦ ap (take (j - i)) (drop-set-lt i seen m true lt)
@@ -90,7 +90,7 @@ not_whole h seen m some long lt none =
     list_all_at (λ (b : Bool). b) (slice_range seen (row * a) ((row + 1) * a)) (m % a) false (omega (arith, size, one, low))
     (get_or-between seen (row * a) ((row + 1) * a) (m % a) false (omega (arith, one, low)) ∙ ap (λ k. get_or seen k false) there ∙ none)
 
--- the rows that are whole once an MCU is seen: those that were, and maybe its own
+-- the rows that are whole after an MCU is seen: those that were, and maybe its own
 pub rows_more : (h : HeadValue) (seen : List Bool) (m : ℕ) → 0 < mcus_across h → length seen ≡ mcus_of h → m < mcus_of h → get_or seen m false ≡ false
     → count_by (has_seen_row h (set seen m true)) (range_with_len 0 (mcus_down h)) ≡ count_by (has_seen_row h seen) (range_with_len 0 (mcus_down h)) + cond (has_seen_row h (set seen m true) (m / mcus_across h)) 1 0
 rows_more h seen m some long lt none =
@@ -101,7 +101,7 @@ rows_more h seen m some long lt none =
     (λ r s. ap (list_all (λ (b : Bool). b)) (apart seen m (r * a) ((r + 1) * a) (other_row a m r some s)))
     (not_whole h seen m some long lt none) (omega arith) (omega (arith, below))
 
--- none passes where each answer is no
+-- the count is 0 if each test fails
 no_count : (p : ℕ → Bool) (a n : ℕ) → ((r : ℕ) → a ≤ r → r < a + n → p r ≡ false) → count_by p (range_with_len a n) ≡ 0
 no_count p a zero none = refl
 no_count p a (suc n) none =
@@ -113,7 +113,7 @@ some_of : (a b : ℕ) → 0 < a * b → 0 < a
 some_of zero b p = absurd (omega (arith, p))
 some_of (suc a) b p = omega arith
 
--- no row is whole where no MCU was seen
+-- no row is whole if no MCU was seen
 pub no_rows : (h : HeadValue) (seen : List Bool) → 0 < mcus_of h → length seen ≡ mcus_of h → ((m : ℕ) → get_or seen m false ≡ false) → count_by (has_seen_row h seen) (range_with_len 0 (mcus_down h)) ≡ 0
 no_rows h seen some long none =
     let a = mcus_across h in
@@ -126,7 +126,7 @@ no_rows h seen some long none =
     let row : r * a / a ≡ r = ap (λ k. k / a) (sym zero_in) ∙ div-mul-add r a 0 wide in
     sym (ap (λ k. has_seen_row h seen k) row) ∙ not_whole h seen (r * a) wide long (omega (arith, turned, one, most, wide)) (none (r * a)))
 
--- the row of an MCU ends within the picture
+-- the row of an MCU ends within the image
 pub row_within : (h : HeadValue) (m : ℕ) → 0 < mcus_across h → m < mcus_of h → (m / mcus_across h + 1) * mcus_across h ≤ mcus_of h
 row_within h m some lt =
     let a = mcus_across h in
@@ -140,14 +140,14 @@ pub byte_is : (b : Bool) → bool_byte b ≡ cond b 1 0
 byte_is true = refl
 byte_is false = refl
 
--- no more rows are whole than there are
+-- the number of whole rows is at most that of all rows
 pub few_rows : (v : ViewValue) → whole_rows v ≤ mcus_down v.scan.head
 unfolding whole_rows
 few_rows v =
     let n = mcus_down v.scan.head in
     omega (arith, count_by-le-length (has_seen_row v.scan.head v.seen) (range_with_len 0 n), length-range_with_len 0 n)
 
--- what a view keeps once an MCU more is seen
+-- what a view keeps after one more MCU is seen
 pub kept_view : (of : ScanValue) (us vs : List (List ℕ)) (seen : List Bool) (m rows more : ℕ) → IsView (record { scan = of; units = us; seen = seen }) rows → length vs ≡ length us → 0 < mcus_across of.head → m < mcus_of of.head
     → get_or seen m false ≡ false → more ≡ cond (has_seen_row of.head (set seen m true) (m / mcus_across of.head)) 1 0 → IsView (record { scan = of; units = vs; seen = set seen m true }) (rows + more)
 unfolding whole_rows
@@ -157,7 +157,7 @@ kept_view of us vs seen m rows more is long wide lt none one = record {
   rows = omega (arith, is.rows, one, rows_more of.head seen m wide is.seen lt none);
 }
 
--- each passes where as many pass as there are
+-- each test passes if the count is that of all
 each_passes : (p : ℕ → Bool) (a n r : ℕ) → count_by p (range_with_len a n) ≡ n → a ≤ r → r < a + n → p r ≡ true
 each_passes p a zero r all le lt = absurd (omega arith)
 each_passes p a (suc n) r all le lt =
@@ -178,7 +178,7 @@ each_passes p a (suc n) r all le lt =
           absurd (omega (arith, none, sum, most, all))
     ]
 
--- where each row was seen whole, each MCU was seen
+-- if each row was seen whole, each MCU was seen
 pub whole_is_all : (v : ViewValue) → length v.seen ≡ mcus_of v.scan.head → whole_rows v ≡ mcus_down v.scan.head → HasSeenAll v
 unfolding whole_rows
 whole_is_all v long all m lt =

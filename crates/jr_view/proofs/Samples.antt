@@ -11,14 +11,14 @@ use Rattle.jr_scan.specs.ScanValue.{ScanValue}
 use Rattle.jr_view.specs.Views.{IsView, sample_in_view, unit_at, whole_rows}
 use Rattle.jr_view.proofs.Rows.{no_rows}
 
--- each data unit of grey ones is grey, and so is what is behind them
+-- each data unit of grey ones is grey, and so is what follows them
 pub each_grey : (n i : ℕ) → slice_index_or (replicate n grey_unit) i grey_unit ≡ grey_unit
 each_grey n i = elim (cases_lt i n) [
   | inl lt ↦ get_or-replicate n i grey_unit grey_unit lt
   | inr le ↦ get_or_past (replicate n grey_unit) i grey_unit (omega (arith, le, length-replicate n grey_unit))
 ]
 
--- where each data unit is grey each sample is
+-- if each data unit is grey each sample is
 pub grey_samples : (v : ViewValue) → ((mcu k : ℕ) → unit_at v mcu k ≡ grey_unit) → (c x y : ℕ) → sample_in_view v c x y ≡ 128
 unfolding sample_in_view
 grey_samples v grey c x y =
@@ -27,14 +27,14 @@ grey_samples v grey c x y =
     let below : 8 * (y % 8) + x % 8 < 64 = omega (arith, mod_below x 8 (omega arith), mod_below y 8 (omega arith)) in
     ap (λ u. slice_index u (8 * (y % 8) + x % 8)) (grey s.mcu s.block) ∙ get_or-replicate 64 (8 * (y % 8) + x % 8) 128 0 below
 
--- no MCU was seen where none is marked
+-- no MCU was seen if none is marked
 pub unseen : (n m : ℕ) → get_or (replicate n false) m false ≡ false
 unseen n m = elim (cases_lt m n) [
   | inl lt ↦ get_or-replicate n m false false lt
   | inr le ↦ get_or_past (replicate n false) m false (omega (arith, le, length-replicate n false))
 ]
 
--- what a view keeps of which nothing was seen
+-- what a view of which nothing was seen keeps
 pub new_view : (of scan : ScanValue) (mcus n : ℕ) (units : List (List ℕ)) (seen : List Bool) → scan ≡ of → mcus ≡ mcus_of of.head → n ≡ blocks_of of.head → 0 < mcus → units ≡ replicate (mcus * n) grey_unit
     → seen ≡ replicate mcus false → IsView (record { scan = scan; units = units; seen = seen }) 0
 unfolding whole_rows

@@ -1,4 +1,4 @@
--- What a view shows after one MCU more.
+-- What a view shows after one more MCU.
 use Rattle.std.proofs.Common.{◌≡◌, ℕ, Bool, inl, inr, ◌⊎◌, ◌+◌, ◌-◌, ◌*◌, ◌<◌, ◌≤◌, true, false, List, slice_index_or, refl, sym, ap, ◌∙◌, arith}
 use Rattle.std.proofs.lemmas.Bool.{cases_order}
 use Rattle.jr_head.specs.Geometry.{blocks_of, mcus_of}
@@ -13,7 +13,7 @@ is_same v mcu = record { seen = refl; units = λ k lt. refl }
 same_blocks : (a b : ViewValue) → b.scan ≡ a.scan → blocks_of b.scan.head ≡ blocks_of a.scan.head
 same_blocks a b e = ap (λ (s : ScanValue). blocks_of s.head) e
 
--- what is the same twice is the same
+-- two unchanged steps are one
 both_same : (a b c : ViewValue) (mcu : ℕ) → b.scan ≡ a.scan → IsSameAt a b mcu → IsSameAt b c mcu → IsSameAt a c mcu
 both_same a b c mcu e s t = record {
   seen = s.seen ∙ t.seen;
@@ -65,7 +65,7 @@ module _ (old cur : ViewValue) (first d m : ℕ) (units : List (List ℕ)) where
         ];
       }
 
-  -- the next one is shown now
+  -- the next one is shown
   pub show_more : (new : ViewValue) (from : ℕ) → m ≡ first + d → from ≡ d * blocks_of old.scan.head → AddsMcus old first d units cur → has_seen cur m ≡ false → AddsMcu cur m units from new
       → AddsMcus old first (d + 1) units new
   show_more new from le at s none t =
@@ -102,7 +102,7 @@ module _ (old cur : ViewValue) (first d m : ℕ) (units : List (List ℕ)) where
         ];
       }
 
--- all that the picture has are shown
+-- all MCUs of the image are shown
 pub show_all : (old new : ViewValue) (first count done : ℕ) (units : List (List ℕ)) → done ≤ count → (done < count → mcus_of old.scan.head ≤ first + done) → AddsMcus old first done units new → AddsMcus old first count units new
 show_all old new first count done units le end s = record {
   scan = s.scan;

@@ -1,4 +1,4 @@
--- What a screen was told of, where it is told of one thing more.
+-- The reports to a screen, after one more report.
 use Rattle.std.proofs.Common.{Ok, Err, ◌≡◌, ◌≢◌, ℕ, inl, inr, ◌⊎◌, ◌+◌, ◌<◌, ◌≤◌, ◌==◌, ◌&&◌, leb, Bool, true, false, cond, List, [], ◌∷◌, ◌++◌, length, get_or, set, refl, sym, ap, subst, ◌∙◌, arith}
 use Rattle.std.specs.Prelude.{IsErr, IsOk}
 use Rattle.std.specs.List.{AllByRecursion, count_by}
@@ -29,19 +29,19 @@ one_more p ts t hit =
     let one : cond {A = ℕ} (p t) 1 0 ≡ 1 = ap (λ (b : Bool). cond {A = ℕ} b 1 0) hit in
     omega (arith, count_more p ts t, one)
 
--- all are of the scan, where one more is
+-- all are of the scan, if one more is
 all_more : (scan : ScanValue) (ts : List Notice) (t : Notice) → AllByRecursion (IsOfScan scan) ts → IsOfScan scan t → AllByRecursion (IsOfScan scan) (ts ++ t ∷ [])
 all_more scan [] t all is = (is, tt)
 all_more scan (u ∷ ts) t all is = (all.0, all_more scan ts t all.1 is)
 
--- a number is itself
+-- a number equals itself
 same_number : (n : ℕ) → (n == n) ≡ true
 same_number n = elim (eqb_tells n n) [
   | inl t ↦ t.0
   | inr f ↦ absurd (f.1 refl)
 ]
 
--- what is told as this is
+-- a report of the same strip or piece
 abbrev same_as : Notice → Notice → Bool
 same_as (StripOf s) t = is_strip s.interval.number s.first t
 same_as (PieceOf p) t = is_piece p.interval.number t
@@ -52,7 +52,7 @@ same_itself (StripOf s) t hit = ap (λ (b : Bool). b && (s.first == s.first)) (s
 same_itself (PieceOf p) t hit = same_number p.interval.number
 same_itself Asked t hit = absurd (cc hit)
 
--- they stay in order by what does not come too late behind any of them
+-- the reports stay in order after one that is not too late after any of them
 order_more : (ts : List Notice) (t : Notice) → AreToldInOrder ts → ((u : Notice) → is_late u t ≡ true → count_by (same_as u) ts ≡ 0) → AreToldInOrder (ts ++ t ∷ [])
 order_more [] t o new = (refl, tt)
 order_more (u ∷ ts) t o new =
@@ -66,12 +66,12 @@ order_more (u ∷ ts) t o new =
       order_more ts t o.1 (λ v hit. omega (arith, new v hit, sum_by-cons (λ w. cond (same_as v w) 1 0) u ts)),
     )
 
--- a failure is no success
+-- a failure is not a success
 pub err_not_ok : {T E : Type 0} (r : Result T E) → IsErr r → IsOk r → ⊥
 err_not_ok (Ok x) err ok = absurd (cc err)
 err_not_ok (Err e) err ok = absurd (cc ok)
 
--- what is told in two parts
+-- reports in two parts
 pub told_then : {S : Type 0} (becomes : S → Notice → S → Type 0) (a b c : S) (ts us : List Notice) → ScreenBecomes becomes a ts b → ScreenBecomes becomes b us c → ScreenBecomes becomes a (ts ++ us) c
 told_then becomes a b c [] us p q = subst (λ s. ScreenBecomes becomes s us c) p q
 told_then becomes a b c (t ∷ ts) us p q = (p.0, p.1, told_then becomes p.0 b c ts us p.2 q)
@@ -86,7 +86,7 @@ strip_tells i first s = elim (eqb_tells s.interval.number i) [
   | inr f ↦ inr (ap (λ (b : Bool). b && (s.first == first)) f.0, λ e. absurd (f.1 e))
 ]
 
--- no piece of an interval was told that is not marked
+-- a piece that is not marked as reported was not reported
 no_piece : (scan : ScanValue) (l : Looker) (ts : List Notice) (i : ℕ) → has_told l i ≡ false → Keeps scan l ts → count_by (is_piece i) ts ≡ 0
 no_piece scan l ts i untold k = k.pieces i ∙ ap (λ (b : Bool). cond {A = ℕ} b 1 0) untold
 
@@ -116,7 +116,7 @@ asked_is_new ts (StripOf t) hit = absurd (cc hit)
 asked_is_new ts (PieceOf q) hit = absurd (cc hit)
 asked_is_new ts Asked hit = absurd (cc hit)
 
--- a strip behind those that were told, of an interval whose piece was not
+-- a strip after those that were reported, of an interval whose piece was not
 pub keeps_strip : (scan : ScanValue) (l m : Looker) (s : StripValue) (ts : List Notice) → s.interval.number < length l.strips.items → has_told l s.interval.number ≡ false → get_or l.strips.items s.interval.number 0 ≤ s.first
     → m.pieces.items ≡ l.pieces.items → m.strips.items ≡ set l.strips.items s.interval.number (s.first + 1) → IsOfScan scan (StripOf s) → Keeps scan l ts → Keeps scan m (ts ++ StripOf s ∷ [])
 keeps_strip scan l m s ts lt untold next same now is k =
@@ -148,7 +148,7 @@ keeps_strip scan l m s ts lt untold next same now is k =
       order = order_more ts t k.order (strip_is_new scan l s ts untold next k);
     }
 
--- a piece that was not told
+-- a piece that was not reported
 pub keeps_piece : (scan : ScanValue) (l m : Looker) (p : PieceValue) (ts : List Notice) → p.interval.number < length l.pieces.items → has_told l p.interval.number ≡ false
     → m.strips.items ≡ l.strips.items → m.pieces.items ≡ set l.pieces.items p.interval.number true → IsOfScan scan (PieceOf p) → Keeps scan l ts → Keeps scan m (ts ++ PieceOf p ∷ [])
 keeps_piece scan l m p ts lt untold same now is k =
@@ -180,7 +180,7 @@ keeps_asked scan l ts k = record {
   order = order_more ts Asked k.order (asked_is_new ts);
 }
 
--- nothing is told yet
+-- nothing is reported yet
 pub keeps_nothing : (l : Looker) → ((i : ℕ) → has_told l i ≡ false) → (scan : ScanValue) → Keeps scan l []
 keeps_nothing l none scan = record {
   own = tt;
@@ -220,7 +220,7 @@ module _ {S : Type 0} (becomes : S → Notice → S → Type 0) (scan : ScanValu
   one_at_most true = omega arith
   one_at_most false = omega arith
 
-  -- what was told from the start on
+  -- all reports since the start
   pub told_all : (ended : Type 0) (l m : Looker) (a b : S) → Keeps scan l [] → Tells becomes scan l a m b → (ended → (i : ℕ) → i < length scan.intervals → has_told m i ≡ true) → IsTold becomes scan ended a b
   told_all ended l m a b nothing t all =
       let k = t.keeps [] nothing in

@@ -8,7 +8,7 @@ use Rattle.jr_piece.specs.Units.{grey_unit}
 use Rattle.jr_view.specs.ViewValue.{ViewValue}
 use Rattle.jr_view.specs.Views.{AddsMcu}
 
--- where the data units of an MCU are written, and it counts as seen, it shows them, and no other MCU is changed
+-- an MCU whose data units are written, and which counts as seen, shows them, and no other MCU is changed
 pub mcu_shown : (old new : ViewValue) (m from per : ℕ) (units us : List (List ℕ)) → per ≡ blocks_of old.scan.head → new.scan ≡ old.scan → new.units ≡ us → new.seen ≡ set old.seen m true → m < length old.seen
     → ((k : ℕ) → k < per → get_or us (m * per + k) grey_unit ≡ get_or units (from + k) grey_unit)
     → ((k : ℕ) → k < m * per → get_or us k grey_unit ≡ get_or old.units k grey_unit)
@@ -37,7 +37,7 @@ mcu_shown old new m from per units us blocks scan written marked lt here before 
       };
     }
 
--- there is room for the data units of each MCU
+-- the data units of each MCU fit
 pub room : (m per n mcus len : ℕ) → per ≡ n → m < mcus → len ≡ mcus * n → m * per + per ≤ len
 room m per n mcus len e lt all =
     let one : (m + 1) * n ≡ m * n + 1 * n = add-mul m 1 n in

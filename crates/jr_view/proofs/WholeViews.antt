@@ -1,4 +1,4 @@
--- A view that is a part of its picture and has seen all of it shows that picture.
+-- A view that is a part of its image and has seen all of it shows that image.
 use Rattle.std.proofs.Common.{◌≡◌, ◌≢◌, ℕ, inl, inr, ◌+◌, ◌-◌, ◌*◌, ◌/◌, ◌%◌, ◌<◌, ◌≤◌, Bool, true, false, cond, Option, Some, None, List, length, get_or, map, sym, ap, subst, ◌∙◌, arith}
 use Rattle.std.specs.Prelude.{slice_get, slice_index}
 use Rattle.std.specs.List.{range_with_len}
@@ -34,11 +34,11 @@ use Rattle.jr_view.specs.ViewValue.{ViewValue}
 use Rattle.jr_view.specs.Views.{sample_in_view}
 use Rattle.jr_view.specs.Parts.{HasSeenAll, IsPartOfPicture}
 
--- what T.81 gives for interval i
+-- the result that T.81 gives for interval i
 abbrev pub own : ScanValue → ℕ → PieceValue
 own scan i = (outcome (interval_of scan i)).0
 
--- a board with all of that
+-- a board with all of them
 abbrev pub whole : ScanValue → BoardValue
 whole scan = record { scan = scan; pieces = map (λ i. Some (own scan i)) (range_with_len 0 (length scan.intervals)) }
 
@@ -81,7 +81,7 @@ all_first scan =
     (λ i lt e. marked (own scan i).is_sound (sym (ap mark_of (own_at scan i lt)) ∙ e))
     (λ i le. ap mark_of (none_past scan i le))
 
--- a sample of the picture lies in an MCU of it
+-- a sample of the image lies in an MCU of it
 mcu_there : (h : HeadValue) (c x y : ℕ) → heads.IsLawful h → c < components_of h → x < samples_across h c → y < samples_down h c → (spot_of h c x y).mcu < mcus_of h
 mcu_there h c x y l p q r =
     let s = sampled_at h c l p in
@@ -89,7 +89,7 @@ mcu_there h c x y l p q r =
     let line = mcu_inside y h.height (vertical_of h c) (vertical_max h) s.down l.components.down r in
     mul-add-lt _ _ _ _ line column
 
--- and that in an interval of it
+-- and the MCU in an interval of it
 interval_there : (h : HeadValue) (mcu : ℕ) → mcu < mcus_of h → interval_number h mcu < intervals_of h
 interval_there h mcu lt = elim (eqb_tells h.restart 0) [
   | inl t ↦ subst (λ (b : Bool). cond b 0 (mcu / h.restart) < cond b 1 (div_ceil (mcus_of h) h.restart)) (sym t.0) (omega arith)
@@ -105,7 +105,7 @@ within_is h mcu = elim (eqb_tells h.restart 0) [
   | inr f ↦ subst (λ (b : Bool). mcu - cond b 0 (mcu / h.restart) * h.restart ≡ cond b mcu (mcu % h.restart)) (sym f.0) (omega (arith, div-add-mod' mcu h.restart))
 ]
 
--- a sample of a piece's data unit, of what a board and a view show
+-- a sample of a piece's data unit, as a board and a view show it
 unit_shown : (us : List (List ℕ)) (unit place : ℕ) → place < 64 → sample_in (slice_get us unit) place ≡ slice_index (get_or us unit grey_unit) place
 unit_shown us unit place below = elim (cases_lt unit (length us)) [
   | inl lt ↦ ap (λ (o : Option (List ℕ)). sample_in o place) (slice_get-get_or us unit grey_unit lt)
@@ -135,7 +135,7 @@ module _ (v : ViewValue) (head : heads.IsLawful v.scan.head) (part : IsPartOfPic
       ∙ unit_shown o.samples (unit_number h spot) (place_in spot) place
       ∙ sym (ap (λ (u : List ℕ). slice_index u (place_in spot)) ((part.each mcu there).seen (all mcu there) o is spot.block (block_there h c x y head p) ∙ ap (λ n. get_or o.samples n grey_unit) unit))
 
-  -- what shows the same samples is a picture too
+  -- what shows the same samples is also an image
   moved : (f g : ℕ → ℕ → ℕ → ℕ) (i : IntervalValue) (m : Mark) → ((c x y : ℕ) → Holds i c x y → g c x y ≡ f c x y) → Shows m i f → Shows m i g
   moved f g i Sound same s = record { blocks = s.blocks; decodes = s.decodes; samples = λ c x y held. same c x y held ∙ s.samples c x y held }
   moved f g i Damaged same s = record {

@@ -33,7 +33,7 @@ pub record ViewShowsLines (bytes : List ℕ) (h : HeadValue) (lines : ℕ) (pixe
   pub shown : AreFinal bytes 0 lines (take (lines * line_size h) pixels)
   pub grey : drop (lines * line_size h) pixels ≡ replicate ((h.height - lines) * line_size h) 128
 
--- it has the lines of the picture with the head of these bytes
+-- it has the lines of the image with the header of these bytes
 pub record ViewHasLines (v : PartialViewValue) (bytes : List ℕ) : Type 0 where
   pub head : HeadValue
   pub is_head : HeadOf bytes head
@@ -51,10 +51,10 @@ pub record IsSeen (v : PartialViewValue) (bytes : List ℕ) : Type 0 where
 abbrev pub AreSettled : (bytes : List ℕ) → (lines : ℕ) → Type 0
 AreSettled bytes lines = WantsMore bytes ⊎ ((s : FinalRows) × HasScan bytes s.scan × HasRows bytes s.scan s.rows × (lines_in s ≤ lines))
 
--- the lines that were shown are shown as they were
+-- the lines that were shown are unchanged
 abbrev pub KeepsLines : (old new : PartialViewValue) → Type 0
 KeepsLines old new = (bytes : List ℕ) (h : HeadValue) → IsSeen old bytes → HeadOf bytes h → take (lines_shown old * line_size h) new.pixels ≡ take (lines_shown old * line_size h) old.pixels
 
--- the lines of the scan's picture, of which all intervals are marked
+-- the lines of the scan's image, of which all intervals are marked
 abbrev pub AreScanLines : ScanValue → List ℕ → Type 0
 AreScanLines s pixels = (marks : List Mark) (f : ℕ → ℕ → ℕ → ℕ) → ShowsFirst s (length s.intervals) marks f → pixels ≡ next_lines_of s.head f 0 s.head.height

@@ -13,11 +13,11 @@ pub record ShowsOwn (v : ViewValue) (mcu : ℕ) : Type 0 where
   pub seen : has_seen v mcu ≡ true → (p : PieceValue) → IsPieceOf v.scan (interval_number v.scan.head mcu) p → ShowsPiece v p mcu
   pub unseen : has_seen v mcu ≡ false → (k : ℕ) → k < blocks_of v.scan.head → unit_at v mcu k ≡ grey_unit
 
--- the scan has the intervals that its head says, and each MCU of the picture shows its own
+-- the scan has the intervals that its header says, and each MCU of the image shows its own
 pub record IsPartOfPicture (v : ViewValue) : Type 0 where
   pub intervals : length v.scan.intervals ≡ intervals_of v.scan.head
   pub each : (mcu : ℕ) → mcu < mcus_of v.scan.head → ShowsOwn v mcu
 
--- each MCU of the picture was seen
+-- each MCU of the image was seen
 abbrev pub HasSeenAll : ViewValue → Type 0
 HasSeenAll v = (mcu : ℕ) → mcu < mcus_of v.scan.head → has_seen v mcu ≡ true

@@ -1,4 +1,4 @@
--- What a view shows of a picture, and what a strip or a piece adds to it.
+-- What a view shows of an image, and what a strip or a piece adds to it.
 use Rattle.std.specs.Prelude.{◌≡◌, ℕ, ◌+◌, ◌-◌, ◌*◌, ◌==◌, ◌<◌, ◌≤◌, ◌⊎◌, Bool, true, false, List, length, count_by, if◌then◌else◌, slice_index, slice_index_or, slice_range}
 use Rattle.std.specs.List.{list_all, range_with_len}
 use Rattle.jr_head.specs.HeadValue.{HeadValue}
@@ -12,7 +12,7 @@ use Rattle.jr_view.specs.declared.shown.Shown.{Shown}
 use Rattle.jr_view.specs.declared.shown.Shown.TheVariants.{OfStrip, OfPiece}
 use Rattle.jr_view.specs.ViewValue.{ViewValue}
 
--- whether an MCU was seen; none was that the picture does not have
+-- whether an MCU was seen; no MCU outside the image was
 abbrev pub has_seen : ViewValue → ℕ → Bool
 has_seen v mcu = slice_index_or v.seen mcu false
 
@@ -20,7 +20,7 @@ has_seen v mcu = slice_index_or v.seen mcu false
 abbrev pub unit_at : ViewValue → ℕ → ℕ → List ℕ
 unit_at v mcu k = slice_index_or v.units (mcu * blocks_of v.scan.head + k) grey_unit
 
--- the sample of an MCU, by data unit and place in that
+-- the sample of an MCU, by data unit and position in it
 abbrev pub sample_seen : ViewValue → (c mcu block place : ℕ) → ℕ
 sample_seen v c mcu block place = slice_index (unit_at v mcu block) place
 
@@ -55,7 +55,7 @@ pub record IsAmong (h : HeadValue) (first count mcu : ℕ) : Type 0 where
 abbrev pub IsOutside : (first count mcu : ℕ) → Type 0
 IsOutside first count mcu = (mcu < first) ⊎ (first + count ≤ mcu)
 
--- the number of MCUs of an interval, except of the last one, which ends with the picture (E.1.4)
+-- the number of MCUs of an interval, except of the last one, which ends with the image (E.1.4)
 abbrev pub size_of : HeadValue → ℕ
 size_of h = if h.restart == 0 then mcus_of h else h.restart
 
@@ -95,7 +95,7 @@ abbrev pub units_shown : Shown → List (List ℕ)
 units_shown (OfStrip s) = s.now.samples
 units_shown (OfPiece p) = p.now.samples
 
--- MCU `mcu`, which was not seen, shows data units from this one on; the others are as they were
+-- MCU `mcu`, which was not seen, shows data units starting at this one; the others are unchanged
 pub record AddsMcu (old : ViewValue) (mcu : ℕ) (units : List (List ℕ)) (from : ℕ) (new : ViewValue) : Type 0 where
   pub scan : new.scan ≡ old.scan
   pub seen : has_seen new mcu ≡ true

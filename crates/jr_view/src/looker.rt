@@ -18,7 +18,7 @@ use std::alloc::Global;
 pub(crate) struct Looker {
     /// For each interval, whether its piece was reported.
     pieces: Vec<bool>,
-    /// Of each interval that may be long, the first MCU that a strip may begin with by now.
+    /// Of each interval that may be long, the first MCU with which the next strip may begin.
     strips: Vec<u32>,
 }
 
@@ -116,7 +116,7 @@ impl Looker {
         }
     }
 
-    /// Returns the place of the next strip of an interval.
+    /// Returns the index of the next strip of an interval.
     fn next_place(&self, cells: &StripCells) -> u32 {
         match self.strips.get(cells.number() as usize) {
             Some(next) => next.div_ceil(cells.each()),

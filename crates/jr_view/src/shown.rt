@@ -30,7 +30,7 @@ impl Shown<'_> {
         }
     }
 
-    /// Data unit k; grey where there is none.
+    /// Returns data unit k; grey if there is none.
     fn unit(&self, k: u32) -> [u8; 64]
         ensures { result ≡ slice_index_or (units_shown self.now) k grey_unit }
     {

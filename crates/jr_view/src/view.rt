@@ -92,7 +92,7 @@ fn is_row_whole(head: &Head, seen: &[bool], mcu: usize) -> bool
 }
 
 impl View {
-    /// Makes a view of a scan's image of which nothing was seen. It allocates all its memory now, for each pixel that
+    /// Makes a view of a scan's image of which nothing was seen. It allocates its memory at once, for each pixel that
     /// the header claims. `Err` if allocation fails.
     pub fn of(alloc: Global, scan: &Arc<Scan>) -> Result<View, Memory>
         ensures scan { IfOk result (λ v. v.scan ≡ arc_value scan.now) }
@@ -103,7 +103,7 @@ impl View {
     {
         let mcus = scan.head().mcus() as usize;
         let count = mcus * scan.head().order().len();
-        // By its contract a scan has as many intervals as its head says.
+        // By its contract a scan has the number of intervals that its header says.
         let _intervals = scan.intervals();
         Ok(View {
             scan: Arc::try_clone(scan)?,
@@ -191,7 +191,7 @@ impl View {
         }
     }
 
-    /// Shows an MCU that was not seen, by data units from this one on.
+    /// Shows an MCU that was not seen, by data units starting at this one.
     fn show_mcu(&mut self, mcu: usize, shown: &Shown<'_>, from: usize)
         requires mcu { mcu < mcus_of self.old.scan.head }
         requires from { from < 2 ^ 31 }

@@ -1,14 +1,14 @@
--- What a worker knows that claims numbers of a desk at its seat.
+-- What a worker that claims numbers of a desk at its seat knows.
 use Rattle.std.proofs.Common.{◌≡◌, ℕ, ◌-◌, ◌<◌, ◌≤◌, List, [], ◌∷◌, ◌++◌, length, length-append, Option, Result, Ok, Err, IfOk, IfSome, refl, sym, ap, subst, ◌∙◌, arith}
 use Rattle.std.proofs.lemmas.List.{append_assoc}
 use Rattle.std.specs.Result.{result_ok}
 
--- the sight that was taken, where memory sufficed
+-- the sight that was returned, if memory sufficed
 pub sight_of : {T E : Type 0} (r : Result T E) (o : Option T) (P : T → Type 0) → o ≡ result_ok r → IfOk r P → IfSome o P
 sight_of (Ok x) o P e h = subst (λ k. IfSome k P) (sym e) h
 sight_of (Err x) o P e h = subst (λ k. IfSome k P) (sym e) tt
 
--- one more number is drawn: fewer are left
+-- after one more number is drawn fewer are left
 pub fewer_left : (limit v : ℕ) (old new : List ℕ) → length new ≤ limit → new ≡ old ++ v ∷ [] → limit - length new < limit - length old
 fewer_left limit v old new few e =
     let one : length (v ∷ []) ≡ 1 = refl in

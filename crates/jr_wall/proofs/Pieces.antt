@@ -44,7 +44,7 @@ count_set test ps n p h none e =
     let was : cond {A = ℕ} (test (get_or ps n None)) 1 0 ≡ 0 = ap (λ (q : Option PieceValue). cond {A = ℕ} (test q) 1 0) none ∙ ap (λ (b : Bool). cond {A = ℕ} b 1 0) e in
     omega arith
 
--- one more piece: its mark counts, and there is room for the counts
+-- one more piece is posted: its mark counts, and the counts fit
 pub record Posted (b : BoardValue) (n : ℕ) (p : PieceValue) (sound damaged : ℕ) : Type 0 where
   pub kept : KeepsCounts (record { scan = b.scan; pieces = set b.pieces n (Some p) }) sound damaged
   pub sound_fits : sound < 2 ^ 32
@@ -95,7 +95,7 @@ one_of : (b : Bool) → let n : ℕ = cond b 1 0 in n + cond (cond b false true)
 one_of true = omega arith
 one_of false = omega arith
 
--- sound and damaged pieces are no more than places
+-- a position has at most one sound or damaged piece
 one_mark : (p : Option PieceValue) → let n : ℕ = cond (is_sound_piece p) 1 0 in n + cond (is_damaged_piece p) 1 0 ≤ 1
 one_mark None = omega arith
 one_mark (Some p) = one_of p.is_sound
@@ -105,7 +105,7 @@ few_marks [] = omega arith
 few_marks (p ∷ ps) =
     omega (arith, one_mark p, few_marks ps, sum_by-cons (λ (q : Option PieceValue). cond (is_sound_piece q) 1 0) p ps, sum_by-cons (λ (q : Option PieceValue). cond (is_damaged_piece q) 1 0) p ps)
 
--- the piece at a place of the fields
+-- the piece at a position of the fields
 pub held_at : (ps : List (Option (Arc PieceValue Global))) (i : ℕ) → get_or (map shared_piece ps) i None ≡ shared_piece (get_or ps i None)
 held_at [] i = refl
 held_at (p ∷ ps) zero = refl

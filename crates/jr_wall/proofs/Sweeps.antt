@@ -28,12 +28,12 @@ is_for b s p i same e lt =
     let number : p.interval.number ≡ i = ap (λ (v : IntervalValue). v.number) e in
     (omega (arith, lt, number, ap length same.1), e ∙ sym (same_interval b.scan s i same) ∙ ap (interval_of b.scan) (sym number))
 
--- such a piece is not refused where its interval is blank
+-- such a piece is not refused if its interval is blank
 pub not_refused : (b : BoardValue) (p : Arc PieceValue Global) (e : Unposted) → IsFor (arc_value p).interval b.scan → mark_at b (arc_value p).interval.number ≡ Blank → IsRefused b p e → ⊥
 not_refused b p (Foreign back) for blank r = r.1 for
 not_refused b p (AlreadyMarked back) for blank r = r.2 (marks_at b.pieces (arc_value p).interval.number ∙ blank)
 
--- equal scans have equal heads and data
+-- equal scans have equal headers and data
 pub same_scan : (s t : ScanValue) → s ≡ t → IsSameScan s t
 same_scan s t e = (ap (λ (v : ScanValue). v.head) e, ap (λ (v : ScanValue). v.intervals) e)
 
@@ -41,7 +41,7 @@ same_scan s t e = (ap (λ (v : ScanValue). v.head) e, ap (λ (v : ScanValue). v.
 pub all_blank : (b : BoardValue) (n : ℕ) → b.pieces ≡ replicate n None → (i : ℕ) → mark_at b i ≡ Blank
 all_blank b n e i = ap (λ (ps : List (Option PieceValue)). mark_of (get_or ps i None)) e ∙ ap mark_of (no_piece n i)
 
--- the same of a new board, where memory sufficed
+-- the same of a new board, if memory sufficed
 pub new_same : {E : Type 0} (r : Result BoardValue E) (s t : ScanValue) → s ≡ t → IfOk r (λ b. b.scan ≡ s) → IfOk r (λ b. IsSameScan b.scan t)
 new_same (Ok b) s t e is = same_scan b.scan t (is ∙ e)
 new_same (Err x) s t e is = tt
@@ -74,7 +74,7 @@ module _ (old new : BoardValue) (p : PieceValue) (i : ℕ) (number : p.interval.
   posted_others k other =
       ap (λ (b : BoardValue). mark_at b k) posts.posted ∙ ap mark_of (get_or-set_other old.pieces p.interval.number k (Some p) None (λ e. other (e ∙ number)))
 
--- what the comparison of a mark with Blank says
+-- the result of the comparison of a mark with Blank
 pub was_blank : (m : Mark) → true ≡ sameb the_type m Blank → m ≡ Blank
 was_blank Blank e = refl
 was_blank Sound e = absurd (false≢true (sym e))
@@ -83,7 +83,7 @@ was_blank Damaged e = absurd (false≢true (sym e))
 pub not_blank : (m n : Mark) (b : Bool) → b ≡ false → b ≡ sameb the_type m Blank → m ≡ n → n ≢ Blank
 not_blank m n b f e is blank = false≢true (sym f ∙ e ∙ ap (λ (k : Mark). sameb the_type k Blank) (is ∙ blank))
 
--- the first i intervals of the scan are marked, and none from n on
+-- the first i intervals of the scan are marked, and none at number n or later
 pub record IsSwept (s : ScanValue) (n i : ℕ) (b : BoardValue) : Type 0 where
   pub scan : IsSameScan b.scan s
   pub places : length b.pieces ≡ length s.intervals

@@ -12,7 +12,7 @@ pub record DecodingValue : Type 0 where
   pub cells : List ℕ
   pub strips : List (Option StripCellsValue)
 
--- each is of the interval whose number its place is
+-- each is of the interval whose number is its index
 abbrev pub AreNumbered : List (Option StripCellsValue) → Type 0
 AreNumbered strips = (i : ℕ) → IfSome (slice_index_or strips i None) (λ c. c.number ≡ i)
 

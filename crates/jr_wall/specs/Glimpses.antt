@@ -1,4 +1,4 @@
--- What a thread sees that looks at an image of a scan.
+-- What a thread that looks at an image of a scan sees.
 use Rattle.std.specs.Prelude.{◌≡◌, ℕ, List}
 use Rattle.jr_head.specs.HeadValue.{HeadValue}
 use Rattle.jr_scan.specs.ScanValue.{ScanValue}
@@ -6,7 +6,7 @@ use Rattle.jr_picture.specs.declared.mark.Mark.{Mark}
 use Rattle.jr_picture.specs.Headline.{interval_number, spot_of, mark_in, IsPicture, AreCounts}
 use Rattle.jr_wall.specs.declared.glimpse.Glimpse.{Glimpse}
 
--- one sample of a picture, the mark of the interval that holds it, and the counts
+-- one sample of an image, the mark of the interval that holds it, and the counts
 pub record IsGlimpse (head : HeadValue) (marks : List Mark) (f : ℕ → ℕ → ℕ → ℕ) (c x y : ℕ) (g : Glimpse) : Type 0 where
   pub mark : g.mark ≡ mark_in marks (interval_number head (spot_of head c x y).mcu)
   pub sample : g.sample ≡ f c x y

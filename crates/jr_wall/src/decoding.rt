@@ -191,7 +191,7 @@ impl Decoding {
     }
 
     /// Works at a seat of its desk until that has ended, as a thread of the caller's own may do. It decodes by itself the
-    /// intervals that it claims, long ones strip by strip, and hangs and posts what it has decoded.
+    /// intervals that it claims, long ones strip by strip, and publishes (`hang`) and posts what it has decoded.
     pub fn work<R: Wait, G: Gate>(&self, rt: &R, seat: &mut Seat, gate: &G)
         requires { seat.old.desk ≡ self.now.desk }
         ensures ended { seat.new.ended ≡ true }

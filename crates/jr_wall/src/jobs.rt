@@ -61,7 +61,7 @@ impl<S: OneScan> Jobs<S> {
         }
     }
 
-    /// Returns the shared job of interval i, where there is one.
+    /// Returns the shared job of interval i, if there is one.
     pub(crate) fn get(&self, i: usize) -> Option<&Job<S>> {
         match self {
             Jobs::Shared(jobs) => jobs.get(i)?.as_deref(),
@@ -69,7 +69,7 @@ impl<S: OneScan> Jobs<S> {
         }
     }
 
-    /// Returns the job by which a long interval i is decoded that a worker has claimed. None where it is decoded as a
+    /// Returns the job by which a long interval i is decoded that a worker has claimed. `None` if it is decoded as a
     /// whole.
     pub(crate) fn claimed(&self, alloc: Global, scan: &Scan, i: u32) -> Option<Arc<Job<S>>>
         requires scan { S.scan ≡ Some scan.now }

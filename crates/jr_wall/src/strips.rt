@@ -52,7 +52,7 @@ pub(crate) fn open_strips(
     Ok(strips)
 }
 
-/// Hangs a strip into the cell of its place, where there are one and a sight to do it by.
+/// Publishes a strip in the cell of its position (`hang`), if there are a cell and a sight to do it with.
 pub(crate) fn hang_strip(cells: &StripCells, strip: Arc<Strip>, sight: &mut Option<StripSight>)
     requires { IfSome sight.old (λ s. s.cells ≡ cells.now) }
     ensures { IfSome sight.new (λ s. s.cells ≡ cells.now) }

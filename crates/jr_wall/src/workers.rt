@@ -64,7 +64,7 @@ pub(crate) fn make_piece<G: Gate>(
     Arc::new(alloc, piece).ok()
 }
 
-/// Hangs a piece into the cell of its number, where there are a cell and a sight to do it by.
+/// Publishes a piece in the cell of its number (`hang`), if there are a cell and a sight to do it with.
 pub(crate) fn hang(cells: &Cells, piece: &Arc<Piece>, sight: &mut Option<Sight>)
     requires { IfSome sight.old (λ s. s.cells ≡ cells.now) }
     ensures { IfSome sight.new (λ s. s.cells ≡ cells.now) }

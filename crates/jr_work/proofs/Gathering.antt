@@ -16,7 +16,7 @@ use Rattle.jr_piece.specs.StripValue.{StripValue}
 use Rattle.jr_scan.specs.Mcus.{Decodes, Front, HasNoDecoding, HasLongestFront}
 use Rattle.jr_piece.specs.Strips.{AreOf, TellsEnd, shared_strips}
 
--- one more strip of the interval
+-- one more strip of the interval is appended
 pub one_more_of : (i : IntervalValue) (xs : List (Arc StripValue Global)) (x : Arc StripValue Global) → AreOf i (shared_strips xs) → (arc_value x).interval ≡ i → AreOf i (shared_strips (xs ++ x ∷ []))
 one_more_of i xs x all one = subst (All of) (sym (map-append arc_value xs (x ∷ []))) (All-append of (shared_strips xs) (arc_value x ∷ []) all (λ k d lt. at k d lt))
   where
@@ -27,7 +27,7 @@ one_more_of i xs x all one = subst (All of) (sym (map-append arc_value xs (x ∷
     at zero d lt = one
     at (suc k) d lt = absurd (omega arith)
 
--- what a reader tells at its end
+-- what a reader at its end reports
 pub tells_end : (b : Bool) (i : IntervalValue) (k : ℕ) → (IsTrue b → (zs : List (List ℤ)) → Front i k zs → Decodes i zs) → (b ≡ false → HasLongestFront i k → HasNoDecoding i) → HasLongestFront i k → TellsEnd i k b
 tells_end true i k sound damaged w = (w, (w.0, sound refl w.0 w.1.front))
 tells_end false i k sound damaged w = (w, damaged refl w)
@@ -38,12 +38,12 @@ its_interval known s i n is own e =
     let of : HasInterval s i = subst (λ (k : Option ScanValue). IsOneOf k i) is own in
     (omega (arith, e, of.0), of.1 ∙ ap (interval_of s) (sym e))
 
--- the interval that was taken, where memory sufficed for it
+-- the interval that was returned, if memory sufficed for it
 pub taken : {E : Type 0} (r : Result IntervalValue E) (x j : IntervalValue) → Some x ≡ result_ok r → IfOk r (λ v. v ≡ j) → x ≡ j
 taken (Ok y) x j e is = let same : x ≡ y = cc in same ∙ is
 taken (Err y) x j e is = absurd (let z : Some x ≡ None = e in cc)
 
--- a piece of an interval, where its strips are in order
+-- a piece of an interval, if its strips are in order
 pub piece_of : {E : Type 0} (r : Result PieceValue E) (o : Option PieceValue) (i j : IntervalValue) → o ≡ result_ok r → IfOk r (λ p. p.interval ≡ i) → i ≡ j → IfSome o (λ p. p.interval ≡ j)
 piece_of (Ok p) o i j e is same = subst (λ (k : Option PieceValue). IfSome k (λ q. q.interval ≡ j)) (sym e) (is ∙ same)
 piece_of (Err x) o i j e is same = subst (λ (k : Option PieceValue). IfSome k (λ q. q.interval ≡ j)) (sym e) tt

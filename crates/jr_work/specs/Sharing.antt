@@ -20,7 +20,7 @@ abbrev pub IsOneOf : Option ScanValue → IntervalValue → Type 0
 IsOneOf None i = ⊥
 IsOneOf (Some s) i = HasInterval s i
 
--- a place is empty, or holds a strip of the interval
+-- a position is empty, or holds a strip of the interval
 abbrev pub IsEmptyOrOf : IntervalValue → Option (Arc StripValue Global) → Type 0
 IsEmptyOrOf i slot = IfSome slot (λ s. (arc_value s).interval ≡ i)
 

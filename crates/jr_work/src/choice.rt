@@ -1,4 +1,4 @@
-//! What a worker does next, where one at a time reads a scan step by step.
+//! What a worker does next, while one at a time reads a scan step by step.
 
 /// The kind of task that a worker can do next. A step is a row of MCUs, or a strip of an interval.
 #[derive(Clone, Copy, PartialEq, Eq)]

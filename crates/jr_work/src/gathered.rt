@@ -43,7 +43,7 @@ impl<S: OneScan> Model for Gathered<S> {
     ghost invariant = { λ g. (0 < g.each) × IsOneOf S.scan (arc_value g.interval) × All (IsEmptyOrOf (arc_value g.interval)) g.strips.items × IfSome g.end (λ e. TellsEnd (arc_value g.interval) e.front e.is_sound) };
 }
 
-/// Returns the strips of all places; none where a place is empty.
+/// Returns the strips of all positions; `None` if a position is empty.
 fn all_of(alloc: Global, places: &[Option<Arc<Strip>>]) -> Option<Vec<Arc<Strip>>>
     ensures { IfSome result (λ v. (i : IntervalValue) → All (IsEmptyOrOf i) places.now → AreOf i (shared_strips v.items)) }
 {
@@ -84,7 +84,7 @@ impl<S: OneScan> Gathered<S> {
         }
     }
 
-    /// Keeps a strip of this interval in its place; of another interval it keeps none.
+    /// Keeps a strip of this interval at its index; ignores a strip of another interval.
     pub(crate) fn keep(&mut self, strip: Arc<Strip>) -> Result<(), Memory>
         requires { IsOneOf S.scan (arc_value strip).interval }
         ensures { self.new ≡ self.old }

@@ -153,7 +153,7 @@ impl<S: OneScan> GuessQueue<S> {
         self.at.0
     }
 
-    /// Returns a bit near the end of the next step, if it is as long as the last one; none where the data end before.
+    /// Returns a bit near the end of the next step, if it is as long as the last one; `None` if the data end before.
     fn next_end(&self, scan: &Scan) -> Option<u64> {
         let end = self.at.1.saturating_add(self.step_bits);
         if end < bits_of(scan, self.at.0) {

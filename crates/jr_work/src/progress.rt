@@ -57,7 +57,7 @@ impl<S: OneScan> ScanStrip<S> {
         self.strip.decode(alloc)
     }
 
-    /// Returns the memory of its blocks, to be used again; none where it has none.
+    /// Returns the memory of its blocks, to be used again; `None` if it has none.
     pub(crate) fn into_blocks(self) -> Option<Vec<Coefficients>> {
         self.strip.into_blocks()
     }
@@ -77,7 +77,7 @@ pub(crate) enum StripTask<S: OneScan> {
 /// The progress of an interval: one worker reads or skips strips, and these wait for a free worker.
 #[derive(Drop)]
 pub(crate) struct Progress<S: OneScan> {
-    /// None while a worker reads, and where nothing is left to read.
+    /// `None` while a worker reads, and if nothing is left to read.
     reading: Option<Reading<S>>,
     /// It has no buffers if strips are read and none is skipped, and once nothing is left to read.
     guesses: GuessQueue<S>,
@@ -229,7 +229,7 @@ impl<S: OneScan> Progress<S> {
         }
     }
 
-    /// Keeps a strip of the interval, and the memory of its blocks where it has some.
+    /// Keeps a strip of the interval, and the memory of its blocks if it has some.
     pub(crate) fn keep(
         &mut self,
         strip: Arc<Strip>,

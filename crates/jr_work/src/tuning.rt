@@ -18,7 +18,7 @@ pub const MIN_READS_OF_CHECK: u64 = 64;
 /// Number of speculative reads of a check, some 128 KB, for which a further thread is worth its start.
 pub const READS_OF_CHECKER: u64 = 32;
 
-/// Number of speculative reads that wait for the reader of a check, besides one for each thread.
+/// Number of speculative reads that wait for the reader of a check, in addition to one for each thread.
 pub const WAITING_READS_OF_CHECK: u32 = 4;
 
 /// Number of speculative reads for each worker that decodes rows of MCUs: one that it makes, and two from which a row

@@ -29,7 +29,7 @@ impl WaitingStrip {
         }
     }
 
-    /// Returns the memory of its blocks, to be used again; none where it has none.
+    /// Returns the memory of its blocks, to be used again; `None` if it has none.
     pub(crate) fn into_blocks(self) -> Option<Vec<Coefficients>> {
         match self {
             WaitingStrip::Coded(strip) => Some(strip.into_blocks()),

@@ -19,7 +19,7 @@ use Rattle.jri_archive.specs.declared.state_record.FileRecord.{FileRecord}
 use Rattle.jri_archive.specs.declared.state_record.Stamp.{Stamp}
 use Rattle.jri_archive.specs.Told.{IsCheckOf, IsClaimOf, IsOther, IsOtherSeal, IsRecordOf, IsSealed, IsStamped}
 
--- the next of all names is claimed, and those behind it are left
+-- the next of all names is claimed, and those after it are left
 pub record IsNext (all : List (List ℕ)) (claimed : ℕ) (file : NamedFile) (others : Option (List (List ℕ))) : Type 0 where
   pub within : claimed < length all
   pub named : IsNamed file (get_or all claimed [])
@@ -74,7 +74,7 @@ module _ (holds : List ℕ → List ℕ → Type 0) (fails : List ℕ → ReadEr
   no_other None known e other = other
   no_other (Some s) known e other = absurd (none-some s (sym e))
 
-  -- what is told of a file that was read is a check of it
+  -- what is reported about a file that was read is a check of it
   pub check_of : (opened : Type 0) (r : Result (Vec ℕ) ReadError) (o p : Outcome) (seal : Option Seal) (known : Option FileRecord)
       → IfOk r (λ b. holds name b.items) → IfErr r (λ e. opened → fails name e ⊎ IsNoText name e) → opened → IfOk r (λ b. IsOutcomeOf b.items o) → IfErr r (λ e. o ≡ outcome.Unread e)
       → IfErr r (λ _. seal ≡ None) → IfSome seal (λ s. IfOk r (λ b. s.hash ≡ sha256 b.items)) → IfSome known (IsStamped stamps knows name)
@@ -104,7 +104,7 @@ module _ (holds : List ℕ → List ℕ → Type 0) (fails : List ℕ → ReadEr
   no_seal None r e sealed = sealed
   no_seal (Some s) r e sealed = absurd (none-some s (sym e))
 
-  -- what is recorded of a file that was read is a record of it
+  -- what is recorded about a file that was read is a record of it
   pub recorded_of : (r : Result (Vec ℕ) ReadError) (o p : Outcome) (seal : Option Seal) (x : Option FileRecord)
       → IfOk r (λ b. holds name b.items) → IfOk r (λ b. IsOutcomeOf b.items o) → IfErr r (λ _. seal ≡ None) → IfSome seal (λ s. stamps name s.stamp) → IfSome seal (λ s. IfOk r (λ b. s.hash ≡ sha256 b.items))
       → IfSome x (λ f. IsSealed seal f × (file_state f.state ≡ state_of p) × (p ≡ o)) → IfSome x (λ f. IsRecordOf holds stamps name f p)
@@ -117,7 +117,7 @@ some_plain : (o p : Outcome) (x : Option (Vec ℕ)) → IfSome x (λ b. IsOutcom
 some_plain o p None is same = tt
 some_plain o p (Some b) is same = same b.items is
 
--- the bytes that a map is drawn of are still those of the check
+-- the bytes from which a map is drawn are still those of the check
 pub map_of : (o p : Outcome) (x y : Option (Vec ℕ)) → y ≡ x → IfSome x (λ b. IsOutcomeOf b.items o) → ((file : List ℕ) → IsOutcomeOf file o → IsOutcomeOf file (plain_outcome p))
     → IfSome y (λ b. IsOutcomeOf b.items (plain_outcome p))
 map_of o p x y e is same = subst (λ (z : Option (Vec ℕ)). IfSome z (λ b. IsOutcomeOf b.items (plain_outcome p))) (sym e) (some_plain o p x is same)

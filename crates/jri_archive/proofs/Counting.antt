@@ -121,7 +121,7 @@ told_of may_be names xs state o each is state_is k lt = elim (cases_lt k (length
       })
 ]
 
--- one more file is told of
+-- one more file is reported
 pub told_more : (may_be : List ℕ → Outcome → Type 0) (names : List (List ℕ)) (told : ℕ) (c : FileCounts) (state : FileState) (o : Outcome)
     → may_be (get_or names told []) o → state ≡ state_of o → AreTold may_be names told c → AreTold may_be names (told + 1) (counts_with c state)
 told_more may_be names told c state o is state_is t = record {

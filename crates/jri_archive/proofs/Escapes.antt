@@ -1,4 +1,4 @@
--- How names are escaped, and that they come back.
+-- How names are escaped, and that they are restored.
 use Rattle.std.proofs.Common.{◌≡◌, ◌≢◌, ℕ, zero, suc, ◌+◌, ◌-◌, ◌*◌, ◌/◌, ◌%◌, ◌<◌, ◌≤◌, List, [], ◌∷◌, ◌++◌, length, map, take, drop, get_or, refl, sym, ap, subst, ◌∙◌, inl, inr, Bool, true, false, append_assoc, length-drop, add-one, arith}
 use Rattle.std.specs.Prelude.{nat_lt, if◌then◌else◌}
 use Rattle.std.specs.List.{flat_map, AllByRecursion}
@@ -17,7 +17,7 @@ all_push (q ∷ parts) p each is = (each.0, all_push parts p each.1 is)
 pub escaped_none : IsEscaped [] []
 escaped_none = record { parts = []; each = tt; spelled = refl; means = refl }
 
--- one more part
+-- one more part is appended
 pub escaped_more : (text name : List ℕ) (p : NamePart) → IsEscaped text name → IsNamePart p → IsEscaped (text ++ spelt p) (name ++ byte_spelt p ∷ [])
 escaped_more text name p r is = record {
   parts = r.parts ++ p ∷ [];
@@ -37,9 +37,9 @@ escaped_run text name more (suc n) room plain r =
     subst (λ (x : List ℕ). IsEscaped x (name ++ take (suc n) more)) (append_assoc text (take n more) (b ∷ []) ∙ ap (λ (x : List ℕ). text ++ x) grown)
     (subst (IsEscaped ((text ++ take n more) ++ b ∷ [])) (append_assoc name (take n more) (b ∷ []) ∙ ap (λ (x : List ℕ). name ++ x) grown) one)
 
--- ---- a name is put run by run
+-- ---- a name is written run by run
 
--- the first `at` bytes of the name are put behind the line
+-- the first `at` bytes of the name are written after the line
 abbrev pub Puts : (line new name : List ℕ) → (at : ℕ) → Type 0
 Puts line new name at = (at ≤ length name) × ((text : List ℕ) × (new ≡ line ++ text) × IsEscaped text (take at name))
 
@@ -63,7 +63,7 @@ put_byte line new newer name at lt small wrote p =
     let joined : newer ≡ line ++ (p.1.0 ++ spelt (Number b)) = wrote ∙ ap (λ (x : List ℕ). x ++ spelt (Number b)) p.1.1 ∙ append_assoc line p.1.0 (spelt (Number b)) in
     (omega arith, (_, joined, subst (IsEscaped (p.1.0 ++ spelt (Number b))) (sym (take_more name at 0 lt)) e))
 
--- ---- names come back
+-- ---- names are restored
 
 digit_below : (m : ℕ) → m < 10 → digit_of m ≡ 48 + m
 digit_below m lt = let t : nat_lt m 10 ≡ true = grind (arith) in ap (λ (b : Bool). if b then 48 + m else 87 + m) t

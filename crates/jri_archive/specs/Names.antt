@@ -11,7 +11,7 @@ abbrev pub names_left : {L : Type 0} → List (Vec ℕ) → ℕ → Option L →
 names_left words taken None = Some (drop taken (map (λ w. w.items) words))
 names_left words taken (Some list) = None
 
--- the same where folders are gone through
+-- the same if directories are searched
 abbrev pub known_names : {W : Type 0} → Option (List (List ℕ)) → Option W → Option (List (List ℕ))
 known_names given None = given
 known_names given (Some walk) = None

@@ -16,13 +16,13 @@ request_error_status (Help text) = 0
 request_error_status (Wrong text) = 2
 request_error_status Memory = 4
 
--- the same, where writing the help or the version may have failed
+-- the same, if writing the help or the version may have failed
 abbrev pub request_status : RequestError → Bool → ℕ
 request_status (Help text) has_failed = if has_failed then 4 else 0
 request_status (Wrong text) has_failed = 2
 request_status Memory has_failed = 4
 
--- one more, of a count of 64 bits
+-- one more, in a count of 64 bits
 abbrev pub one_more : ℕ → ℕ
 one_more n = min (n + 1) (2 ^ 64 - 1)
 

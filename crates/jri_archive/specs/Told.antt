@@ -69,7 +69,7 @@ is_open Unwritten = false
 is_open NoMemory = false
 is_open Unrecorded = false
 
--- 1 where two states are one
+-- 1 if two states are one
 abbrev pub same_state : FileState → FileState → ℕ
 same_state Sound Sound = 1
 same_state Damaged Damaged = 1

@@ -89,7 +89,7 @@ impl FolderWalk {
         Ok(None)
     }
 
-    /// Returns the next file, where a directory stands for the files in it; `None` after the last.
+    /// Returns the next file, with each directory replaced by the files in it; `None` after the last.
     pub(crate) fn next<F: Folder, I: Read + Drop>(
         &mut self,
         alloc: Global,

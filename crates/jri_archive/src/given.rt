@@ -12,7 +12,7 @@ use std::marker::Model;
 #[derive(Drop)]
 pub(crate) struct GivenNames<I: Read + Drop> {
     words: Vec<Vec<u8>>,
-    /// The number of arguments that are taken.
+    /// The number of arguments that are read.
     taken: usize,
     list: Option<BufReader<I>>,
 }

@@ -23,7 +23,7 @@ use jri_memory::{
 };
 use std::alloc::Global;
 
-/// The number of these calls: it is changed where one of them is.
+/// The version number of these calls: it changes if one of them does.
 const VERSION: u32 = 8;
 
 /// The number of these calls.

@@ -36,7 +36,7 @@ module _ (c : CanvasLines) (line : ℕ → List ℕ) where
     kept = λ i out. refl;
   }
 
-  -- those before a line, and those from it on
+  -- the lines before line `mid`, and those starting at it
   pub stand_both : laid_line_size c ≤ c.stride → (first mid end : ℕ) (old some all : List ℕ) → first ≤ mid → mid ≤ end → StandOn c first mid line old some → StandOn c mid end line some all → StandOn c first end line old all
   stand_both narrow first mid end old some all le le' start rest = record {
     long = rest.long ∙ start.long;

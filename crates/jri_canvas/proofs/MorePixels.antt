@@ -5,7 +5,7 @@ use Rattle.std.proofs.lemmas.List.Concat.{flat_map-append}
 use Rattle.std.proofs.Math.ListN.{set}
 use Rattle.std.proofs.lemmas.Grind.{take-set_at}
 
--- the numbers from a on, and then those from a + m on
+-- the numbers starting at a, and then those starting at a + m
 pub range-append : (a m n : ℕ) → range_with_len a (m + n) ≡ range_with_len a m ++ range_with_len (a + m) n
 range-append a zero n = rw (zero-add, add-zero) refl
 range-append a (suc m) n =
@@ -24,7 +24,7 @@ joined_three xs p q r = simp append_assoc
 joined_four : (xs : List ℕ) (p q r s : ℕ) → (((xs ++ p ∷ []) ++ q ∷ []) ++ r ∷ []) ++ s ∷ [] ≡ xs ++ p ∷ q ∷ r ∷ s ∷ []
 joined_four xs p q r s = simp append_assoc
 
--- the first bytes of a pixel from byte m on
+-- the first bytes of a pixel, starting at byte m
 three_put : (m : ℕ) (out : List ℕ) (p q r : ℕ) → m + 3 ≤ length out → take (m + 3) (set (set (set out m p) (m + 1) q) (m + 2) r) ≡ ((take m out ++ p ∷ []) ++ q ∷ []) ++ r ∷ []
 three_put m out p q r room =
     let one = set out m p in

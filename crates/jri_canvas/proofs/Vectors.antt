@@ -10,7 +10,7 @@ use Rattle.jri_canvas.specs.declared.layout.Order.TheVariants.{Rgb}
 use Rattle.jri_canvas.specs.declared.layout.Pixels.TheVariants.{Grey, Colour}
 use Rattle.jri_canvas.proofs.MorePixels.{range-append}
 
--- the same lists, numbered from elsewhere
+-- the same lists, with other numbers
 flat_map-moved : (f g : ℕ → List ℕ) (a b n : ℕ) → ((k : ℕ) → k < n → f (a + k) ≡ g (b + k)) → flat_map f (range_with_len a n) ≡ flat_map g (range_with_len b n)
 flat_map-moved f g a b zero h = refl
 flat_map-moved f g a b (suc n) h =
@@ -20,7 +20,7 @@ flat_map-moved f g a b (suc n) h =
     let others = flat_map-moved f g (a + 1) (b + 1) n (λ k p. let e : a + 1 + k ≡ a + suc k = omega arith in let e' : b + 1 + k ≡ b + suc k = omega arith in rw (e, e') (h (suc k) (omega arith))) in
     ap₂ (λ x y. x ++ y) first others
 
--- the first n pixels of a line from its pixel m on
+-- the first n pixels of a line, starting at its pixel m
 colours_in : (o : Order) (line : List ℕ) (m size n : ℕ) → 3 * n ≤ size → coloured o Colour (chunk (3 * m) size line) n ≡ flat_map (laid_pixel o Colour line) (range_with_len m n)
 colours_in o line m size n le =
     let part = chunk (3 * m) size line in
@@ -43,21 +43,21 @@ greys_in o line m size n le =
     let grey : get_or part k 0 ≡ get_or line (m + k) 0 = get_or-chunk m size line k 0 (omega (arith, lt, le)) in
     ap (laid_pixel o Grey part) none ∙ (λ t. laid o (grey t) (grey t) (grey t)))
 
--- more than the first of two lists
+-- a prefix that is longer than the first of two lists
 take_past : (xs ys : List ℕ) (n l : ℕ) → n ≡ length xs + l → take n (xs ++ ys) ≡ xs ++ take l ys
 take_past [] ys n l e = let f : n ≡ l = omega (arith, e) in ap (λ k. take k ys) f
 take_past (x ∷ xs) ys n l e =
     let f : n ≡ suc (length xs + l) = omega (arith, e) in
     rw f (ap (λ z. x ∷ z) (take_past xs ys (length xs + l) l refl))
 
--- the first l of the bytes that are stored from byte i on
+-- the first l of the bytes that are stored starting at byte i
 stored : (i l n : ℕ) (out v : List ℕ) → n ≡ i + l → l ≤ length v → i + length v ≤ length out → take n (put_chunk i out v) ≡ take i out ++ take l v
 stored i l n out v e few room =
     let whole : take (i + length v) (put_chunk i out v) ≡ take i out ++ v = take_more_put_chunk i out v (i + length v) refl room in
     let long : length (take i out) ≡ i = length-take-le i out (omega (arith, room)) in
     sym (take-take n (i + length v) (put_chunk i out v) (omega (arith, e, few))) ∙ ap (take n) whole ∙ take_past (take i out) v n l (omega (arith, e, long))
 
--- n pixels behind m of them
+-- n pixels after m of them
 pixels_more : (f : ℕ → List ℕ) (m n i l k : ℕ) (out v : List ℕ) → k ≡ i + l → l ≤ length v → i + length v ≤ length out → take i out ≡ flat_map f (range_with_len 0 m) → take l v ≡ flat_map f (range_with_len m n)
     → take k (put_chunk i out v) ≡ flat_map f (range_with_len 0 (m + n))
 pixels_more f m n i l k out v e few room before new =
@@ -97,7 +97,7 @@ sixteens_more o line out v n long room is before =
     pixels_more (laid_pixel o Grey line) (16 * n) 16 (64 * n) 64 (4 * (16 * (n + 1))) out v (omega arith) (omega (arith, long)) (omega (arith, long, room)) (ap (λ (i : ℕ). take i out) to ∙ before) new
     ∙ ap (coloured o Grey line) next
 
--- red, green and blue stand as they are
+-- red, green and blue are unchanged
 pub in_order : (line : List ℕ) (n : ℕ) → length line ≡ 3 * n → coloured Rgb Colour line n ≡ line
 in_order [] zero e = refl
 in_order [] (suc n) e = absurd (omega (arith, e))

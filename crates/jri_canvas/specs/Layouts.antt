@@ -30,7 +30,7 @@ layout_number (Coloured Bgr) = 2
 layout_number (Coloured Rgbx) = 3
 layout_number (Coloured Bgrx) = 4
 
--- a pixel of so much red, green and blue
+-- a pixel of this red, green and blue
 abbrev pub laid : Order → (red green blue : ℕ) → List ℕ
 laid Rgb r g b = r ∷ g ∷ b ∷ []
 laid Bgr r g b = b ∷ g ∷ r ∷ []

@@ -48,7 +48,7 @@ pub wrote : {T : Type 0} (known : T → Option (List ℕ)) (old : Tally T) (firs
 wrote known old first scan s new n w v e f g h =
     subst (λ (t : ScanValue). Wrote known old first t new w) e (subst (λ (o : Tally _). Wrote known old first s o w) (sym f) (subst (Wrote known old first s n) (sym g) h))
 
--- what holds of the file if something else does
+-- what holds for the file if something else does
 pub of_file : (left : Option (List ℕ)) (P Q : List ℕ → Type 0) → ((file : List ℕ) → P file → Q file) → OfFile left P → OfFile left Q
 of_file None P Q f holds = tt
 of_file (Some bytes) P Q f holds = f (take (MAX_FILE_BYTES + 1) bytes) holds
@@ -78,7 +78,7 @@ of_writing f (inr e) = subst IsOfWriting (sym e) tt
 pub err_of_writing : {T : Type 0} (r : Result T Fault) (f : Fault) → IfErr r (λ x. (x ≡ fault.Memory) ⊎ (x ≡ fault.Write)) → r ≡ Err f → IsOfWriting f
 err_of_writing r f is e = of_writing f (subst (λ (q : Result _ Fault). IfErr q (λ x. (x ≡ fault.Memory) ⊎ (x ≡ fault.Write))) e is)
 
--- what a write leaves of its output by this result
+-- the output after a write with this result
 abbrev pub Left : {T : Type 0} → Tally T → Tally T → Result Counts PictureError → Type 0
 Left old new w = (w ≡ Err Wanting → new ≡ old) × OnOk w (has_failed new ≡ false) × (w ≡ Err Stopped → has_failed new ≡ true)
 

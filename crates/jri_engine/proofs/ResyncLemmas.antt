@@ -84,7 +84,7 @@ module _ (left : Option (List ℕ)) (bytes : List ℕ) (read : OfFile left (λ f
 pub not_unread : {T : Type 0} (file : List ℕ) (r : Result T Fault) → IfErr r (IsResyncFaultOf file) → r ≡ Err fault.Read → ⊥
 not_unread file r is e = subst (λ (q : Result _ Fault). IfErr q (IsResyncFaultOf file)) e is
 
--- if memory is all that can be refused
+-- if allocation is all that can fail
 pub of_memory : {T : Type 0} (file : List ℕ) (r : Result T Fault) → IfErr r (λ f. f ≡ fault.Memory) → IfErr r (IsResyncFaultOf file)
 of_memory file (Ok x) is = tt
 of_memory file (Err f) is = subst (IsResyncFaultOf file) (sym is) tt

@@ -21,7 +21,7 @@ pub record Resyncs (file new : List ℕ) (breaks : List Break) : Type 0 where
   pub is_head : HeadOf file head
   pub is : Becomes file head new breaks ended
 
--- a picture of the resynchronised file was appended; the report is of its marks, and the breaks are the damaged file's
+-- an image of the resynchronised file was appended; the report is of its marks, and the breaks are the damaged file's
 pub record PaintsResynced (file : List ℕ) (first : Option ℕ) (report : ResyncReport) (old new : Option (List ℕ)) : Type 0 where
   pub resynced : List ℕ
   pub is : Resyncs file resynced report.breaks.items

@@ -1,4 +1,4 @@
-//! What the program does with its words.
+//! What the program does with its arguments.
 
 ghost use Rattle.std.specs.Prelude.{◌≡◌, ◌≤◌, IfOk, false, is_ok, map};
 ghost use Rattle.std.specs.String.{string_bytes};
@@ -28,7 +28,7 @@ use std::thread::Threads;
 pub(crate) struct Decoding {
     /// The number of workers, 1 to 64.
     pub(crate) workers: u32,
-    /// The number of intervals that are decoded, from the first on; all if it is `None`.
+    /// The number of intervals that are decoded, starting at the first one; all if it is `None`.
     pub(crate) first: Option<u32>,
     /// Whether the file is read past restart markers that are out of step.
     pub(crate) is_resync: bool,

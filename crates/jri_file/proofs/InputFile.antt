@@ -24,7 +24,7 @@ read_first None behind first p = tt
 read_first (Some xs) None first p = absurd p
 read_first (Some xs) (Some ys) first p = p
 
--- the front of a list that is as long as is asked for, or all of it
+-- the first n elements of a list, if it is not shorter, or all of it
 front_of : (n : ℕ) (file rest : List ℕ) → length file ≤ n → (length file < n → rest ≡ []) → take n (file ++ rest) ≡ file
 front_of n file rest few end = elim (cases_lt (length file) n) [
   | inl less ↦ ap (λ (r : List ℕ). take n (file ++ r)) (end less) ∙ ap (take n) (append-nil file) ∙ take_all n file few
@@ -38,7 +38,7 @@ of_file P (Some xs) None file p few end holds = absurd p
 of_file P (Some xs) (Some ys) file p few end holds =
     subst P (sym (ap (take (MAX_FILE_BYTES + 1)) p ∙ front_of (MAX_FILE_BYTES + 1) file ys few end)) holds
 
--- what holds of the input's file as its first bytes are read
+-- what holds for the input's file as its first bytes are read
 pub of_input : (P : List ℕ → Type 0) (left then : Option (List ℕ)) (first : List ℕ) → Consumes left then first → OfFile (prepend_known first then) P → OfFile left P
 of_input P None then first p holds = tt
 of_input P (Some xs) None first p holds = absurd p
@@ -67,18 +67,18 @@ begins_with (Some xs) (Some ys) front h p is =
     let count : MAX_FILE_BYTES + 1 ≡ length front + over = omega (arith, is.small) in
     record { front = front; rest = take over ys; begins = ap (λ (l : List ℕ). take (MAX_FILE_BYTES + 1) l) p ∙ ap (λ n. take n (front ++ ys)) count ∙ take-append-add front ys over; is = is }
 
--- the first bytes, and those that a reader gave
+-- the first bytes, and those that a reader returned
 pub first_and : (then behind : Option (List ℕ)) (first given : List ℕ) → Consumes then behind given → Consumes (prepend_known first then) behind (first ++ given)
 first_and None behind first given p = tt
 first_and (Some ys) None first given p = absurd p
 first_and (Some ys) (Some zs) first given p = ap (λ (l : List ℕ). first ++ l) p ∙ sym (append_assoc first given zs)
 
--- what holds of an error
+-- what holds for an error
 pub if_err : {T E : Type 0} {P Q : E → Type 0} → (r : Result T E) → ((e : E) → P e → Q e) → IfErr r P → IfErr r Q
 if_err (Ok x) f p = tt
 if_err (Err e) f p = f e p
 
--- what holds of an answer that is there
+-- what holds for a result that is not an error
 pub if_ok : {T E : Type 0} {P Q : T → Type 0} → (r : Result T E) → ((x : T) → P x → Q x) → IfOk r P → IfOk r Q
 if_ok (Ok x) f p = f x p
 if_ok (Err e) f p = tt

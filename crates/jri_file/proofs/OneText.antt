@@ -1,4 +1,4 @@
--- A file's text is one.
+-- A file has one text.
 use Rattle.std.proofs.Common.{◌≡◌, ℕ, ◌-◌, ◌⊎◌, inl, inr, List, [], ◌++◌, length, drop, replicate, Option, sym, ap, subst, ◌∙◌}
 use Rattle.jr_head.specs.HeadValue.{HeadValue}
 use Rattle.jr_head.specs.Heads.{HeadOf, HasOneHead, HasOneFault}

@@ -1,4 +1,4 @@
--- What a file's scan and its picture are, and what becomes of a file that has none.
+-- A file's scan and its image, and the fault of a file that has none.
 use Rattle.std.specs.Prelude.{◌≡◌, ℕ, ◌+◌, List, ◌++◌, length, take, Option}
 use Rattle.std.specs.Option.{IfSome}
 use Rattle.jr_segments.specs.declared.refusal.Refusal.{Refusal}
@@ -13,7 +13,7 @@ use Rattle.jr_picture.specs.Headline.{IsPicture, AreFirst, ShowsFirst, least}
 use Rattle.jr_picture.specs.declared.report.Fault.{Fault}
 use Rattle.jr_picture.specs.declared.report.Fault.TheVariants as fault
 
--- the head is the file's, within its limits, and the intervals are those that its scan is cut into
+-- the header is the file's, within its limits, and the intervals are those that its scan is cut into
 pub record IsScanOfFile (file : List ℕ) (scan : ScanValue) : Type 0 where
   pub head : HeadOf file scan.head
   pub lawful : IsLawful scan.head
@@ -26,7 +26,7 @@ pub record BeginsWithHead (file : List ℕ) (head : HeadValue) : Type 0 where
   pub begins : file ≡ front ++ rest
   pub is : HeadOf front head
 
--- a refused file, by its refusal; for want of memory nothing is said of the file
+-- a refused file, by its refusal; if memory ran out nothing is said about the file
 abbrev pub fault_by : Refusal → Fault
 fault_by refusal.NotJpeg = fault.Refused refusal.NotJpeg
 fault_by refusal.EndsEarly = fault.Refused refusal.EndsEarly
@@ -64,20 +64,20 @@ IsUnread fault.Memory = Unit {0}
 IsUnread fault.Write = ⊥
 IsUnread fault.NoFile = ⊥
 
--- a picture of the file's scan, of which the first intervals, or all, are marked
+-- an image of the file's scan, of which the first intervals, or all, are marked
 pub record IsPictureOf (file : List ℕ) (first : Option ℕ) (scan : ScanValue) (marks : List Mark) (f : ℕ → ℕ → ℕ → ℕ) : Type 0 where
   pub is_scan : IsScanOfFile file scan
   pub picture : IsPicture scan marks f
   pub decoded : AreFirst (least first (length scan.intervals)) marks
 
--- the file has such a picture
+-- the file has such an image
 pub record HasPictureOf (file : List ℕ) (first : Option ℕ) : Type 0 where
   pub scan : ScanValue
   pub marks : List Mark
   pub samples : ℕ → ℕ → ℕ → ℕ
   pub is : IsPictureOf file first scan marks samples
 
--- the scan has a picture of which the first n intervals are marked, and no other
+-- the scan has an image of which the first n intervals are marked, and no other
 pub record HasPicture (scan : ScanValue) (n : ℕ) : Type 0 where
   pub marks : List Mark
   pub samples : ℕ → ℕ → ℕ → ℕ

@@ -4,7 +4,7 @@ use Rattle.std.specs.Io.KnownBytes.{Consumes, IsAtEnd}
 use Rattle.jr_base.specs.declared.limits.TheConstants.{MAX_FILE_BYTES}
 use Rattle.jr_scan.specs.PartialScan.{PartialScanValue, HasCome}
 
--- a scan of which `before` bytes had arrived is cut on by those that a reader gave: all of a file have arrived, or one more than it may have
+-- a scan of which `before` bytes had arrived is cut further by those that a reader returned: all of a file are there, or one more than it may have
 pub record CutsOn (old new : PartialScanValue) (left_before left_behind : Option (List ℕ)) (before all : ℕ) : Type 0 where
   pub given : List ℕ
   pub read : Consumes left_before left_behind given

@@ -17,10 +17,10 @@ use std::io::Read;
 /// One byte more than a file may have.
 pub(crate) const TOO_MANY: usize = MAX_FILE_BYTES + 1;
 
-/// Number of bytes that are asked of the input at once.
+/// Number of bytes that are requested of the input at once.
 pub(crate) const PART: usize = 65_536;
 
-/// The most bytes that the first reads take: `PART` of them are enough.
+/// Maximum number of bytes of the first reads: `PART` of them are enough.
 pub(crate) const MAX_FIRST: usize = 2 * PART;
 
 /// Reads some bytes of the input. Returns their number, 0 at its end.
@@ -39,7 +39,7 @@ fn read_part<R: Read>(input: &mut Tally<R>, part: &mut [u8]) -> Result<usize, Fa
 }
 
 /// Appends more of the input to the bytes, to its end or until there are `enough`, and never more than `limit`. Any error ends it,
-/// an interrupted call too.
+/// also an interrupted call.
 ///
 /// A read has space for `PART` bytes while the bytes are as far from `limit`: a pipe of packets drops what has no space.
 pub(crate) fn read_more<R: Read>(

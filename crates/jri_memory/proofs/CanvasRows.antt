@@ -1,4 +1,4 @@
--- The lines of a picture, one by one.
+-- The lines of an image, one by one.
 use Rattle.std.proofs.Common.{◌≡◌, ℕ, zero, suc, ◌+◌, ◌-◌, ◌*◌, ◌<◌, ◌≤◌, List, ◌++◌, length, take, drop, refl, sym, ap, ◌∙◌, arith, append-nil}
 use Rattle.std.specs.List.{flat_map, range_with_len}
 use Rattle.std.proofs.lemmas.List.{take_at, drop_at, length-append}
@@ -34,7 +34,7 @@ module _ (h : HeadValue) (f : ℕ → ℕ → ℕ → ℕ) where
   unfolding pixels_of
   line_long y = pieces_long (pixel_of h f y) (pixel_size h.kind) (pixel_long y) 0 h.width
 
--- line k of n lines from line y on
+-- line k of n lines starting at line y
 module _ (g : ℕ → List ℕ) (size : ℕ) (long : (x : ℕ) → length (g x) ≡ size) where
   one_piece : (a n : ℕ) → flat_map g (range_with_len a (1 + n)) ≡ g a ++ flat_map g (range_with_len (a + 1) n)
   one_piece a n = flat_map-range-append g a 1 n ∙ ap (λ z. z ++ flat_map g (range_with_len (a + 1) n)) (append-nil (g a))
@@ -49,7 +49,7 @@ module _ (g : ℕ → List ℕ) (size : ℕ) (long : (x : ℕ) → length (g x) 
       let before : length front ≡ k * size = pieces_long g size long y k ∙ omega arith in
       ap (λ z. take size (drop (k * size) z)) parts ∙ ap (λ z. take size z) (drop_at front (g (y + k) ++ rest) (k * size) before) ∙ take_at (g (y + k)) rest size (long (y + k))
 
--- a line of the row of MCUs is that of the picture
+-- a line of the row of MCUs is that of the image
 pub line_painted : (b : BoardValue) (h : HeadValue) → b.scan.head ≡ h → IsLawful h → (groups : List (List ℕ)) (r : ℕ) → ShowsMcus b (r * mcus_across h) (units_in h groups)
     → (k : ℕ) → r * (8 * vertical_max h) ≤ k → k < r * (8 * vertical_max h) + 8 * vertical_max h → k < h.height → line_of h (samples_in (record { head = h; groups = groups })) k ≡ line_of h (samples_of b) k
 line_painted b h is lawful groups r shows k from to inside =

@@ -1,4 +1,4 @@
--- What a header says, and what a refusal tells, of the bytes so far of a file is said of each file that they can become.
+-- A header, or a refusal, of the bytes so far of a file is that of each file that they can become.
 use Rattle.std.specs.Prelude.{◌≡◌, ℕ, List}
 use Rattle.jr_segments.specs.declared.refusal.Refusal.{Refusal}
 use Rattle.jr_head.specs.Heads.{RefusalOf}

@@ -27,7 +27,7 @@ damages_begin file s first list = record {
   all = λ i from before. absurd (omega (arith, from, before));
 }
 
--- an interval that has a decoding is passed over
+-- an interval that has a decoding is skipped
 pub damages_none : (file : List ℕ) (s : ScanValue) (first i count : ℕ) (list : List Damage) → HasDecoding (interval_of s i) → AreDamages file s first i count list
     → AreDamages file s first (i + 1) count list
 damages_none file s first i count list sound a = record {
@@ -87,7 +87,7 @@ module _ (file : List ℕ) (s : ScanValue) (span : CodedSpan) (first i count : �
     ];
   }
 
--- what stands behind a place stays where it stands behind one before
+-- two lists that are equal after an index are equal after each later one
 pub drop_on : (old now new : List Damage) (a b : ℕ) → a ≤ b → drop a now ≡ drop a old → drop b new ≡ drop b now → drop b new ≡ drop b old
 drop_on old now new a b le before same =
     let e : a + (b - a) ≡ b = omega (arith, le) in
@@ -95,7 +95,7 @@ drop_on old now new a b le before same =
 
 -- ---- positions
 
--- the scan of a file with this head
+-- the scan of a file with this header
 pub record FileScan (file : List ℕ) (h : HeadValue) : Type 0 where
   pub scan : ScanValue
   pub head : scan.head ≡ h
@@ -112,7 +112,7 @@ file_scan file h some small head =
     let at : h.scan_at ≡ max 0 h.scan_at = omega arith in
     record { scan = s; head = refl; is = is; count = count_is file s is.cut; top = inl (subst (BeginsAt file s 0) at begins) }
 
--- where a list starts
+-- the start of a list
 pub record StartsAt (file : List ℕ) (s : ScanValue) (first first_at start at : ℕ) : Type 0 where
   pub start_is : start ≡ min first (length s.intervals)
   pub at_is : at ≡ max first_at s.head.scan_at
@@ -138,7 +138,7 @@ starts_at file s first first_at start at count e there (inr h) =
       });
     }
 
--- where it stops
+-- the end of a list
 pub stops_at : (file : List ℕ) (s : ScanValue) (first first_at start at next stop : ℕ) → StartsAt file s first first_at start at → at ≤ stop → IsNextAt file s next stop → IsPositionOf file s next stop
 stops_at file s first first_at start at next stop from le begins =
     let same : stop ≡ max stop s.head.scan_at = omega (arith, le, from.at_is) in

@@ -22,7 +22,7 @@ put_none s m bytes a b = record {
   put = λ some i lt. absurd (omega (arith, lt));
 }
 
--- what holds of each of n marks, and of one more behind them, holds of each of these
+-- a predicate that holds for each of n marks, and for one more after them, holds for each of these
 each_more : (n : ℕ) (ms : List Mark) (m : Mark) (P : ℕ → Mark → Type 0) → length ms ≡ n → ((i : ℕ) → i < n → P i (mark_in ms i)) → P n m → (i : ℕ) → i < n + 1 → P i (mark_in (ms ++ m ∷ []) i)
 each_more n ms m P long each last i lt = elim (cases_lt i n) [
   | inl h ↦ let at : get_or (ms ++ m ∷ []) i Blank ≡ get_or ms i Blank = get_or-append ms (m ∷ []) Blank i (omega (arith, h, long)) in subst (P i) (sym at) (each i h)

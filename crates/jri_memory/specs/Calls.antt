@@ -1,4 +1,4 @@
--- What the calls give that decode a file in memory.
+-- What the calls that decode a file in memory return.
 use Rattle.std.specs.Prelude.{◌≡◌, ◌≢◌, ℕ, ◌+◌, ◌*◌, ◌<◌, ◌≤◌, ◌⊎◌, List, ◌++◌, length, drop, map, None}
 use Rattle.jr_segments.specs.declared.refusal.Refusal.{Refusal}
 use Rattle.jr_segments.specs.declared.refusal.Refusal.TheVariants as refusal
@@ -54,11 +54,11 @@ pub record TellsFault (file : List ℕ) (number detail : ℕ) : Type 0 where
   pub number_is : number ≡ number_of fault
   pub detail_is : detail ≡ detail_of fault
 
--- how many bytes the pixels of a picture have
+-- the number of bytes of the pixels of an image
 abbrev pub picture_size : HeadValue → ℕ
 picture_size h = h.height * line_size h
 
--- what the file's header says of its picture
+-- what the file's header says about its image
 pub record IsHeaderOf (file : List ℕ) (m : Header) : Type 0 where
   pub head : HeadValue
   pub is : HeadOf file head
@@ -96,7 +96,7 @@ pub record TellsNoRefusal (r : DecodeReport) : Type 0 where
   pub number : r.refusal ≡ 0
   pub detail : r.detail ≡ 0
 
--- a report of no picture: 0 for all but the refusal's two numbers
+-- a report of no image: 0 for all but the refusal's two numbers
 pub record TellsNoPicture (r : DecodeReport) : Type 0 where
   pub intervals : r.intervals ≡ 0
   pub sound : r.sound ≡ 0
@@ -134,12 +134,12 @@ pub record LacksRoom (file : List ℕ) (pixels marks : ℕ) : Type 0 where
   pub is : HeadOf file head
   pub less : (pixels < picture_size head) ⊎ ((0 < marks) × (marks < intervals_of head))
 
--- the picture of this head has `count` lines from this one on, and that is some
+-- the image with this header has `count` lines starting at this one, and that is more than 0
 pub record HasTheseLines (h : HeadValue) (first count : ℕ) : Type 0 where
   pub some : 0 < count
   pub inside : first + count ≤ h.height
 
--- the file's picture has not those lines
+-- the file's image does not have those lines
 pub record LacksLines (file : List ℕ) (first count : ℕ) : Type 0 where
   pub head : HeadValue
   pub is : HeadOf file head
@@ -151,7 +151,7 @@ pub record LacksRoomForLines (file : List ℕ) (count pixels : ℕ) : Type 0 whe
   pub is : HeadOf file head
   pub less : pixels < count * line_size head
 
--- the pixels are lines of the file's picture, `count` of them from this one on; the report counts the intervals that end in
+-- the pixels are lines of the file's image, `count` of them starting at this one; the report counts the intervals that end in
 -- their rows of MCUs
 pub record DecodesLines (file : List ℕ) (first count : ℕ) (old_pixels pixels : List ℕ) (r : DecodeReport) : Type 0 where
   pub scan : ScanValue

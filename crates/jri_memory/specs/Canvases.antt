@@ -1,4 +1,4 @@
--- Lines and pictures on a canvas.
+-- Lines and images on a canvas.
 use Rattle.std.specs.Prelude.{◌≡◌, ◌≢◌, ℕ, ◌*◌, ◌<◌, ◌≤◌, ◌⊎◌, List, length, map, None}
 use Rattle.jr_head.specs.HeadValue.{HeadValue}
 use Rattle.jr_head.specs.Heads.{HeadOf}
@@ -91,7 +91,7 @@ pub record LacksCanvas (file : List ℕ) (stride layout room marks : ℕ) : Type
   pub is : HeadOf file head
   pub less : LacksPlaces head.width (components_of head) stride layout head.height room ⊎ ((0 < marks) × (marks < intervals_of head))
 
--- the lines of the file's picture have no such layout at that stride
+-- the lines of the file's image have no such layout at that stride
 pub record LacksLayoutOf (file : List ℕ) (stride layout : ℕ) : Type 0 where
   pub head : HeadValue
   pub is : HeadOf file head

@@ -32,7 +32,7 @@ no_damage = record { interval = 0; first_mcu = 0; mcus = 0; decodable = 0; first
 abbrev pub damage_at : List Damage → ℕ → Damage
 damage_at damages k = slice_index_or damages k no_damage
 
--- an entry of the list: a damaged interval from `first` on and before `next`, with the bytes of its segment
+-- an entry of the list: a damaged interval starting at number `first` and before `next`, with the bytes of its segment
 pub record IsListedAt (file : List ℕ) (s : ScanValue) (first next : ℕ) (d : Damage) : Type 0 where
   pub interval : DamagedInterval
   pub span : CodedSpan
@@ -46,7 +46,7 @@ pub record IsListedAt (file : List ℕ) (s : ScanValue) (first next : ℕ) (d : 
 abbrev pub IsAt : List Damage → (count i : ℕ) → Type 0
 IsAt damages count i = (k : ℕ) × (k < count) × ((damage_at damages k).interval ≡ i)
 
--- the first of a list are the damaged intervals from `first` on and before `next`, in their order
+-- the first of a list are the damaged intervals starting at number `first` and before `next`, in their order
 pub record AreDamages (file : List ℕ) (s : ScanValue) (first next count : ℕ) (damages : List Damage) : Type 0 where
   pub start : first ≤ next
   pub each : (k : ℕ) → k < count → IsListedAt file s first next (damage_at damages k)

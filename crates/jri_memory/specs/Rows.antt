@@ -56,7 +56,7 @@ pub record TellsPartialFault (bytes : List ℕ) (all : Bool) (r : RowsReport) : 
   pub number_is : r.refusal ≡ number_of fault
   pub detail_is : r.detail ≡ detail_of fault
 
--- the picture of this head has a row of MCUs at the place, and some are asked for
+-- the image with this header has a row of MCUs at the position, and some are requested
 pub record HasRowAt (h : HeadValue) (p : RowPlace) (rows : ℕ) : Type 0 where
   pub stands : IsPlaceOf h p
   pub row : p.row < mcus_down h
@@ -87,7 +87,7 @@ pub record AwaitsHead (header : List ℕ) (x : FilePart) (old new : RowPlace) (r
   pub place : new ≡ old
   pub told : TellsNothing r
 
--- rows are decoded, as many as were asked for and fit into the pixels: their lines are those of the image of each file that may have
+-- rows are decoded, those requested that fit into the pixels: their lines are those of the image of each file that may have
 -- this part and of which the position was one; what follows their lines is unchanged
 pub record DecodesRows (header : List ℕ) (x : FilePart) (rows : ℕ) (old new : RowPlace) (old_pixels pixels : List ℕ) (r : RowsReport) : Type 0 where
   pub h : HeadValue
@@ -101,7 +101,7 @@ pub record DecodesRows (header : List ℕ) (x : FilePart) (rows : ℕ) (old new 
 abbrev pub GivesRows : (header : List ℕ) → FilePart → (rows : ℕ) (old new : RowPlace) (old_pixels pixels : List ℕ) → RowsReport → Type 0
 GivesRows header x rows old new old_pixels pixels r = (AwaitsHead header x old new r × (pixels ≡ old_pixels)) ⊎ DecodesRows header x rows old new old_pixels pixels r
 
--- rows are skipped, as many as were asked for
+-- the requested rows are skipped
 pub record PassesRows (header : List ℕ) (x : FilePart) (rows : ℕ) (old new : RowPlace) (r : RowsReport) : Type 0 where
   pub h : HeadValue
   pub there : HasRowAt h old rows
@@ -110,7 +110,7 @@ pub record PassesRows (header : List ℕ) (x : FilePart) (rows : ℕ) (old new :
 abbrev pub SkipsRows : (header : List ℕ) → FilePart → (rows : ℕ) (old new : RowPlace) → RowsReport → Type 0
 SkipsRows header x rows old new r = AwaitsHead header x old new r ⊎ PassesRows header x rows old new r
 
--- the bytes' picture has no row of MCUs at the place, or none is asked for
+-- the bytes' image has no row of MCUs at the position, or none is requested
 pub record LacksRows (bytes : List ℕ) (p : RowPlace) (rows : ℕ) : Type 0 where
   pub h : HeadValue
   pub is : HeadOf bytes h
@@ -128,7 +128,7 @@ pub record IsInPart (x : FilePart) (h : HeadValue) (p : RowPlace) : Type 0 where
   pub from : x.from ≤ offset_in h p
   pub to : offset_in h p ≤ x.from + length x.bytes
 
--- the image of this header has a row of MCUs at the position, which is at such a byte
+-- the image with this header has a row of MCUs at the position, which is at such a byte
 pub record LiesInside (header : List ℕ) (x : FilePart) (p : RowPlace) (rows : ℕ) : Type 0 where
   pub h : HeadValue
   pub is : HeadOf header h
@@ -142,7 +142,7 @@ pub record LiesOutside (header : List ℕ) (x : FilePart) (p : RowPlace) (rows :
   pub there : HasRowAt h p rows
   pub out : IsInPart x h p → ⊥
 
--- why a place is not moved
+-- why a position is not moved
 abbrev pub IsWhy : (header : List ℕ) → FilePart → (p : RowPlace) (rows room : ℕ) → PlaceError → Type 0
 IsWhy header x p rows room (Refused fault) = fault ≢ Memory → IsPartialFault header x.are_all fault
 IsWhy header x p rows room NoRows = LacksRows header p rows

@@ -1,4 +1,4 @@
-//! The answer and the report of a decoding.
+//! The status and the report of a decoding.
 
 ghost use Rattle.std.specs.Prelude.{◌≡◌, ◌≢◌, ◌<◌, ◌≤◌};
 ghost use Rattle.jr_segments.specs.declared.refusal.Refusal.TheVariants.{Memory};

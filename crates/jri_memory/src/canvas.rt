@@ -30,7 +30,7 @@ use jr_scan::Scan;
 use jri_canvas::{CanvasLines, Pixels, have_places, lay_lines};
 use std::alloc::Global;
 
-/// How lines lie on a canvas.
+/// The layout of lines on a canvas.
 #[derive(Clone, Copy)]
 pub struct CanvasShape {
     /// The distance between the starts of two lines in bytes.
@@ -111,7 +111,7 @@ fn lay_rows(
     ensures puts { PutsBetween scan.now 0 (mcus_down scan.now.head) marks.old marks.new }
 {
     let head = scan.head();
-    // By their contracts a picture has an MCU, and a scan as many intervals as its head says.
+    // By their contracts an image has an MCU, and a scan the number of intervals that its header says.
     let _some = (head.mcus(), scan.intervals());
     let down = shape_of(head).down;
     let part = FirstIntervals::of(scan, None);
@@ -146,7 +146,7 @@ fn lay_scan(
 {
     let mut work = SampleRow::open(alloc, scan.head())?;
     let mut lines = vec![in alloc; 0; bytes_of_row(scan.head())]?;
-    // By its contract a picture has an MCU.
+    // By its contract an image has an MCU.
     let _some = scan.head().mcus();
     let all = scan.intervals();
     let marked = lay_rows(scan, &mut work, &mut lines, form, canvas, marks);
@@ -158,7 +158,7 @@ fn pixels_in(head: &Head) -> Pixels
     ensures components { sample_count result ≡ components_of head.now }
     ensures line { sample_count result * head.now.width ≡ paint.line_size head.now }
 {
-    // By its contract a head has as many components as its kind says.
+    // By its contract a header has the number of components that its kind says.
     let _components = head.components();
     match head.kind() {
         Kind::Grey => Pixels::Grey,

@@ -27,7 +27,7 @@ use std::alloc::Global;
 pub struct Damage {
     /// Its number in the scan, from 0.
     pub interval: u32,
-    /// The first of its MCUs, by its number in the scan, and how many it has.
+    /// The first of its MCUs, by its number in the scan, and the number of its MCUs.
     pub first_mcu: u32,
     pub mcus: u32,
     /// Number of its first MCUs that can be decoded.

@@ -11,7 +11,7 @@ use crate::report::detail;
 use crate::room::bytes_of_picture;
 use jr_head::{Head, Kind, Refusal};
 
-/// A file's header in numbers, or a refusal's two numbers; all else is 0.
+/// A file's header in numbers, or a refusal's two numbers; the rest is 0.
 #[repr(C)]
 #[derive(Clone, Copy, PartialEq, Eq)]
 pub struct Header {
@@ -21,11 +21,11 @@ pub struct Header {
     pub height: u32,
     /// 0 for grey, 1 for RGB, 2 for YCbCr, which is decoded to RGB.
     pub kind: u32,
-    /// Number of components, 1 or 3; a pixel has as many bytes.
+    /// Number of components, 1 or 3, and of bytes of a pixel.
     pub components: u32,
-    /// Number of restart intervals of the scan; its marks have as many bytes.
+    /// Number of restart intervals of the scan, and of bytes of its marks.
     pub intervals: u32,
-    /// The number of the refusal, from 1 to 19; 0 where there is none.
+    /// The number of the refusal, from 1 to 19; 0 if there is none.
     pub refusal: u32,
     /// Size of the pixels in bytes.
     pub pixels: u64,

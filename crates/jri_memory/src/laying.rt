@@ -39,7 +39,7 @@ pub(crate) fn form_of(width: u32, pixels: Pixels, stride: usize, layout: u32) ->
     Some(form)
 }
 
-/// Returns how many whole lines `bytes` bytes are.
+/// Returns the number of whole lines that `bytes` bytes are.
 fn whole_lines(bytes: usize, line: usize) -> Option<usize>
     ensures whole { IfSome result (λ n. bytes ≡ n * line) }
     ensures few { IfSome result (λ n. n ≤ bytes) }

@@ -35,7 +35,7 @@ pub struct MendReport {
     pub damaged: u32,
     /// The number of the copy that is refused or has another header.
     pub copy: u32,
-    /// The number of the refusal, from 1 to 19; 0 where there is none.
+    /// The number of the refusal, from 1 to 19; 0 if there is none.
     pub refusal: u32,
     /// Size of the mended file in bytes.
     pub size: u64,

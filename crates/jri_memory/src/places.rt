@@ -13,7 +13,7 @@ use jr_arrival::{FileBytes, RowPlace, decode_rows, rows_with_room, skip_rows, st
 use jr_head::{Head, Refusal};
 use std::alloc::Global;
 
-/// Why a place is not moved.
+/// Why a position is not moved.
 #[derive(Clone, Copy)]
 pub(crate) enum PlaceError {
     /// The file is refused, or memory is.

@@ -27,7 +27,7 @@ pub struct DecodeReport {
     pub found: u32,
     /// The number of the restart marker that was due.
     pub due: u32,
-    /// The number of the refusal, from 1 to 19; 0 where there is none.
+    /// The number of the refusal, from 1 to 19; 0 if there is none.
     pub refusal: u32,
     /// The offset in the file of the marker that ended the scan, with 2, 3 and 4.
     pub at: u64,

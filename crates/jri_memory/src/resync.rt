@@ -25,7 +25,7 @@ pub struct ResyncReport {
     pub found: u32,
     /// Always 0, since a restart marker out of step ends no scan that is resynchronised.
     pub due: u32,
-    /// The number of the refusal, from 1 to 19; 0 where there is none.
+    /// The number of the refusal, from 1 to 19; 0 if there is none.
     pub refusal: u32,
     /// Size of the resynchronised file in bytes.
     pub size: u64,

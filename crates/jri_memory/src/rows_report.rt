@@ -20,7 +20,7 @@ pub struct RowsReport {
     pub lines: u32,
     /// The first of these lines of the image, from 0 at the top.
     pub first_line: u32,
-    /// The number of the refusal, from 1 to 19; 0 where there is none.
+    /// The number of the refusal, from 1 to 19; 0 if there is none.
     pub refusal: u32,
     /// The refusal's detail: the offset of a missing marker, or a marker's code.
     pub detail: u64,

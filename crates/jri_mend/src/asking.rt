@@ -45,7 +45,7 @@ Exit status:
 /// The error of too few or too many copies.
 const WRONG_COUNT: &str = "error: 2 to 64 copies are needed, or 1 with --resync\n";
 
-/// The name of a stream in place of a file.
+/// The name of a stream instead of a file.
 const STREAM: &str = "-";
 
 /// `-o FILE`.
@@ -98,7 +98,7 @@ fn command<'a>(alloc: Global) -> Result<Command<'a>, AllocError> {
         .arg(copies_word(alloc))
 }
 
-/// Returns what is answered to arguments that the command line refuses.
+/// Returns the answer to arguments that the command line refuses.
 fn refusal(alloc: Global, error: &Error) -> Unasked {
     if error.kind() == ErrorKind::OutOfMemory {
         return Unasked::Memory;

@@ -48,8 +48,8 @@ struct Lender {
     file: Vec<u8>,
 }
 
-/// Takes the first copy with an accepted header; its place has no bytes. The error is that of the first copy, unless
-/// memory ran out.
+/// Takes the first copy with an accepted header; an empty one stays in its position. The error is that of the first
+/// copy, unless memory ran out.
 fn take_lender(alloc: Global, files: &mut [Vec<u8>]) -> Result<Lender, (usize, CopyError)>
     ensures within { IfOk result (λ l. l.copy < length files.new) }
     ensures long { length files.new ≡ length files.old }

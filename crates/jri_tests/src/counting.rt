@@ -1,4 +1,4 @@
-//! How many workers there are, as a gate finds that counts those inside it.
+//! The number of workers, found by a gate that counts those inside it.
 
 ghost use Rattle.std.specs.Prelude.{◌≤◌};
 ghost use Rattle.jr_base.specs.declared.limits.TheConstants.{MAX_WORKERS};
@@ -14,10 +14,10 @@ use test_files::files::{TEN, file};
 use test_files::scans::scan;
 use test_files::waiting::has_come;
 
-/// How often a call looks whether one more worker comes than it waits for.
+/// The number of times that a call looks whether one more worker comes than it waits for.
 const MORE_TURNS: u32 = 10_000;
 
-/// Holds each call until that number are inside at once, and then a while longer.
+/// Holds each call until that number of calls are inside at once, and then a while longer.
 #[derive(Drop)]
 struct Crowd {
     number: u32,
@@ -40,7 +40,7 @@ impl Crowd {
         }
     }
 
-    /// Notes that this number are inside. There are at most 64 workers, and each turn that fails has seen a greater
+    /// Notes the number of calls inside. There are at most 64 workers, and each turn that fails has seen a greater
     /// number.
     fn note(&self, number: u32) {
         for _turn in 0..64u32 {
@@ -112,7 +112,7 @@ fn decodes_by<R: Threads + Wait + Sync + AllocGlobal>(rt: &R, workers: u32) -> R
     Ok(board.sound() == 10 && gate.is_exact())
 }
 
-/// As many workers come as `run` and `decode_all` are asked for.
+/// The number of workers is the one that is given to `run` and `decode_all`.
 #[test]
 fn counts_workers(rt: HostRuntime) -> Result<(), Fail> {
     for workers in [1, 2, 4] {

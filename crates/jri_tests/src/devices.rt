@@ -18,7 +18,7 @@ use std::test::Fail;
 use std::thread::Threads;
 use test_files::files::{file, front};
 
-/// Moves at most `most` bytes a call. The call of one number fails, and those after it continue.
+/// Moves at most `most` bytes a call. The call of that number fails, and those after it continue.
 #[derive(Drop)]
 struct Device<'a> {
     /// What is to be read.
@@ -192,7 +192,7 @@ fn tells_an_output_that_fails_at_one_call(rt: HostRuntime) -> Result<(), Fail> {
     Ok(())
 }
 
-/// More rows of MCUs than one write takes.
+/// More rows of MCUs than fit into one write.
 #[test]
 fn writes_large_pictures_by_larger_calls(rt: HostRuntime) -> Result<(), Fail> {
     for workers in [1, 3] {
@@ -202,7 +202,7 @@ fn writes_large_pictures_by_larger_calls(rt: HostRuntime) -> Result<(), Fail> {
     Ok(())
 }
 
-/// A picture of 33 rows of MCUs and 98 KB takes few writes: a write has the lines of many rows.
+/// An image of 33 rows of MCUs and 98 KB needs few writes: a write has the lines of many rows.
 #[test]
 fn writes_many_rows_by_a_call(rt: HostRuntime) -> Result<(), Fail> {
     let bytes = file(rt.alloc(), LARGE_COLOURED)?;

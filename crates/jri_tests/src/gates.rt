@@ -1,4 +1,4 @@
-//! A gate is told each interval that is decoded, once, by one worker in their order, and of each piece that is made.
+//! A gate is called for each interval that is decoded, once, by one worker in order, and for each piece that is made.
 
 use crate::decoding::outcome_of;
 use jr_crew::write_scan_by;
@@ -100,7 +100,7 @@ fn calls_of_run<R: Threads + Wait + Sync + AllocGlobal>(
     Ok(calls)
 }
 
-/// Files, how many first intervals are decoded, and how many of them pass.
+/// Files, the number of first intervals that are decoded, and the number of those that pass.
 const PASSING: [(&str, Option<u32>, u32); 11] = [
     (TEN, None, 10),
     (TEN, Some(0), 0),
@@ -125,8 +125,8 @@ fn tells_a_gate_each_of_the_first_intervals_once(rt: HostRuntime) -> Result<(), 
     Ok(())
 }
 
-/// Pictures of 1024 MCUs, one below the other, each an interval; of one more; and of 129 rows of eight. Two workers decode the small
-/// one into pieces; a larger one they do not, however narrow it is and whatever its head claims.
+/// Images of 1024 MCUs, one below the other, each an interval; of one more; and of 129 rows of eight. Two workers
+/// decode the small one into pieces; a larger one they do not, however narrow it is and whatever its header claims.
 const PIECES: [(&str, u32, u32); 3] = [
     ("S Q F:2000:0008 D A I C 63 E", 1024, 1024),
     ("S Q F:2008:0008 D A I C 63 E", 1025, 0),

@@ -120,7 +120,7 @@ fn mends(rt: HostRuntime) -> Result<(), Fail> {
     Ok(())
 }
 
-/// Lays a line of seven pixels out as blue, green, red and 255: a vector takes the first ones.
+/// Lays a line of seven pixels out as blue, green, red and 255: a vector stores the first ones.
 #[test]
 fn lays_out(rt: HostRuntime) {
     let line = [

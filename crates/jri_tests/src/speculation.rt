@@ -42,7 +42,7 @@ const LAST: [u8; 3] = [0x40, 0x14, 0x00];
 /// A first byte that no code begins.
 const NO_CODE: u8 = 0xE1;
 
-/// An MCU of the first interval, where one is damaged.
+/// The MCU of the first interval that is damaged, if one is.
 const DAMAGED: u32 = 700;
 
 /// Writes an MCU, 94 bytes.
@@ -168,8 +168,8 @@ fn run_by<R: Threads + Wait + Clock + Sync + AllocGlobal + Abort>(
     Ok((run, gate.shortest.load(Ordering::SeqCst)))
 }
 
-/// Runs often and compares each run with `alone`, until one has passed over an interval's rows in less than half of `read`, the
-/// time in which they are read. Returns whether one has.
+/// Runs often and compares each run with `alone`, until one has skipped an interval's rows in less than half of `read`,
+/// the time in which they are read. Returns whether one has.
 fn has_taken_over<R: Threads + Wait + Clock + Sync + AllocGlobal + Abort>(
     rt: &R,
     bytes: &[u8],
@@ -190,14 +190,14 @@ fn has_taken_over<R: Threads + Wait + Clock + Sync + AllocGlobal + Abort>(
     Ok(false)
 }
 
-/// How long a gate holds an interval.
+/// The time for which a gate holds an interval, in milliseconds.
 const MILLIS: u64 = 5;
 
 const MOST_RUNS: u32 = 40;
 
 /// With two workers each row is read in turn, so that the rows between two intervals take the time to read them. With more a
-/// held interval lets the others read ahead, and then the rows are passed over in a part of that time. Where no three threads run
-/// at a time nothing is asked of the time.
+/// held interval lets the others read ahead, and then the rows are skipped in a part of that time. If no three threads
+/// run at a time the test requires nothing of the time.
 #[test]
 fn rows_are_taken_over_from_speculative_reads(rt: HostRuntime) -> Result<(), Fail> {
     let processors = thread::available_parallelism(&rt).map_or(1, |count| count.get());
@@ -238,7 +238,7 @@ fn decoded_by<R: Threads + Wait + Clock + Sync + AllocGlobal + Abort>(
     Ok(out.into_inner())
 }
 
-/// How often each decoding is made: a wake-up that is lost is not lost each time.
+/// The number of times that each decoding is made: a wake-up that is lost is not lost each time.
 const TIMES: u32 = 10;
 
 #[test]

@@ -15,7 +15,7 @@ const LINES: [(&str, u32, Option<u32>, bool); 7] = [
     ("--first 7 --workers 3 --quiet --resync a", 3, Some(7), true),
 ];
 
-/// Returns the words of a line.
+/// Returns the arguments in a line.
 fn words_of(alloc: Global, line: &str) -> Result<Vec<String>, Fail> {
     let mut words = Vec::new(alloc);
     for word in line.split_whitespace() {

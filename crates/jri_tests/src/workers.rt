@@ -1,4 +1,4 @@
-//! Several workers at work on one picture, of whom one waits for another: at a gate, or at its first write.
+//! Several workers at work on one image, of which one waits for another: at a gate, or at its first write.
 
 ghost use Rattle.std.specs.Prelude.{◌≤◌};
 ghost use Rattle.jr_base.specs.declared.limits.TheConstants.{MAX_WORKERS};
@@ -84,7 +84,7 @@ fn meet<R: Threads + Wait + Sync + AllocGlobal>(
     Ok(outcome.is_ok() && gate.is_met(pieces))
 }
 
-/// 129 rows of eight MCUs, each an interval: more than a small picture has.
+/// 129 rows of eight MCUs, each an interval: more than a small image has.
 const ROWS: &str = "S Q F:0408:0040 D A I:0008 C 63 FF D0 63 E";
 
 #[test]
@@ -119,7 +119,7 @@ impl Gate for Reached {
 struct Held<'g> {
     gate: &'g Reached,
     awaited: u32,
-    /// How many had passed then.
+    /// The number of those that had passed then.
     seen: Option<u32>,
 }
 
@@ -140,7 +140,7 @@ impl<'g> Write for Held<'g> {
 /// 256 rows of 128 MCUs, of which an interval has one and a half.
 const LONG_ROWS: &str = "S Q F:0800:0400 D A I:00C0 C 63 FF D0 63 E";
 
-/// Returns how many intervals have passed when the first write ends, which waits for a number of them.
+/// Returns the number of intervals that have passed when the first write ends, which waits for a number of them.
 fn seen<R: Threads + Wait + Sync + AllocGlobal>(
     rt: &R,
     workers: u32,

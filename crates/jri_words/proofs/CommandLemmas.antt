@@ -1,4 +1,4 @@
--- The matches of the program's words.
+-- The matches of the program's arguments.
 use Rattle.std.proofs.Common.{◌≡◌, true, false, List, Result, IfOk, ap, refl, subst, ap₂, ◌∙◌}
 use Rattle.clap.specs.Words.{AddsArg, App, HasMatchesOf, Rule, Text, app_of, rule_of, with_rule, first_of, first_value, found_of, is_simple, matches_of, one_of, one_text, rows_of}
 use Rattle.clap.specs.declared.builder.arg.Arg.{Arg}
@@ -11,7 +11,7 @@ use Rattle.jri_words.specs.CommandLine.{jri, reading, option_value}
 pub adds : (old : Command) (a : Arg) (new : Command) (app : App) (rule : Rule) → AddsArg old a new → a.global ≡ false → app_of old ≡ app → rule_of a ≡ rule → app_of new ≡ with_rule app rule
 adds old a new app rule h local is_app is_rule = h.shape local ∙ ap₂ with_rule is_app is_rule
 
--- an argument is added where all before it are
+-- an argument is added if all before it are
 pub adds_word : {E : Type 0} (old new : Result Command E) (a : Arg) (app : App) (rule : Rule) → ((app : App) → a.global ≡ false → IfOk old (λ c. app_of c ≡ app) → IfOk new (λ c. app_of c ≡ with_rule app (rule_of a)))
     → a.global ≡ false → rule_of a ≡ rule → IfOk old (λ c. app_of c ≡ app) → IfOk new (λ c. app_of c ≡ with_rule app rule)
 adds_word old new a app rule h local is_rule is_app = subst (λ (r : Rule). IfOk new (λ c. app_of c ≡ with_rule app r)) is_rule (h app local is_app)

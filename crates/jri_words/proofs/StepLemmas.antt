@@ -1,4 +1,4 @@
--- Steps one after another, and what a run leaves.
+-- Steps one after another, and the files after a run.
 use Rattle.std.proofs.Common.{◌≡◌, ℕ, ◌+◌, length, length-append, Bool, true, false, inl, inr, List, [], ◌∷◌, ◌++◌, Option, Some, None, Result, Ok, Err, IfOk, IfErr, is_ok, append_assoc, append-nil, ap, sym, subst, refl, ◌∙◌, ◌==◌, if◌then◌else◌}
 use Rattle.std.proofs.lemmas.Bool.{true≢false}
 use Rattle.jr_picture.specs.declared.report.Report.{Report}
@@ -39,7 +39,7 @@ damage_tells : (b : Bool) → is_picture_status (if b then 0 else 3) ≡ true
 damage_tells true = refl
 damage_tells false = refl
 
--- the exit status tells whether a picture was written
+-- the exit status says whether an image was written
 pub status_tells : (r : Result Report Fault) (n : ℕ) → IfOk r (λ report. n ≡ report_status report false) → IfErr r (λ f. n ≡ fault_status f) → is_picture_status n ≡ is_ok r
 status_tells (Ok report) n p q = rw p (damage_tells (report.damaged == 0))
 status_tells (Err fault.Read) n p q = rw q refl
@@ -48,7 +48,7 @@ status_tells (Err fault.Memory) n p q = rw q refl
 status_tells (Err fault.Write) n p q = rw q refl
 status_tells (Err fault.NoFile) n p q = rw q refl
 
--- what a run leaves that opens no device
+-- the files after a run that opens no device
 pub without_devices : (are_devices : List ℕ → Type 0) (name : List ℕ) (a b : Option (List Step)) (is_written : Bool) → LeavesFile (λ _. ⊥) name a b is_written → LeavesFile are_devices name a b is_written
 without_devices are_devices name a b true (inl p) = absurd p.is
 without_devices are_devices name a b true (inr p) = inr p
@@ -56,7 +56,7 @@ without_devices are_devices name a b false (inl p) = inl p
 without_devices are_devices name a b false (inr (inl p)) = absurd p.is
 without_devices are_devices name a b false (inr (inr p)) = inr (inr p)
 
--- one more image
+-- one more image is made
 leaves_one_more : (es : List ImageEnd) (e : ImageEnd) (old mid new : Option (List Step)) → LeavesEach es old mid → LeavesFile (λ _. ⊥) e.name mid new (is_picture_status e.status) → LeavesEach (es ++ e ∷ []) old new
 leaves_one_more [] e old mid new p q = (new, subst (λ (o : Option (List Step)). LeavesFile (λ _. ⊥) e.name o new (is_picture_status e.status)) (sym p) q, refl)
 leaves_one_more (d ∷ ds) e old mid new p q = (p.0, p.1, leaves_one_more ds e p.0 mid new p.2 q)

@@ -29,7 +29,7 @@ abbrev pub LeavesFile : (are_devices : List ℕ → Type 0) → List ℕ → Opt
 LeavesFile are_devices name old new true = OpensDevice are_devices name old new ⊎ ((part : List ℕ) × Follow old new (Created part ∷ Renamed part name ∷ []))
 LeavesFile are_devices name old new false = Follow old new [] ⊎ OpensDevice are_devices name old new ⊎ ((part : List ℕ) × Follow old new (Created part ∷ Removed part ∷ []))
 
--- what it does with the place of an image: nothing with a file if that is standard output
+-- what it does with the target of an image: nothing with a file if that is standard output
 abbrev pub Leaves : (are_devices : List ℕ → Type 0) → Target → Option (List Step) → Option (List Step) → Bool → Type 0
 Leaves are_devices target.Output old new is_written = Follow old new []
 Leaves are_devices target.AnyOutput old new is_written = Follow old new []
@@ -39,7 +39,7 @@ Leaves are_devices (target.File name) old new is_written = LeavesFile are_device
 abbrev pub LeavesNamed : (are_devices : List ℕ → Type 0) → (is_named : Target → Type 0) → Option (List Step) → Option (List Step) → Bool → Type 0
 LeavesNamed are_devices is_named old new is_written = Follow old new [] ⊎ ((t : Target) × is_named t × Leaves are_devices t old new is_written)
 
--- the exit statuses of pictures that are written
+-- the exit statuses of images that are written
 abbrev pub is_picture_status : ℕ → Bool
 is_picture_status status = (status == 0) || (status == 3)
 

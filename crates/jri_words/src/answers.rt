@@ -10,7 +10,7 @@ use std::alloc::AllocError;
 pub struct Asked {
     /// The number of workers that decode, 1 to 64.
     pub workers: u32,
-    /// The number of intervals that are decoded, from the first on; all if it is `None`.
+    /// The number of intervals that are decoded, starting at the first one; all if it is `None`.
     pub first: Option<u32>,
     /// The name of the file; `None` is standard input.
     pub file: Option<String>,

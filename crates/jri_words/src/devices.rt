@@ -27,10 +27,10 @@ pub trait Devices {
     /// An open file.
     type File: Read + Write + Drop;
 
-    // The steps so far, where they are known.
+    // The steps so far, if they are known.
     ghost steps: { Self → Option (List Step) } = { λ _. None };
 
-    // The names of devices, pipes and streams, where they are known.
+    // The names of devices, pipes and streams, if they are known.
     ghost are_devices: { Self → List ℕ → Type 0 } = { λ _ _. ⊤ };
 
     /// Standard input.

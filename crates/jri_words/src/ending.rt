@@ -14,7 +14,7 @@ use std::io::{Error, ErrorKind, Result as IoResult, Write};
 pub struct Ending {
     /// The report of an image that was written, or the fault.
     pub outcome: Result<Report, Fault>,
-    /// The reason, where the system gave one.
+    /// The reason, if the system gave one.
     pub reason: Option<Error>,
 }
 

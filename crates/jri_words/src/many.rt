@@ -20,7 +20,7 @@ use std::alloc::{AllocError, Global};
 pub struct ManyRequest {
     /// The number of workers, 1 to 64.
     pub workers: u32,
-    /// The number of intervals that are decoded of each file, from the first on; all if it is `None`.
+    /// The number of intervals that are decoded of each file, starting at the first one; all if it is `None`.
     pub first: Option<u32>,
     /// Whether each file is read past restart markers that are out of step.
     pub is_resync: bool,

@@ -1,4 +1,4 @@
-//! How many MCUs of a file guesses have, and how many guesses come into step with it.
+//! The number of MCUs of a file that speculative reads have, and the number of these reads that come into step with it.
 
 ghost use Rattle.std.specs.Prelude.{◌≡◌, ◌<◌, length};
 ghost use Rattle.jr_scan.specs.Guess.{IsGuessOf};
@@ -11,12 +11,12 @@ use std::io::Write;
 /// The number of MCUs that fit into a speculative read.
 const MOST_MCUS: u32 = 4096;
 
-/// The use of speculative reads if a reader goes over all intervals of a file with them, one after the other.
+/// The use of speculative reads if a reader reads all intervals of a file with them, one after the other.
 #[derive(Clone, Copy)]
 pub(crate) struct GuessCounts {
     /// The number of speculative reads that are made.
     guesses: u32,
-    /// Of how many of them the reader takes an MCU over.
+    /// The number of those of which the reader takes an MCU over.
     in_step: u32,
     /// The number of MCUs that it takes over.
     taken_over: u32,
@@ -59,12 +59,12 @@ fn pass_by(reader: &mut McuReader<'_>, guess: &Guess, to: u64, counts: &mut Gues
     }
 }
 
-/// Where the k-th of some windows of an interval's bits begins.
+/// Returns the bit at which the k-th of some windows of an interval's bits begins.
 fn window_start(bits: u64, k: u64, windows: u64) -> u64 {
     bits.saturating_mul(k) / windows.max(1)
 }
 
-/// Goes over an interval with speculative reads of all its bits but the first ones. `None` if allocation fails.
+/// Reads an interval with speculative reads of all its bits but the first ones. `None` if allocation fails.
 fn count_interval(alloc: Global, scan: &Scan, number: u32, counts: &mut GuessCounts) -> Option<()>
     requires { number < length scan.now.intervals }
 {

@@ -28,7 +28,7 @@ impl<'a> Caller<'a> {
         Arc::new(self.alloc, piece).ok()
     }
 
-    /// Returns whether a board takes this piece, and no other is there.
+    /// Returns whether a board accepts this piece, and no other is there.
     fn can_post(&self, piece: Arc<Piece>) -> bool {
         let Ok(shared) = Arc::try_clone(&self.scan) else {
             return false;

@@ -8,8 +8,8 @@
 //! microseconds that `decode_all` takes with each number of workers, for `tools/bench-beside-djpeg --decoding`. It keeps
 //! no image.
 //!
-//! `single_calls --guesses FILE ..` reads each file by guesses, and reports how many of them come into step and how many
-//! MCUs are taken over, for `tools/compare-workers`.
+//! `single_calls --guesses FILE ..` reads each file by speculative reads, and reports how many come into step, and how
+//! many MCUs are taken over, for `tools/compare-workers`.
 //!
 //! `single_calls --arriving BYTES < photo.jpg > photo.ppm` writes the image while the file arrives in parts of at most
 //! BYTES bytes, and reports on standard error how many restart intervals are sound and damaged, for
@@ -86,7 +86,7 @@ enum Task {
     PartialFile,
 }
 
-/// Returns the task that a word names, if it names one.
+/// Returns the task that an argument names, if it names one.
 fn task_of(word: &str) -> Option<Task> {
     match word {
         "--guesses" => Some(Task::Guesses),
@@ -129,7 +129,7 @@ fn tell_calls_on<R: Threads + Wait + Sync>(
     Some(())
 }
 
-/// Does a task with a word, and returns the exit status.
+/// Does a task with an argument, and returns the exit status.
 fn run<R: Threads + Wait + Clock + Sync>(
     rt: &HostRuntime,
     threads: &R,

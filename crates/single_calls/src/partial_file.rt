@@ -139,7 +139,7 @@ fn rest_of(alloc: Global, scan: &Scan, first: u32) -> Result<Vec<u8>, Memory> {
     Ok(pixels)
 }
 
-/// Takes a file that comes in parts of at most the given number of bytes, and writes what they settle.
+/// Reads a file that arrives in parts of at most `part` bytes, and writes the lines that they make final.
 fn take_all<I: Read, W: Write>(
     alloc: Global,
     part: usize,
@@ -190,7 +190,7 @@ fn finish<W: Write>(
     Ok(counts)
 }
 
-/// Writes the image of a file that comes in parts of at most the given number of bytes. Returns how many of its restart
+/// Writes the image of a file that arrives in parts of at most `part` bytes. Returns how many of its restart
 /// intervals are sound and damaged.
 fn show<I: Read, W: Write>(
     alloc: Global,
@@ -231,9 +231,9 @@ fn tell<E: Write>(errors: &mut E, failure: &Failure) -> u8 {
     }
 }
 
-/// Writes the image of standard input, read in parts of at most the number of bytes that the word gives, and reports on
-/// standard error. Returns the exit status: 0, 3 if an interval is damaged, 1 if a stream or memory failed, 2 for a
-/// refused file or another word.
+/// Writes the image of standard input, read in parts of at most the given number of bytes, and reports
+/// on standard error. Returns the exit status: 0, 3 if an interval is damaged, 1 if a stream or memory failed, 2 for a
+/// refused file or another argument.
 pub(crate) fn show_input(rt: &HostRuntime, word: &str) -> u8 {
     let (mut out, mut errors) = (rt.stdout(), rt.stderr());
     let part = match word.parse::<usize>() {

@@ -1,4 +1,4 @@
-//! How long `decode_all` takes by several numbers of workers.
+//! The time that `decode_all` takes with several numbers of workers.
 
 use jr_base::limits::MAX_WORKERS;
 use jr_head::read_head;
@@ -65,7 +65,7 @@ fn time_of<R: Threads + Wait + Clock + Sync>(
     }
 }
 
-/// The least microseconds of each number of workers.
+/// The minimum of the microseconds of each number of workers.
 pub(crate) fn least_times<R: Threads + Wait + Clock + Sync>(
     rt: &R,
     alloc: Global,

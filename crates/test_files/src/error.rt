@@ -1,4 +1,4 @@
-//! What is wrong with words of the notations.
+//! The errors of texts in the notations.
 
 use std::alloc::{AllocError, AllocFailed};
 use std::num::ParseIntError;
@@ -6,9 +6,9 @@ use std::num::ParseIntError;
 /// The reason why a text is not a file and not an image in these notations.
 #[derive(Clone, Copy, Debug, PartialEq, Eq)]
 pub enum NotationError {
-    /// They are not of the notation.
+    /// It is not of the notation.
     Malformed,
-    /// Memory was refused.
+    /// Allocation failed.
     Memory,
 }
 

@@ -8,9 +8,9 @@
 //! | `Q` | table 0 of quantisers, each 16 |
 //! | `F:0008:0010`, `F` | a baseline frame of one component, 8 lines and 16 columns, or 8 and 8; `F1:0008:0010` for SOF1 |
 //! | `F3:0009:0011:22`, `F3` | of three components, the first with these sampling factors, or 8 by 8 with all factors 1 |
-//! | `D:00:03:05` | DC table 0 with the words 00, 01 and 10 of these symbols; `D` alone is `D:00:03:05` |
-//! | `A` | AC table 0 with the word 0 for the end of a block |
-//! | `A2:00:01` | AC table 0 with the words 0 and 10 of these symbols |
+//! | `D:00:03:05` | DC table 0 with the codes 00, 01 and 10 of these symbols; `D` alone is `D:00:03:05` |
+//! | `A` | AC table 0 with the code 0 for the end of a block |
+//! | `A2:00:01` | AC table 0 with the codes 0 and 10 of these symbols |
 //! | `K` | the luminance DC table of T.81, Annex K |
 //! | `I:0002` | a restart interval of two MCUs; `I` alone is `I:0001` |
 //! | `C`, `C3` | the header of a scan of one component, or of three |
@@ -58,8 +58,8 @@ const PARTS: [(&str, &str); 14] = [
 pub const TEN: &str =
     "GW 63 FF D0 63 FF D1 63 FF D2 63 FF D3 63 FF D4 63 FF D5 63 FF D6 63 FF D7 63 FF D0 63 E";
 
-/// A file of ten intervals, of which five have a decoding: those with E0 have bits that no word begins, that with 63 63
-/// has ten bits left over behind its data unit, and one has no bytes.
+/// A file of ten intervals, of which five have a decoding: those with E0 have bits that no code begins, that with 63 63
+/// has ten bits left over after its data unit, and one has no bytes.
 pub const MIXED: &str =
     "GW 63 FF D0 E0 FF D1 63 FF D2 63 63 FF D3 E0 FF D4 63 FF D5 FF D6 63 FF D7 E0 FF D0 63 E";
 
@@ -88,8 +88,8 @@ const FORMS: [(&str, &str); 6] = [
     ("I", "FF DD 00 04 |"),
 ];
 
-/// Twenty-two data units of twelve bits, each lighter than the one before, or else darker, eleven times in turn. In none are
-/// all columns the same, or all lines. They take the tables `D` and `A2:00:01`.
+/// Twenty-two data units of twelve bits: eleven, each lighter than the last, then eleven, each darker. In none are
+/// all columns the same, or all lines. They use the tables `D` and `A2:00:01`.
 const UNITS: [u8; 33] = [
     0x64, 0x87, 0x5A, 0x6D, 0xA7, 0xDA, 0x6C, 0xA6, 0xC8, 0x74, 0x87, 0x58, 0x65, 0x87, 0x5A, 0x74,
     0xA5, 0xCA, 0x4C, 0xA5, 0x58, 0x45, 0x85, 0x58, 0x44, 0x84, 0xCA, 0x4C, 0xA5, 0xDA, 0x4D, 0xA4,
@@ -169,8 +169,8 @@ fn next_number(digits: Option<&str>) -> Result<u32, NotationError> {
     Ok(u32::from_str_radix(digits.ok_or(NotationError::Malformed)?, 16)?)
 }
 
-/// Puts the intervals of a scan, as `0005:000C:0006`: the most MCUs of each, how many MCUs there are, and how many data units each
-/// has. Each interval takes whole bytes.
+/// Appends the intervals of a scan, as `0005:000C:0006`: the maximum number of MCUs of each, the number of all MCUs,
+/// and the number of data units of each. Each interval has whole bytes.
 fn put_scan(bytes: &mut Vec<u8>, arguments: &str) -> Result<(), NotationError> {
     let mut numbers = arguments.split(':');
     let each = next_number(numbers.next())?;

@@ -1,4 +1,4 @@
-//! Files for tests, in a short notation, their scans, pictures in a notation, and waiting.
+//! Files for tests, in a short notation, their scans, images in a notation, and waiting.
 #![tactic(auto)]
 
 pub mod error;

@@ -1,8 +1,8 @@
-//! Pictures in a short notation.
+//! Images in a short notation.
 //!
 //! `P5 16 8 : 8*136 8*128` is the header of a PGM of 16 columns and 8 lines, each of them 8 times 136 and 8 times 128.
-//! Different lines are separated by `/`, and `8x` before one puts it eight times. The samples of a colour are joined by commas:
-//! `16*229,77,128`.
+//! Different lines are separated by `/`; `8x` before one writes it eight times. The samples of a colour are joined by
+//! commas: `16*229,77,128`.
 
 use crate::error::NotationError;
 use std::alloc::{AllocError, Global};

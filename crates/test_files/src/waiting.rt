@@ -3,7 +3,7 @@
 use std::sync::atomic::{AtomicU32, Ordering};
 use std::thread;
 
-/// How often a thread looks at most.
+/// The maximum number of times that a thread looks.
 const TURNS: u32 = 10_000_000;
 
 /// Waits until a counter has reached a number, and returns whether it has: a thread does not wait for ever.

@@ -1,4 +1,4 @@
-//! Tells how many intervals can be seen.
+//! Reports how many intervals can be seen.
 
 use jr_view::Screen;
 use jr_wall::{Piece, Strip};

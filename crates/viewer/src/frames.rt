@@ -1,4 +1,4 @@
-//! Writes a picture each time that a further twentieth of it can be seen.
+//! Writes an image each time that a further twentieth of it can be seen.
 
 use jr_paint::{Samples, Tally, write_netpbm};
 use jr_view::{Screen, View};

@@ -1,9 +1,9 @@
 //! An example of a viewer: while workers decode a JPEG file, it looks at what is finished, and never waits for them; and while
-//! a file comes on standard input, it shows what has come.
+//! a file arrives on standard input, it shows what has arrived.
 //!
-//! `viewer FILE ..` tells of each file how many intervals can be seen; what stands on standard output is the same on every
-//! schedule. `viewer --frames FILE ..` writes Netpbm pictures of what can be seen, one each time that more can; a file's
-//! last one is finished. `-` is standard input: a file that comes in parts, as through a pipe that stalls.
+//! `viewer FILE ..` reports for each file how many intervals can be seen; standard output is the same on every
+//! schedule. `viewer --frames FILE ..` writes Netpbm images of what can be seen, one each time that more can; a file's
+//! last one is finished. `-` is standard input: a file that arrives in parts, as through a pipe that stalls.
 #![tactic(auto)]
 
 mod counting;
@@ -45,7 +45,7 @@ fn scan_of<E: Write>(rt: &HostRuntime, name: &str, errors: &mut E) -> Result<Sca
     Scan::cut(rt.alloc(), head, file.as_slice()).map_err(|_| 1)
 }
 
-/// Decodes a scan, and writes meanwhile pictures of what can be seen of it.
+/// Decodes a scan, and writes meanwhile images of what can be seen of it.
 fn show_frames<R: Threads + Wait + Clock + Sync, W: Write>(
     rt: &R,
     alloc: Global,

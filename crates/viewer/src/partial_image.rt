@@ -1,4 +1,4 @@
-//! Shows a picture while its file comes on standard input.
+//! Shows an image while its file arrives on standard input.
 
 use crate::counting::tell_of;
 use jr_base::Memory;
@@ -8,7 +8,7 @@ use jr_view::{FinishedView, PartialView};
 use std::alloc::{AllocError, Global};
 use std::io::{Error, Read, Write};
 
-/// The most that is read at once.
+/// The maximum number of bytes that are read at once.
 const PART: usize = 65_536;
 
 /// The reason why there is no image.
@@ -88,7 +88,7 @@ fn write_due<W: Write>(view: &PartialView, shown: u64, out: &mut Tally<W>) -> u6
     twentieths
 }
 
-/// Takes what comes into `view`, and writes meanwhile pictures of what it settles, where they are asked for.
+/// Appends what arrives to `view`, and writes meanwhile images of the lines that are final, if they are requested.
 fn take_all<I: Read, W: Write>(
     alloc: Global,
     input: &mut I,

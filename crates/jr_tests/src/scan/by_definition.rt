@@ -1,4 +1,4 @@
-//! A parser written from the definitions, bit by bit and byte by byte, beside the reader.
+//! A parser written from the definitions, bit by bit and byte by byte, to compare with the reader.
 
 use crate::plain::{number, value, word};
 use jr_scan::{Block, Interval, Scan, ScanEnd};
@@ -19,7 +19,7 @@ struct Picture<'a> {
     mcus: usize,
 }
 
-/// Reads the block at a bit, its first coefficient a difference, and returns it with the bit after it.
+/// Reads the block at a bit, its DC coefficient a difference, and returns it with the bit after it.
 fn block(picture: &Picture<'_>, bytes: &[u8], start: usize, z: &mut Block) -> Option<usize> {
     *z = [0; 64];
     let (size, long) = word(picture.dc.0, picture.dc.1, bytes, start)?;
@@ -60,7 +60,7 @@ fn block(picture: &Picture<'_>, bytes: &[u8], start: usize, z: &mut Block) -> Op
     if place == 64 { Some(at) } else { None }
 }
 
-/// Returns the data of the segments in front, how the scan ends and where.
+/// Returns the data of the segments at the start, and the code of the marker that ends the scan; 0 if none does.
 fn segments(alloc: Global, bytes: &[u8], intervals: usize) -> Result<(Vec<Vec<u8>>, u8), Fail> {
     let mut segments = Vec::new(alloc);
     let mut segment = Vec::new(alloc);
@@ -88,14 +88,14 @@ fn segments(alloc: Global, bytes: &[u8], intervals: usize) -> Result<(Vec<Vec<u8
     Ok((segments, 0))
 }
 
-/// Where the reading of an interval stands: its bit, and the last first coefficient of each component.
+/// The position of the reading of an interval: its bit, and the last DC coefficient of each component.
 #[derive(Clone, Copy)]
 struct Reading {
     at: usize,
     last: [i32; 3],
 }
 
-/// Reads the next block of a component; false where there is none.
+/// Reads the next block of a component; returns `false` if there is none.
 fn read_block(
     picture: &Picture<'_>,
     bytes: &[u8],
@@ -116,7 +116,7 @@ fn read_block(
     true
 }
 
-/// Reads the blocks of the next MCU; false where one is missing.
+/// Reads the blocks of the next MCU; returns `false` if one is missing.
 fn read_mcu(
     picture: &Picture<'_>,
     bytes: &[u8],
@@ -133,7 +133,7 @@ fn read_mcu(
     Ok(true)
 }
 
-/// Returns the blocks of the whole MCUs in front, and whether these are all and fewer than eight bits are left.
+/// Returns the blocks of the first whole MCUs, and whether these are all and fewer than eight bits are left.
 fn front(alloc: Global, picture: &Picture<'_>, bytes: &[u8]) -> Result<(Vec<Block>, bool), Fail> {
     let mut whole = Vec::new(alloc);
     let mut mcu = Vec::new(alloc);
@@ -152,7 +152,7 @@ fn front(alloc: Global, picture: &Picture<'_>, bytes: &[u8]) -> Result<(Vec<Bloc
     Ok((whole, left < 8))
 }
 
-/// Returns the code that the end of a scan stands for.
+/// Returns the code of the marker that ends a scan, 0 if none does; `None` for an extra restart marker.
 fn code(ended: ScanEnd) -> Option<u8> {
     match ended {
         ScanEnd::EndOfFile => Some(0),
@@ -163,7 +163,7 @@ fn code(ended: ScanEnd) -> Option<u8> {
     }
 }
 
-/// Returns the next of a row of numbers that look random.
+/// Returns the next of a series of numbers that look random.
 fn random(state: u64) -> u64 {
     state
         .wrapping_mul(6364136223846793005)
@@ -210,7 +210,7 @@ fn check_interval(
     Ok(())
 }
 
-/// The scan is cut into these segments, with this end, and so are its intervals read.
+/// The scan is cut into these segments, with this end, and its intervals are read so.
 fn check_scan(
     rt: &impl Abort,
     alloc: Global,
@@ -233,7 +233,7 @@ fn check_scan(
     Ok(())
 }
 
-/// The scan of a head and these bytes is cut as the definitions say, and so are its intervals read.
+/// The scan of a header and these bytes is cut as the definitions say, and its intervals are read so.
 fn check_bytes(
     rt: &impl Abort,
     alloc: Global,

@@ -1,4 +1,4 @@
-//! Which MCUs speculative reads find.
+//! The MCUs that speculative reads find.
 
 use jr_scan::{Guess, IntervalRef};
 use std::alloc::Global;
@@ -19,7 +19,7 @@ fn found_at(
     Ok(guess.find(bit))
 }
 
-/// 4096 MCUs of three bits, but for the first, which takes six; and 1024 of eighteen.
+/// 4096 MCUs of three bits, but for the first, which has six; and 1024 of eighteen.
 const GREY: &str = "S Q F:0200:0200 D A C 60 1536*00";
 
 const CUT: &str = "S Q F:0200:0200 D A C 60 1499*00";
@@ -27,7 +27,7 @@ const CUT: &str = "S Q F:0200:0200 D A C 60 1499*00";
 const COLOURED: &str = "S Q F3:0200:0200:22 D A C3 2304*00";
 
 /// Files, the bits between which MCUs are read, the most of them, and which of them starts at a bit: in step; never in step; in step
-/// from the second MCU on; no room for all; past the end of the data; none.
+/// starting at the second MCU; no space for all; past the end of the data; none.
 const ROWS: [(&str, u64, u64, u32, u64, Option<usize>); 8] = [
     (GREY, 3000, 6000, 2000, 5997, Some(999)),
     (GREY, 3001, 6000, 2000, 3000, None),

@@ -1,4 +1,4 @@
-//! Threads that hang pieces into cells, and viewers that look.
+//! Threads that publish pieces in cells (`hang`), and viewers that look.
 
 ghost use Rattle.std.specs.Prelude.{◌≡◌};
 
@@ -19,10 +19,10 @@ use test_files::scans::scan_of;
 const RISING: &str =
     "GW 43 FF D0 4B FF D1 53 FF D2 5B FF D3 63 FF D4 6B FF D5 73 FF D6 7B FF D7 1F FF D0 A0 E";
 
-/// Its greys by djpeg.
+/// Its greys, by djpeg.
 const RISING_GREYS: [u8; 10] = [114, 116, 118, 120, 136, 138, 140, 142, 128, 160];
 
-/// The same values in the other order: no interval looks as in the file above.
+/// The same values in the other order: no interval has the samples of the same interval above.
 const FALLING: &str =
     "GW A0 FF D0 1F FF D1 7B FF D2 73 FF D3 6B FF D4 63 FF D5 5B FF D6 53 FF D7 4B FF D0 43 E";
 
@@ -39,7 +39,7 @@ fn pieces_of(alloc: Global, words: &str) -> Result<Vec<Arc<Piece>>, Fail> {
     Ok(pieces)
 }
 
-/// Hangs a piece into the cell of its number.
+/// Publishes a piece in the cell of its number.
 fn hang(cells: &Cells, piece: Arc<Piece>, sight: &mut Sight) -> Result<(), Arc<Piece>>
     requires { sight.old.cells ≡ cells.now }
     ensures { sight.new.cells ≡ sight.old.cells }
@@ -51,7 +51,7 @@ fn hang(cells: &Cells, piece: Arc<Piece>, sight: &mut Sight) -> Result<(), Arc<P
     cells.hang(number, piece, sight)
 }
 
-/// Hangs these pieces by a sight of its own, and says how many found their cells empty.
+/// Publishes these pieces by a sight of its own, and returns the number of those that found their cells empty.
 fn hang_all(cells: &Cells, pieces: Vec<Arc<Piece>>) -> u32 {
     let Ok(mut sight) = cells.sight() else {
         return 0;
@@ -65,7 +65,7 @@ fn hang_all(cells: &Cells, pieces: Vec<Arc<Piece>>) -> u32 {
     count
 }
 
-/// States that two threads hang pieces, and this says how many found their cells empty.
+/// States that two threads publish pieces, and this returns the number of those that found their cells empty.
 fn hang_twice<R: Threads + Sync>(
     rt: &R,
     cells: &Cells,
@@ -80,7 +80,7 @@ fn hang_twice<R: Threads + Sync>(
     first.saturating_add(second)
 }
 
-/// Returns whether each cell tells of a piece of one of the two files.
+/// Returns whether each cell contains a piece of one of the two files.
 fn is_full(contents: &[Option<Content>; 10]) -> bool {
     let (rising, falling) = (contents_of(&RISING_GREYS), contents_of(&FALLING_GREYS));
     contents.iter().zip(rising.iter().zip(falling.iter())).all(|(found, (rising, falling))| found
@@ -99,7 +99,7 @@ fn pieces_of_another_thread_are_found(rt: HostRuntime) -> Result<(), Fail> {
     Ok(())
 }
 
-/// Two threads hang pieces of the same numbers, while two viewers look.
+/// Two threads publish pieces of the same numbers, while two viewers look.
 fn hang_and_watch<R: Threads + Abort + Sync>(rt: &R, alloc: Global) -> Result<(), Fail> {
     let cells = Cells::open(alloc, 10)?;
     let (rising, mut falling) = (pieces_of(alloc, RISING)?, pieces_of(alloc, FALLING)?);

@@ -1,4 +1,4 @@
-//! What workers leave of damaged intervals: marks, pieces in cells, and calls of the gate.
+//! The results of workers for damaged intervals: marks, pieces in cells, and calls of the gate.
 
 use crate::wall::shown::{has_marks, letters_in_cells, open};
 use jr_scan::Scan;

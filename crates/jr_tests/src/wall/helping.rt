@@ -9,7 +9,7 @@ use test_files::files::TWO_LONG;
 use test_files::scans::scan;
 use test_files::waiting::has_come;
 
-/// How often a viewer looks at most.
+/// The maximum number of times that a viewer looks.
 const TURNS: u32 = 10_000_000;
 
 /// Holds the worker that has claimed interval 0, before it decodes any of it, until a strip of that interval is seen: which
@@ -21,7 +21,7 @@ struct Held {
 }
 
 impl Held {
-    /// Looks for the first strip of interval 0 until it is there; whether it came.
+    /// Looks for the first strip of interval 0 until it is there; returns whether it came.
     fn watch(&self, decoding: &Decoding) -> bool {
         let Some(strips) = decoding.strips(0) else {
             return false;

@@ -1,4 +1,4 @@
-//! The strips that workers leave of long intervals.
+//! The strips of long intervals that workers make.
 
 ghost use Rattle.std.specs.Prelude.{◌≡◌};
 
@@ -19,7 +19,7 @@ const CUT: &str = "S Q F:0108:0100 D A C 30*618618618618618618596596596596596596
 const COLOURED_CUT: &str = "S Q F3:01E0:0240:22 D:00:03:06 A \
     C3 60*6000C06000C06000C06000C06000C05800B05800B05800B05800B05800B0 E";
 
-/// Returns how many MCUs a viewer finds in the strips of an interval.
+/// Returns the number of MCUs that a viewer finds in the strips of an interval.
 fn mcus_in(strips: &StripCells) -> Result<u32, Memory> {
     let mut sight = strips.sight()?;
     let mut found = 0u32;
@@ -31,7 +31,7 @@ fn mcus_in(strips: &StripCells) -> Result<u32, Memory> {
     Ok(found)
 }
 
-/// Returns how many MCUs are in the strips of an interval.
+/// Returns the number of MCUs in the strips of an interval.
 fn mcus_of(decoding: &Decoding, number: u32) -> Result<u32, Fail> {
     let strips = decoding.strips(number).ok_or("a long interval")?;
     Ok(mcus_in(strips)?)
@@ -52,7 +52,7 @@ fn work_twice<R: Threads + Wait + Sync>(rt: &R, decoding: &Decoding, mut one: Se
     );
 }
 
-/// Files of one long interval, whole and cut, and how many MCUs its strips have: those of its longest prefix.
+/// Files of one long interval, whole and cut, and the number of MCUs of its strips: those of its longest prefix.
 const STRIPS: [(&str, u32); 4] = [
     (LONG, 1056),
     (LONG_COLOURED, 1080),

@@ -68,7 +68,7 @@ fn marks_of(alloc: Global, scan: &Scan, board: &Board) -> Result<String, Fail> {
     Ok(letters)
 }
 
-/// Whether a board of this scan has these marks.
+/// Returns whether a board of this scan has these marks.
 pub(crate) fn has_marks(
     alloc: Global,
     scan: &Scan,
@@ -79,7 +79,7 @@ pub(crate) fn has_marks(
     Ok(marks.as_str() == letters)
 }
 
-/// What a fresh sight finds in cells: a letter for each, as those of marks, and `?` for a piece of another number.
+/// Returns what a new sight finds in cells: a letter for each, as those of marks, `?` for a piece of another number.
 pub(crate) fn letters_in_cells(alloc: Global, cells: &Cells) -> Result<String, Fail> {
     let mut letters = String::new(alloc);
     let mut sight = cells.sight()?;
@@ -108,7 +108,7 @@ fn has_sample(head: &Head, c: u32, x: u32, y: u32) -> bool
     x < across && y < down
 }
 
-/// Returns a look at the sample of component c in column x and line y; none outside the picture.
+/// Returns a look at the sample of component c in column x and line y; `None` outside the image.
 pub(crate) fn look(board: &Board, c: u32, x: u32, y: u32) -> Option<Glimpse> {
     if has_sample(board.head(), c, x, y) {
         Some(board.look(c, x, y))
@@ -117,7 +117,7 @@ pub(crate) fn look(board: &Board, c: u32, x: u32, y: u32) -> Option<Glimpse> {
     }
 }
 
-/// A glance at the sample of component c in column x and line y; none outside the picture.
+/// Returns a glance at the sample of component c in column x and line y; `None` outside the image.
 pub(crate) fn glimpse<R: Wait>(
     rt: &R,
     board: &Mutex<Board>,

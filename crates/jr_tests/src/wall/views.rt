@@ -1,4 +1,4 @@
-//! What viewers see who look into cells, beside those who fill them.
+//! What viewers that look into cells see, while other threads fill them.
 
 ghost use Rattle.std.specs.Prelude.{◌≡◌, IfOk};
 
@@ -7,10 +7,10 @@ use jr_wall::{Cells, Piece, Sight};
 use std::thread;
 use std::thread::Threads;
 
-/// What a piece of one data unit tells: its number, whether it is sound, and the samples.
+/// The content of a piece of one data unit: its number, whether it is sound, and the samples.
 pub(crate) type Content = (u32, bool, [u8; 64]);
 
-/// What the pieces of ten sound intervals tell, each of one grey.
+/// The contents of the pieces of ten sound intervals, each of one grey.
 pub(crate) fn contents_of(greys: &[u8; 10]) -> [Option<Content>; 10] {
     let mut contents = [None; 10];
     for i in 0..10usize {
@@ -35,7 +35,7 @@ fn look(cells: &Cells, number: u32, sight: &mut Sight) -> Option<Content>
     content_of(cells.look(number, sight)?)
 }
 
-/// What a viewer saw: what each cell told at its last look, and whether each told the same ever after.
+/// What a viewer saw: the content of each cell at its last look, and whether each content stayed the same.
 #[derive(Drop)]
 pub(crate) struct View {
     pub sight: Sight,
@@ -43,7 +43,7 @@ pub(crate) struct View {
     pub is_steady: bool,
 }
 
-/// Returns the view of someone who has not looked.
+/// Returns the view of a thread that has not looked.
 fn blank_view(cells: &Cells) -> Result<View, Memory>
     ensures { IfOk result (λ v. v.sight.cells ≡ cells.now) }
 {
@@ -69,7 +69,7 @@ fn look_over(cells: &Cells, view: &mut View)
     }
 }
 
-/// What each cell tells to someone who has not looked before.
+/// Returns the contents of the cells for a thread that has not looked before.
 pub(crate) fn contents_now(cells: &Cells) -> Result<[Option<Content>; 10], Memory> {
     let mut view = blank_view(cells)?;
     look_over(cells, &mut view);
@@ -105,7 +105,7 @@ pub(crate) fn watch_twice<R: Threads + Sync>(
     )
 }
 
-/// Returns whether the viewer saw each piece ever after its first look at it, and each as it is last.
+/// Returns whether the viewer saw each piece at every look after the first that found it, and each as it is last.
 pub(crate) fn is_kept(view: &View, last: &[Option<Content>; 10]) -> bool {
     view.is_steady
         && view

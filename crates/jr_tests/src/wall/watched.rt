@@ -1,4 +1,4 @@
-//! What a screen is told while workers decode.
+//! The reports to a screen while workers decode.
 
 use jr_paint::{Samples, Tally, write_netpbm};
 use jr_scan::Scan;
@@ -15,7 +15,7 @@ use test_files::files::{LONG, MIXED, TEN, TWO_LONG};
 use test_files::scans::scan;
 use test_files::waiting::has_come;
 
-/// Returns the text of a picture.
+/// Returns the text of an image.
 fn text_of<S: Samples>(alloc: Global, picture: &S) -> Result<Vec<u8>, Fail> {
     let mut text = Tally::of(Vec::new(alloc));
     write_netpbm(picture, &mut text).ok().ok_or("no memory")?;
@@ -35,7 +35,7 @@ struct Counts {
     mcus: AtomicU32,
     asked: AtomicU32,
     claims: AtomicU32,
-    /// How often a gate has waited in vain.
+    /// The number of times that a gate has waited in vain.
     vain: AtomicU32,
 }
 
@@ -61,7 +61,7 @@ impl Counts {
     }
 }
 
-/// A view of what it is told.
+/// A view of what is reported to it.
 #[derive(Drop)]
 struct Told<'a> {
     view: View,
@@ -69,7 +69,7 @@ struct Told<'a> {
     pieces: u32,
     /// Whether a strip was shown after the piece of the one interval.
     is_late: bool,
-    /// Whether it says at the first look that it is done.
+    /// Whether it reports at the first look that it is done.
     is_lazy: bool,
 }
 

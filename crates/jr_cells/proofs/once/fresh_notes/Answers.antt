@@ -6,7 +6,7 @@ use Rattle.once_cell.specs.Once.{cell_name}
 use Rattle.jr_cells.specs.Notes.{names_of, known_of}
 use Rattle.jr_cells.proofs.once.fresh_notes.Goals as goal
 
--- one more note, of the next cell
+-- one more note is appended, of the next cell
 names_more : {X : Type 0} {new : List (Note X)} (ns : List (Note X)) (n : Note X) (cs : List (Global × ℕ)) (i : ℕ) (c : Global × ℕ) → new ≡ ns ++ n ∷ [] → i < length cs → c ≡ get_or cs i c → names_of ns ≡ map cell_name (take i cs)
     → n.cell ≡ cell_name c → names_of new ≡ map cell_name (take (i + 1) cs)
 names_more ns n cs i c pushed lt at names is =
@@ -15,7 +15,7 @@ names_more ns n cs i c pushed lt at names is =
     = ap (map cell_name) (take_more cs i c lt) ∙ map_push cell_name (take i cs) (get_or cs i c) ∙ ap (λ d. map cell_name (take i cs) ++ cell_name d ∷ []) (sym at) in
     ap names_of pushed ∙ before ∙ ap (λ ks. ks ++ cell_name c ∷ []) names ∙ sym after
 
--- one more note that knows nothing
+-- one more note that knows nothing is appended
 known_more : {X : Type 0} {new : List (Note X)} (ns : List (Note X)) (n : Note X) (i : ℕ) → new ≡ ns ++ n ∷ [] → known_of ns ≡ replicate i None → n.known ≡ None → known_of new ≡ replicate (i + 1) None
 known_more {X} ns n i pushed known is =
     ap known_of pushed ∙ map_push (λ m. m.known) ns n ∙ ap (λ k. known_of ns ++ k ∷ []) is ∙ ap (λ (ks : List (Option X)). ks ++ None ∷ []) known ∙ replicate_more i None

@@ -10,7 +10,7 @@ use Rattle.jr_mcu.proofs.Steps.{no_difference_extended, no_difference_far, takes
 use Rattle.jr_mcu.proofs.block.read_first.Goals as goal
 use Rattle.jr_mcu.proofs.block.read_first.Goals.{then-first-ltminus32768-via-then-first-ltminus32768, then-first-ltminus32768-via-else-first-ltminus32768+then-first-gt32767}
 
--- a sum of two numbers that are passed on
+-- a sum of two numbers, after its casts
 sum_is : (p d : ℤ) → IsInDcRange p → SFits w16 d → to_z w32 (of_z w32 p) +ℤ to_z w32 (of_z w32 d) ≡ p +ℤ d
 sum_is p d within small =
     let wide : SFits w32 d = omega (arith, ints, small) in

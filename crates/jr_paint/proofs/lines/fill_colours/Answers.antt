@@ -14,11 +14,11 @@ returns g c =
     let third : (k : ℕ) → k < h.width → slice_index c.upsample-third.result.now k ≡ value_at h f 2 k y = λ k l. search (rules, c.upsample-third.ensures.samples k l) in
     c.mix.ensures ∙ line_coloured h f y c.kind.result _ (slice_index c.upsample-first.result.now) (slice_index c.upsample-second.result.now) (slice_index c.upsample-third.result.now) kind (rw kind c.requires.kind) c.upsample-first.ensures.long c.upsample-first.ensures.samples c.upsample-second.ensures.samples third
 
--- the width of the header that the samples give
+-- the width of the samples' header
 wide : (h g : HeadValue) (w : ℕ) → w ≡ h.width → h ≡ g → w ≡ g.width
 wide h g w is same = is ∙ ap (λ (x : HeadValue). x.width) same
 
--- its components, of which a picture in colours has three
+-- its components: an image in colours has three
 three : (h g : HeadValue) → h ≡ g → IsLawful h → component_count g.kind ≡ 3 → components_of g ≡ 3
 three h g same lawful kind = (subst IsLawful same lawful).components.count ∙ kind
 

@@ -60,7 +60,7 @@ convert_two-requires-clause-third g c = c.read_halves.ensures.same
 last_part : (n a b d w width : ℕ) → a + w ≡ n → b + w ≡ a → d + w ≡ b → w ≡ width → 4 * width ≤ n → width ≤ d
 last_part n a b d w width is_a is_b is_d is_w room = omega (arith, is_a, is_b, is_d, is_w, room)
 
--- the second half of six times as many
+-- the second half of 6 `width` bytes
 half : (n a w width : ℕ) → a + 3 * w ≡ n → w ≡ width → n ≡ 6 * width → a ≡ 3 * width
 half n a w width is_a is_w is_n = omega (arith, is_a, is_w, is_n)
 

@@ -58,7 +58,7 @@ returns g c =
     let all = c.write_all.ensures in
     rest_sent g.W.Write.contents c.args.out.now c.lines.out c.write_all.new.out c.write_all.result _ _ sent all.ok all.err all.failed
 
--- the lines that are painted at once have room where two have
+-- the lines that are painted at once fit into the space of two
 batch : (count line : ℕ) (h g : HeadValue) (size old : ℕ) → count ≤ 2 → line ≡ line_size h → h ≡ g → 2 * line_size g ≤ old → size ≡ old → count * line ≤ size
 batch count line h g size old few is same room long =
     let e : line ≡ line_size g = is ∙ ap (λ (x : HeadValue). line_size x) same in

@@ -4,7 +4,7 @@ use Rattle.std.proofs.lemmas.List.{get_or-set_same, get_or-set_other}
 use Rattle.std.proofs.Math.Nat.{add-mul, mul-le-mul_right}
 use Rattle.jr_rows.proofs.row_lines.put_rows.Goals as goal
 
--- the rows stand in lines of their own
+-- each row is in a line of its own
 rows_apart : (across row row' : ℕ) → 0 < across → row < row' → row * across < row' * across
 rows_apart across row row' some lt = omega (arith, add-mul row 1 across, mul-le-mul_right {m = row + 1} {n = row'} across (omega (arith, lt)), some)
 

@@ -13,7 +13,7 @@ use Rattle.jr_rows.proofs.row_lines.put_unit.Goals as goal
 abbrev none : UnitStart
 none = record { first = 0; step = 0 }
 
--- a line of a picture that has an MCU has a group
+-- a line of an image that has an MCU has a group
 some_across : (h : HeadValue) (m : ℕ) → IsLawful h → m < mcus_across h → 0 < groups_across h
 some_across h m l lt =
     let one : 1 * horizontal_max h ≤ mcus_across h * horizontal_max h = mul-le-mul_right {m = 1} {n = mcus_across h} (horizontal_max h) (omega (arith, lt)) in
@@ -49,7 +49,7 @@ put_rows-requires-clause-room c =
     let all = fits c.args.head.now c.args.across c.args.groups.now c.args.mcu c.args.j (slice_index_or c.args.starts.now c.args.j none) c.assert_invariant.ensures c.requires.room (c.requires.starts.each c.args.j none c.requires.unit) c.requires.mcu c.requires.unit in
     search (rules, arith, all)
 
--- row r of the data unit stands there
+-- row r of the data unit is there
 row_there : (h : HeadValue) (across : ℕ) (groups : List (List ℕ)) (m j : ℕ) (p : UnitStart) → HasGroups h across groups → IsStartOf h j p → (r : ℕ) → p.first + m * p.step + r * across ≡ group_of h m j r
 row_there h across groups m j p room is r =
     let lines : r * across ≡ r * groups_across h = ap (λ k. r * k) room.across_is in

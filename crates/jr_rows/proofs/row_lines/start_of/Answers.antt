@@ -9,7 +9,7 @@ use Rattle.jr_rows.specs.Groups.{group_of, groups_across, lines_before}
 use Rattle.jr_rows.proofs.GroupNumbers.{whose}
 use Rattle.jr_rows.proofs.row_lines.start_of.Goals as goal
 
--- what stands in the order is the data unit's component
+-- the entry of the order is the data unit's component
 owner : (h : HeadValue) (order : List ℕ) (x j : ℕ) → order ≡ order_of h → j < blocks_of h → x ≡ slice_index_or order j 0 → x ≡ component h j
 owner h order x j e lt is =
     let few : j < length (order_of h) = omega (arith, lt, length-order 0 h.components) in

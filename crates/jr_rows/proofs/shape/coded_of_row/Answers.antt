@@ -15,7 +15,7 @@ row_fits row across own all most inside e is fits = let times = ap (λ (n : ℕ)
 start_fits : (row across own all most : ℕ) → row * own + own ≤ all → across ≡ own → most ≡ all → most < 2 ^ 32 → Fits w32 (row * across)
 start_fits row across own all most inside e is fits = let times = ap (λ (n : ℕ). row * n) e in omega (arith, inside, times, is, fits)
 
--- how many MCUs of a row are decoded
+-- the number of MCUs of a row that are decoded
 module _ (row across own all before : ℕ) (e : across ≡ own) (is : all ≡ before) where
   pub start_of : min (row * across) all ≡ min (row * own) before
   start_of = ap (λ (n : ℕ). min (row * n) all) e ∙ ap (λ (n : ℕ). min (row * own) n) is

@@ -9,11 +9,11 @@ use Rattle.jr_rows.specs.Groups.{units_in}
 use Rattle.jr_rows.proofs.GroupLists.{units_long}
 use Rattle.jr_rows.proofs.whole_mcus.decode_whole.Goals as goal
 
--- the blocks that are read stand in front
+-- the blocks that are read are the first ones
 read : (units n : ℕ) (zs rest : List (List ℤ)) → units ≡ n → n ≤ length zs → take units (zs ++ rest) ≡ take n zs
 read units n zs rest e le = ap (λ (m : ℕ). take m (zs ++ rest)) e ∙ take-append-le n zs rest le
 
--- the MCUs that are read are left of the row and fit into the blocks
+-- the MCUs that are read are at most those left of the row, and fit into the blocks
 some_left : (most at_once across done row : ℕ) → most ≡ min at_once (across - done) → across ≡ row → done < row → 0 < at_once → 0 < most
 some_left most at_once across done row e is within some = omega (arith, e, is, within, some)
 
@@ -23,7 +23,7 @@ few_at_once most at_once rest e = omega (arith, e)
 fits : (n most at_once across done row : ℕ) → n ≤ most → most ≡ min at_once (across - done) → across ≡ row → done < row → done + n ≤ row
 fits n most at_once across done row few e is within = omega (arith, few, e, is, within)
 
--- the blocks that are lent
+-- the borrowed blocks fit
 room : (units at_once per most blocks long : ℕ) → units ≤ at_once * per → at_once ≡ most → per ≡ blocks → long ≡ most * blocks → units ≤ long
 room units at_once per most blocks long within e is all = let whole = ap (λ (n : ℕ). n * per) e ∙ ap (λ (n : ℕ). most * n) is in omega (arith, within, whole, all)
 

@@ -9,11 +9,11 @@ use Rattle.jr_rows.specs.Groups.{units_in}
 use Rattle.jr_rows.proofs.GroupLists.{units_long}
 use Rattle.jr_rows.proofs.whole_mcus.put_grey.Goals as goal
 
--- the blocks that are lent
+-- the borrowed blocks fit
 fits : (units at_once per most blocks long : ℕ) → units ≤ at_once * per → at_once ≡ most → per ≡ blocks → long ≡ most * blocks → units ≤ long
 fits units at_once per most blocks long within e is all = let whole = ap (λ (n : ℕ). n * per) e ∙ ap (λ (n : ℕ). most * n) is in omega (arith, within, whole, all)
 
--- as many MCUs as fit
+-- the number of MCUs that fit
 few_of : (some at_once mcus : ℕ) → some ≡ min at_once mcus → some ≤ mcus
 few_of some at_once mcus e = omega (arith, e)
 

@@ -14,7 +14,7 @@ use Rattle.jr_piece.proofs.ScanLaws.{outcome}
 use Rattle.jr_rows.proofs.Sendings.{painted_picture, begun_picture}
 use Rattle.jr_rows.proofs.writing.write_scan.Goals as goal
 
--- what fits into the buffer that is asked for fits into the one that is there
+-- what fits into the requested buffer fits into the actual one
 fits : (n room len long : ℕ) → n ≤ room → len ≡ room → len ≡ long → n ≤ long
 fits n room len long le e is = omega (arith, le, e, is)
 

@@ -51,7 +51,7 @@ returns-in_default-clause-run c =
     let run = subst (λ (n : ℕ). IsRun (run_from i c.args.place.now k) (take n c.loop-k.blocks) c.loop-k.place AllRead) (sym first) c.loop-k.invariant.run in
     subst (λ (bs : List (List ℤ)). IsRun (run_from i c.args.place.now k) bs c.loop-k.place AllRead) (sym kept) run
 
--- an MCU before the last one lies within the room for all
+-- an MCU before the last one lies within the space for all
 fits : (h : HeadValue) (order : List ℕ) (k most size old : ℕ) → order ≡ order_of h → k < most → most * length (order_of h) ≤ old → size ≡ old → k * length order + length order ≤ size
 fits h order k most size old same lt room long =
     let le : (k + 1) * length (order_of h) ≤ most * length (order_of h) = mul-le-mul_right {m = k + 1} {n = most} (length (order_of h)) (omega (arith, lt)) in

@@ -4,7 +4,7 @@ use Rattle.jr_code.specs.Code.{Table}
 use Rattle.jr_segments.specs.Bytes.{high, low}
 use Rattle.jr_segments.specs.HuffmanTables.{HuffmanTable, huffman_table}
 
--- the symbols behind sixteen counts of the front of a table
+-- the symbols after the sixteen counts of a table
 table_is : (p front symbols counts : List ℕ) (n : ℕ) → counts ≡ take 16 p → n ≡ sum counts → front ≡ take (16 + n) p → symbols ≡ drop 16 front
     → (let t : Table = record { counts = counts; symbols = symbols } in t) ≡ record { counts = take 16 p; symbols = take (sum (take 16 p)) (drop 16 p) }
 table_is p front symbols counts n c m f s = rw (s, f, drop-take 16 n p, m, c)

@@ -9,7 +9,7 @@ use Rattle.jr_picture.specs.contracts.mark.Mark.{the_type}
 use Rattle.jr_picture.specs.declared.mark.Mark.TheVariants.{Blank, Sound, Damaged}
 use Rattle.jr_wall.proofs.sweeping.is_left.Goals as goal
 
--- a mark that is not told from blank
+-- a mark that does not differ from Blank
 blank_of : (m : Mark) (b : Bool) → b ≡ false → b ≡ not (sameb the_type m Blank) → m ≡ Blank
 blank_of Blank b f e = refl
 blank_of Sound b f e = absurd (false≢true (sym f ∙ e))

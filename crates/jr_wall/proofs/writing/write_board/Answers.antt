@@ -13,7 +13,7 @@ use Rattle.jr_picture.proofs.BoardPictures.{same_picture}
 use Rattle.jr_wall.specs.Decoded.{IsDecoded}
 use Rattle.jr_wall.proofs.writing.write_board.Goals as goal
 
--- the picture of a decoded board
+-- the image of a decoded board
 shows_first : (s : ScanValue) (n : ℕ) (b : BoardValue) → IsLawful s.head → IsDecoded s n b → IsPicture b.scan (marks_of b) (samples_of b) → ShowsFirst s n (marks_of b) (samples_of b)
 shows_first s n b lawful decoded picture = record { lawful = lawful; picture = same_picture b.scan s (marks_of b) (samples_of b) decoded.same picture; first = decoded.first }
 

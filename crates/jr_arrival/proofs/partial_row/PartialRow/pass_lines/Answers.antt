@@ -9,7 +9,7 @@ use Rattle.jr_arrival.proofs.Readings.{step_lines, step_row}
 use Rattle.jr_arrival.proofs.partial_row.PartialRow.pass_lines.Goals as goal
 use Rattle.jr_arrival.proofs.partial_row.PartialRow.pass_lines.Goals.{then-self-first-via-then-self-first, then-self-first-via-else-self-first+then-self-height}
 
--- so many lines behind those before
+-- n lines more are within the row
 abbrev Ends : ScanValue → PartialRowValue → ℕ → Type 0
 Ends s v n = v.lines + n ≤ first_line s.head v.row + line_count s.head v.row
 

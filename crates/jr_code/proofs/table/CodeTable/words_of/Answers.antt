@@ -6,7 +6,7 @@ use Rattle.jr_code.specs.Code.{Table, IsLawfulTable}
 use Rattle.jr_code.proofs.EntryLemmas.{slice_get-part, word_of, word_among, words_fit}
 use Rattle.jr_code.proofs.table.CodeTable.words_of.Goals as goal
 
--- the part of the symbols that belongs to one length has a symbol for each of its words
+-- the part of the symbols that belongs to one length has a symbol for each of its codes
 part_long : (t : Table) (i from count : ℕ) (symbols : List ℕ) → IsLawfulTable t.counts t.symbols → i < 16 → symbols ≡ t.symbols → from ≡ sum (take i t.counts) → count ≡ get_or t.counts i 0
     → (from ≤ length symbols) × (length (take (from + count - from) (drop from symbols)) ≡ count)
 part_long t i from count symbols lawful short same before many =

@@ -5,7 +5,7 @@ use Rattle.jr_crew.specs.RowBufferValue.{PaintedValue}
 use Rattle.jr_crew.specs.Crew.{HasRow, HoldsRow}
 use Rattle.jr_crew.proofs.row_queue.RowQueue.has.Goals as goal
 
--- the slot of a row holds it, where it holds a row of that number
+-- the slot of a row holds it if it holds a row of that number
 holds : (slots : List (Option PaintedValue)) (n row own : ℕ) (slot : Option PaintedValue) (p : PaintedValue) → 0 < length slots → n ≡ length slots → slot ≡ get_or slots (row % n) slot → slot ≡ Some p → own ≡ p.row → own ≡ row → HasRow slots row
 holds slots n row own slot p some long is there mine same =
     let inside : row % length slots < length slots = omega arith in

@@ -5,7 +5,7 @@ use Rattle.jr_crew.specs.RowBufferValue.{PaintedValue}
 use Rattle.jr_crew.specs.Crew.{HoldsRow}
 use Rattle.jr_crew.proofs.row_queue.RowQueue.take.Goals as goal
 
--- what a slot that holds a row has
+-- what a slot that holds a row contains
 held : (slot : Option (Option PaintedValue)) (row : ℕ) → HoldsRow slot row → (p : PaintedValue) × (slot ≡ Some (Some p)) × (p.row ≡ row)
 held None row holds = absurd holds
 held (Some None) row holds = absurd holds

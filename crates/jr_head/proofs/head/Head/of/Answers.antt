@@ -1,4 +1,4 @@
--- An accepted frame gives a lawful head.
+-- An accepted frame has a valid header.
 use Rattle.std.proofs.Common.{◌∙◌, ap}
 use Rattle.jr_segments.specs.Frames.{IsAccepted}
 use Rattle.jr_head.specs.Geometry.{AreLawful, order_from, greatest_across, greatest_down}

@@ -10,7 +10,7 @@ use Rattle.jr_rows.proofs.Lent.{all_back, front_kept, part_back}
 use Rattle.jr_rows.proofs.PaintedRows.{shows}
 use Rattle.jr_rows.proofs.alone.AloneRowPainter.paint.Goals as goal
 
--- the part that is lent is within the buffer, and as long as asked for
+-- the borrowed part is within the buffer, and of the requested length
 before_end : (from to size : ℕ) → to ≡ from + size → from ≤ to
 before_end from to size e = omega (arith, e)
 

@@ -99,7 +99,7 @@ at-reader-requires-clause-within c = (c.requires.at.next c.in-Some.place c.in-So
 pub at-reader-requires-clause-in_range : goal.at-reader-requires-clause-in_range
 at-reader-requires-clause-in_range c = (c.requires.at.next c.in-Some.place c.in-Some.is).1.can.1
 
--- how many MCUs a reader takes at most, and the blocks that they have
+-- the maximum number of MCUs that a reader reads, and the blocks that they have
 most_of : (r r' : McuReaderValue) (o : RunOf) (n : ℕ) → r.run ≡ o → r.mcu ≡ 0 → r'.run ≡ r.run → r'.mcu ≡ r.mcu + n → r'.mcu ≤ r'.run.mcus → n ≤ o.mcus
 most_of r r' o n run start on mcu few = let same = ap (λ (q : RunOf). q.mcus) (on ∙ run) in omega (arith, start, mcu, few, same)
 

@@ -26,7 +26,7 @@ use Rattle.jr_rows.proofs.PutMarks.{puts_both, puts_none}
 use Rattle.jr_rows.proofs.ReadRows.{counts_both, counts_none, gives_there, shown_more}
 use Rattle.jr_rows.proofs.cursor.Cursor.read_mcus.Goals as goal
 
--- some MCUs, as many as an interval has left and at most those that are still to be read
+-- the MCUs that an interval has left, at most those that are still to be read
 some_within : (some left mcus done : ℕ) → some ≡ min left (mcus - done) → done ≤ mcus → done + some ≤ mcus
 some_within some left mcus done e le = omega (arith, e, le)
 

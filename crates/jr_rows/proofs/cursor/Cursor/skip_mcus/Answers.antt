@@ -9,7 +9,7 @@ pub skip-requires-clause-same : goal.skip-requires-clause-same
 skip-requires-clause-same c =
     subst (λ (i : IntervalValue). IfSome c.of_interval-own.result (λ g. AreGuessesOf i g.now)) (sym c.interval_ref-interval.ensures) (c.of_interval-own.ensures c.args.scan.now c.requires.same)
 
--- some MCUs, as many as an interval has left and at most those that are still to be skipped
+-- the MCUs that an interval has left, at most those that are still to be skipped
 some_of : (some left rest : ℕ) → some ≡ min left rest → some ≤ rest
 some_of some left rest e = omega (arith, e)
 

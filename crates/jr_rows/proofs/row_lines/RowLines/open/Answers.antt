@@ -8,7 +8,7 @@ use Rattle.jr_rows.specs.Groups.{all_lines, groups_across}
 use Rattle.jr_rows.specs.RowLines.{IsStartOf}
 use Rattle.jr_rows.proofs.row_lines.RowLines.open.Goals as goal
 
--- one more start
+-- one more start is appended
 one_more : (h : HeadValue) (ps : List UnitStart) (p : UnitStart) (n : ℕ) → length ps ≡ n → ((j : ℕ) (d : UnitStart) → j < n → IsStartOf h j (slice_index_or ps j d)) → IsStartOf h n p
     → (j : ℕ) (d : UnitStart) → j < n + 1 → IsStartOf h j (slice_index_or (ps ++ p ∷ []) j d)
 one_more h ps p n long each next j d lt = elim (cases_lt j n) [

@@ -22,7 +22,7 @@ use Rattle.jr_rows.proofs.ReadRows.{counts_both, counts_none, shown_more}
 use Rattle.jr_rows.proofs.ShownUnits.{row_shown}
 use Rattle.jr_rows.proofs.rows.Rows.decode.Goals as goal
 
--- the blocks that are lent
+-- the borrowed blocks fit
 fits : (units at_once per most blocks long : ℕ) → units ≤ at_once * per → at_once ≡ most → per ≡ blocks → long ≡ most * blocks → units ≤ long
 fits units at_once per most blocks long within e is all = let whole = ap (λ (n : ℕ). n * per) e ∙ ap (λ (n : ℕ). most * n) is in omega (arith, within, whole, all)
 
@@ -124,7 +124,7 @@ returns-clause-units c =
     (subst (λ (k : ℕ). ShowsFirstUnits t n (coded_before h n row) k all) coded_is shows)
     (λ k le lt. blank k (omega (arith, le, ap (λ (m : ℕ). m * per) coded_is)) (omega (arith, lt, units_long h c.fill_blank.new.self.groups)))
 
--- where the cursor is once the row is decoded
+-- the position of the cursor after the row is decoded
 pub returns-clause-counts : goal.returns-clause-counts
 returns-clause-counts c =
     let t = c.args.part.now.scan in

@@ -6,7 +6,7 @@ use Rattle.jr_scan.specs.Run.{left_at, run_from, IsRun}
 use Rattle.jr_scan.proofs.McuReaders.{left_is, no_run}
 use Rattle.jr_scan.proofs.mcu_reader.McuReader.at.Goals as goal
 
--- the bits that are left tell the place
+-- the bits that are left determine the position
 pub invariant_of-result : goal.invariant_of-result
 invariant_of-result c =
     let i = c.args.interval in

@@ -28,7 +28,7 @@ fields_post scan items n p q b sound damaged more less k is for outcome none sam
 for_of : (s t : ScanValue) (p q : PieceValue) (r : Bool) → t ≡ s → q ≡ p → IsTrue r ↔ HasInterval t q.interval → r ≡ true → IsFor p.interval s
 for_of s t p q r scan piece is held = subst (λ (x : ScanValue). HasInterval x p.interval) scan (subst (λ (x : PieceValue). HasInterval t x.interval) piece (is.0 held))
 
--- nothing is held where nothing was read
+-- no piece is held if none was read
 none_is : {A : Type 0} (x : Option A) → is_some x ≡ false → x ≡ None
 none_is None e = refl
 none_is (Some a) e = absurd cc
