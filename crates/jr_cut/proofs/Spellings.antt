@@ -94,7 +94,7 @@ parts_few (p ∷ ps) = omega (arith, parts_few ps, some p, length-append (spelli
     some (Plain byte) = omega arith
     some (Stuffed more) = omega arith
 
--- the bytes are at least as many as the data
+-- the data have no more bytes than what spells them
 pub found_few : (raw found : List ℕ) → IsRaw raw found → length found ≤ length raw
 found_few raw found is = omega (arith, parts_few is.parts, ap length is.spelled, ap length is.means, length-map is.parts byte_spelled)
 

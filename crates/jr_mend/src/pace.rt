@@ -8,8 +8,8 @@ ghost use Rattle.jr_mend.specs.Resync.{after_due, first_pace, max_missing, pace_
 /// on average. With a further one more sectors of other files are taken for the image's.
 pub const MAX_EARLY: u64 = 1;
 
-/// The number of bytes before an interval whose markers are all due, by which it is sure to be in position: as many as
-/// a sector has. The markers in a sector of another file never make an interval sure.
+/// The size of a sector in bytes. An interval is sure to be in position if all markers in that many bytes before it
+/// are due. The markers in a sector of another file never make an interval sure.
 pub const SURE_BYTES: usize = 512;
 
 /// The progress in a scan since the last interval that is sure to be in position: the first, or one before which all
