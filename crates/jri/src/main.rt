@@ -5,19 +5,8 @@
 use jri_engine::{
     Ended, Mode, describe_request, many_request, program, program_for_headers, program_for_many,
 };
-use jri_words::{Machine, hold_streams};
-use std::env;
+use jri_words::{Machine, arguments, hold_streams};
 use std::io::Result as IoResult;
-use std::rt::Env;
-
-/// Returns the arguments after the program's name.
-fn words<R: Env + AllocGlobal>(rt: &R) -> IoResult<Vec<String>> {
-    let mut words = Vec::new(rt.alloc());
-    for word in env::args(rt)?.skip(1) {
-        words.push(word)?;
-    }
-    Ok(words)
-}
 
 /// Returns what the arguments ask for; one decoding if they are not text.
 fn mode_of(words: &IoResult<Vec<String>>) -> Mode {
@@ -32,7 +21,7 @@ fn main(rt: HostRuntime) -> Ended {
     let alloc = rt.alloc();
     let mut machine = Machine { rt: &rt };
     let mut errors = rt.stderr();
-    let words = words(&rt);
+    let words = arguments(&rt);
     match (mode_of(&words), words) {
         (Mode::DecodeEach, Ok(words)) => {
             let request = many_request(alloc, &words);

@@ -3,11 +3,12 @@
 ghost use Rattle.std.specs.Prelude.{◌≤◌, IfOk, length};
 ghost use Rattle.jr_mend.specs.declared.choice.TheConstants.{MAX_COPIES};
 
-use clap::error::ErrorKind;
-use clap::{Arg, ArgAction, ArgMatches, Command, Error};
+use clap::{Arg, ArgAction, ArgMatches, Command};
 use jr_base::VERSION;
 use jr_mend::MAX_COPIES;
-use jri_words::{Target, Unasked};
+use jri_words::{
+    Target, Unasked, flag_argument, refusal, resync_argument, strings_of, with_argument, wrong,
+};
 use std::alloc::{AllocError, Global};
 
 /// A request for a mended file.
@@ -49,7 +50,7 @@ const WRONG_COUNT: &str = "error: 2 to 64 copies are needed, or 1 with --resync\
 const STREAM: &str = "-";
 
 /// `-o FILE`.
-fn output_word<'a>(alloc: Global) -> Arg<'a> {
+fn output_argument<'a>(alloc: Global) -> Arg<'a> {
     Arg::new(alloc, "output")
         .short('o')
         .long("output")
@@ -58,16 +59,8 @@ fn output_word<'a>(alloc: Global) -> Arg<'a> {
         .help("Write the mended file to FILE; - is standard output")
 }
 
-/// Returns an argument without a value.
-fn flag_word<'a>(alloc: Global, name: &'a str, help: &'a str) -> Arg<'a> {
-    Arg::new(alloc, name)
-        .long(name)
-        .action(ArgAction::SetTrue)
-        .help(help)
-}
-
 /// `COPY COPY..`.
-fn copies_word<'a>(alloc: Global) -> Arg<'a> {
+fn copies_argument<'a>(alloc: Global) -> Arg<'a> {
     Arg::new(alloc, "copies")
         .action(ArgAction::Append)
         .num_args(1..)
@@ -78,49 +71,20 @@ fn copies_word<'a>(alloc: Global) -> Arg<'a> {
 
 /// `jri_mend [-o FILE] [--json] [--resync] [--borrow-headers] COPY COPY..`.
 fn command<'a>(alloc: Global) -> Result<Command<'a>, AllocError> {
-    Command::new(alloc, "jri_mend")
+    let command = Command::new(alloc, "jri_mend")
         .about("Mend a baseline JPEG file from damaged copies of it")
         .version(VERSION.trim_end())
         .after_help(AFTER_HELP)
-        .no_binary_name(true)
-        .arg(output_word(alloc))?
-        .arg(flag_word(alloc, "json", "Print the report as a JSON object"))?
-        .arg(flag_word(
-            alloc,
-            "resync",
-            "Read past restart markers that are out of step",
-        ))?
-        .arg(flag_word(
-            alloc,
-            "borrow-headers",
-            "Read copies with damaged headers under the header of another copy",
-        ))?
-        .arg(copies_word(alloc))
-}
-
-/// Returns the answer to arguments that the command line refuses.
-fn refusal(alloc: Global, error: &Error) -> Unasked {
-    if error.kind() == ErrorKind::OutOfMemory {
-        return Unasked::Memory;
-    }
-    match error.to_string(alloc) {
-        Ok(text) => match error.kind() {
-            ErrorKind::DisplayHelp | ErrorKind::DisplayVersion => Unasked::Help(text),
-            _ => Unasked::Wrong(text),
-        },
-        Err(_) => Unasked::Memory,
-    }
-}
-
-/// Returns the names of the copies.
-fn copies_in(alloc: Global, matches: &ArgMatches<'_>) -> Result<Vec<String>, AllocError> {
-    let mut copies = Vec::new(alloc);
-    if let Some(names) = matches.get_strs("copies") {
-        for name in names {
-            copies.push(String::from_str(alloc, name)?)?;
-        }
-    }
-    Ok(copies)
+        .no_binary_name(true);
+    let json = flag_argument(alloc, "json", "Print the report as a JSON object");
+    let borrow = flag_argument(
+        alloc,
+        "borrow-headers",
+        "Read copies with damaged headers under the header of another copy",
+    );
+    let command = with_argument(Ok(command), output_argument(alloc));
+    let command = with_argument(with_argument(command, json), resync_argument(alloc));
+    with_argument(with_argument(command, borrow), copies_argument(alloc))
 }
 
 /// Returns the destination of the mended file.
@@ -129,14 +93,6 @@ fn target_in(alloc: Global, matches: &ArgMatches<'_>) -> Result<Target, AllocErr
         Some(name) if name != STREAM => Ok(Target::File(String::from_str(alloc, name)?)),
         Some(_) => Ok(Target::AnyOutput),
         None => Ok(Target::Output),
-    }
-}
-
-/// Returns a text as that of wrong arguments.
-pub(crate) fn wrong(alloc: Global, text: &str) -> Unasked {
-    match String::from_str(alloc, text) {
-        Ok(text) => Unasked::Wrong(text),
-        Err(_) => Unasked::Memory,
     }
 }
 
@@ -150,7 +106,7 @@ pub(crate) fn asked(alloc: Global, words: &[String]) -> Result<MendRequest, Unas
         Ok(matches) => matches,
         Err(error) => return Err(refusal(alloc, &error)),
     };
-    let copies = copies_in(alloc, &matches)?;
+    let copies = strings_of(alloc, &matches, "copies")?;
     let target = target_in(alloc, &matches)?;
     let is_resync = matches.get_flag("resync");
     let fewest = if is_resync { 1 } else { 2 };

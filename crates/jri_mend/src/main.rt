@@ -14,24 +14,12 @@ mod runs;
 
 use crate::ended::Ended;
 use crate::running::program;
-use jri_words::{Machine, hold_streams};
-use std::env;
-use std::io::Result as IoResult;
-use std::rt::Env;
-
-/// Returns the arguments after the program's name.
-fn words<R: Env + AllocGlobal>(rt: &R) -> IoResult<Vec<String>> {
-    let mut words = Vec::new(rt.alloc());
-    for word in env::args(rt)?.skip(1) {
-        words.push(word)?;
-    }
-    Ok(words)
-}
+use jri_words::{Machine, arguments, hold_streams};
 
 fn main(rt: HostRuntime) -> Ended {
     let _held = hold_streams(&rt);
     let alloc = rt.alloc();
     let mut machine = Machine { rt: &rt };
     let mut errors = rt.stderr();
-    program(alloc, &mut machine, words(&rt), &mut errors)
+    program(alloc, &mut machine, arguments(&rt), &mut errors)
 }

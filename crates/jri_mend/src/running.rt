@@ -4,7 +4,7 @@ ghost use Rattle.std.specs.Prelude.{◌≡◌, ◌<◌, ◌≤◌, IfOk, is_ok, 
 ghost use Rattle.jr_mend.specs.declared.choice.TheConstants.{MAX_COPIES};
 ghost use Rattle.jri_words.specs.Steps.{LeavesFile};
 
-use crate::asking::{MendRequest, asked, wrong};
+use crate::asking::{MendRequest, asked};
 use crate::ended::Ended;
 use crate::preparing::{Prepared, prepare};
 use crate::reading::{CopyError, copies_of, read_files};
@@ -14,7 +14,7 @@ use jr_mend::{FileCopy, MendError, Mended, mend};
 use jr_picture::{Fault, Report};
 use jri_words::{
     Destination, Devices, Ending, Noted, Target, Unasked, answer, flushed, make_part, place,
-    unwritten,
+    unwritten, wrong,
 };
 use std::alloc::Global;
 use std::io::{ErrorKind, Result as IoResult, Write};

@@ -12,9 +12,9 @@ pub adds : (old : Command) (a : Arg) (new : Command) (app : App) (rule : Rule) �
 adds old a new app rule h local is_app is_rule = h.shape local ∙ ap₂ with_rule is_app is_rule
 
 -- an argument is added if all before it are
-pub adds_word : {E : Type 0} (old new : Result Command E) (a : Arg) (app : App) (rule : Rule) → ((app : App) → a.global ≡ false → IfOk old (λ c. app_of c ≡ app) → IfOk new (λ c. app_of c ≡ with_rule app (rule_of a)))
+pub adds_argument : {E : Type 0} (old new : Result Command E) (a : Arg) (app : App) (rule : Rule) → ((app : App) → a.global ≡ false → IfOk old (λ c. app_of c ≡ app) → IfOk new (λ c. app_of c ≡ with_rule app (rule_of a)))
     → a.global ≡ false → rule_of a ≡ rule → IfOk old (λ c. app_of c ≡ app) → IfOk new (λ c. app_of c ≡ with_rule app rule)
-adds_word old new a app rule h local is_rule is_app = subst (λ (r : Rule). IfOk new (λ c. app_of c ≡ with_rule app r)) is_rule (h app local is_app)
+adds_argument old new a app rule h local is_rule is_app = subst (λ (r : Rule). IfOk new (λ c. app_of c ≡ with_rule app r)) is_rule (h app local is_app)
 
 is_simple_jri : is_simple jri ≡ true
 unfolding clap_on_literals

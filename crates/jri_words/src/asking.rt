@@ -15,7 +15,7 @@ use jr_base::limits::MAX_WORKERS;
 use std::alloc::{AllocError, Global};
 
 /// `--workers N`.
-pub(crate) fn workers_word<'a>(alloc: Global) -> Arg<'a>
+pub(crate) fn workers_argument<'a>(alloc: Global) -> Arg<'a>
     ensures rule { rule_of result ≡ workers_rule }
     ensures local { result.global ≡ false }
 {
@@ -29,7 +29,7 @@ pub(crate) fn workers_word<'a>(alloc: Global) -> Arg<'a>
 }
 
 /// `--first K`.
-pub(crate) fn first_word<'a>(alloc: Global) -> Arg<'a>
+pub(crate) fn first_argument<'a>(alloc: Global) -> Arg<'a>
     ensures rule { rule_of result ≡ first_rule }
     ensures local { result.global ≡ false }
 {
@@ -42,11 +42,11 @@ pub(crate) fn first_word<'a>(alloc: Global) -> Arg<'a>
 }
 
 /// `--resync`.
-pub(crate) fn resync_word<'a>(alloc: Global) -> Arg<'a>
+pub fn resync_argument<'a>(alloc: Global) -> Arg<'a>
     ensures rule { rule_of result ≡ flag_rule (codes "resync") }
     ensures local { result.global ≡ false }
 {
-    flag_word(
+    flag_argument(
         alloc,
         "resync",
         "Read past restart markers that are out of step",
@@ -54,7 +54,7 @@ pub(crate) fn resync_word<'a>(alloc: Global) -> Arg<'a>
 }
 
 /// `FILE`.
-fn file_word<'a>(alloc: Global) -> Arg<'a>
+fn file_argument<'a>(alloc: Global) -> Arg<'a>
     ensures rule { rule_of result ≡ file_rule }
     ensures local { result.global ≡ false }
 {
@@ -65,7 +65,7 @@ fn file_word<'a>(alloc: Global) -> Arg<'a>
 }
 
 /// `-o PICTURE`.
-fn output_word<'a>(alloc: Global) -> Arg<'a>
+fn output_argument<'a>(alloc: Global) -> Arg<'a>
     ensures rule { rule_of result ≡ output_rule }
     ensures local { result.global ≡ false }
 {
@@ -78,7 +78,7 @@ fn output_word<'a>(alloc: Global) -> Arg<'a>
 }
 
 /// Returns an argument without a value.
-pub(crate) fn flag_word<'a>(alloc: Global, name: &'a str, help: &'a str) -> Arg<'a>
+pub fn flag_argument<'a>(alloc: Global, name: &'a str, help: &'a str) -> Arg<'a>
     ensures rule { rule_of result ≡ flag_rule name.now }
     ensures local { result.global ≡ false }
 {
@@ -89,49 +89,49 @@ pub(crate) fn flag_word<'a>(alloc: Global, name: &'a str, help: &'a str) -> Arg<
 }
 
 /// Adds an argument to a command, unless an earlier one could not be added.
-pub(crate) fn with_word<'a>(
+pub fn with_argument<'a>(
     command: Result<Command<'a>, AllocError>,
-    word: Arg<'a>,
+    argument: Arg<'a>,
 ) -> Result<Command<'a>, AllocError>
-    ensures { (app : App) → word.entry.global ≡ false → IfOk command.entry (λ c. app_of c ≡ app) → IfOk result (λ c. app_of c ≡ with_rule app (rule_of word.entry)) }
+    ensures { (app : App) → argument.entry.global ≡ false → IfOk command.entry (λ c. app_of c ≡ app) → IfOk result (λ c. app_of c ≡ with_rule app (rule_of argument.entry)) }
 {
     match command {
-        Ok(command) => command.arg(word),
+        Ok(command) => command.arg(argument),
         Err(refused) => Err(refused),
     }
 }
 
 /// Adds the arguments that say what is decoded.
-fn with_decoding_words<'a>(
+fn with_decoding_arguments<'a>(
     alloc: Global,
     command: Result<Command<'a>, AllocError>,
 ) -> Result<Command<'a>, AllocError>
     ensures { (app : App) → IfOk command.entry (λ c. app_of c ≡ app) → IfOk result (λ c. app_of c ≡ decoding_app app) }
 {
-    let with_workers = with_word(command, workers_word(alloc));
-    let with_first = with_word(with_workers, first_word(alloc));
-    let with_resync = with_word(with_first, resync_word(alloc));
-    with_word(with_resync, file_word(alloc))
+    let with_workers = with_argument(command, workers_argument(alloc));
+    let with_first = with_argument(with_workers, first_argument(alloc));
+    let with_resync = with_argument(with_first, resync_argument(alloc));
+    with_argument(with_resync, file_argument(alloc))
 }
 
 /// Adds the arguments that say where the image goes, and what is reported on standard error.
-fn with_writing_words<'a>(
+fn with_writing_arguments<'a>(
     alloc: Global,
     command: Result<Command<'a>, AllocError>,
 ) -> Result<Command<'a>, AllocError>
     ensures { (app : App) → IfOk command.entry (λ c. app_of c ≡ app) → IfOk result (λ c. app_of c ≡ writing_app app) }
 {
-    let force = flag_word(alloc, "force", "Write the image even to a terminal");
-    let quiet = flag_word(alloc, "quiet", "Do not print the report");
-    let verbose = flag_word(
+    let force = flag_argument(alloc, "force", "Write the image even to a terminal");
+    let quiet = flag_argument(alloc, "quiet", "Do not print the report");
+    let verbose = flag_argument(
         alloc,
         "verbose",
         "Add the file name and the system error to each line",
     );
-    let with_output = with_word(command, output_word(alloc));
-    let with_force = with_word(with_output, force);
-    let with_quiet = with_word(with_force, quiet);
-    with_word(with_quiet, verbose)
+    let with_output = with_argument(command, output_argument(alloc));
+    let with_force = with_argument(with_output, force);
+    let with_quiet = with_argument(with_force, quiet);
+    with_argument(with_quiet, verbose)
 }
 
 /// `jri [--workers N] [--first K] [--resync] [-o PICTURE] [--force] [--quiet] [--verbose] [FILE]`.
@@ -143,10 +143,11 @@ fn command<'a>(alloc: Global) -> Result<Command<'a>, AllocError>
         .version(VERSION.trim_end())
         .after_help(AFTER_HELP)
         .no_binary_name(true);
-    with_writing_words(alloc, with_decoding_words(alloc, Ok(command)))
+    with_writing_arguments(alloc, with_decoding_arguments(alloc, Ok(command)))
 }
 
-pub(crate) fn refusal(alloc: Global, error: &Error) -> Unasked {
+/// Returns the answer to arguments that the command line refuses: the help or the version if they ask for it.
+pub fn refusal(alloc: Global, error: &Error) -> Unasked {
     if error.kind() == ErrorKind::OutOfMemory {
         return Unasked::Memory;
     }
@@ -160,7 +161,7 @@ pub(crate) fn refusal(alloc: Global, error: &Error) -> Unasked {
 }
 
 /// Returns the values of an argument that may have several.
-pub(crate) fn strings_of(
+pub fn strings_of(
     alloc: Global,
     matches: &ArgMatches<'_>,
     name: &str,

@@ -1,7 +1,7 @@
 //! The arguments of `jri --info`.
 
 use crate::answers::Unasked;
-use crate::asking::{flag_word, refusal, strings_of, with_word};
+use crate::asking::{flag_argument, refusal, strings_of, with_argument};
 use clap::{Arg, ArgAction, ArgMatches, Command};
 use jr_base::VERSION;
 use std::alloc::{AllocError, Global};
@@ -16,7 +16,7 @@ pub struct DescribeRequest {
 }
 
 /// `FILE..`.
-pub(crate) fn files_word<'a>(alloc: Global) -> Arg<'a> {
+pub(crate) fn files_argument<'a>(alloc: Global) -> Arg<'a> {
     Arg::new(alloc, "files")
         .action(ArgAction::Append)
         .num_args(1..)
@@ -31,10 +31,10 @@ fn command<'a>(alloc: Global) -> Result<Command<'a>, AllocError> {
         .about("Print what the headers of JPEG files say, and decode nothing")
         .version(VERSION.trim_end())
         .no_binary_name(true);
-    let info = flag_word(alloc, "info", "Describe files");
-    let json = flag_word(alloc, "json", "Print each line as a JSON object");
-    let command = with_word(with_word(Ok(command), info), json);
-    with_word(command, files_word(alloc))
+    let info = flag_argument(alloc, "info", "Describe files");
+    let json = flag_argument(alloc, "json", "Print each line as a JSON object");
+    let command = with_argument(with_argument(Ok(command), info), json);
+    with_argument(command, files_argument(alloc))
 }
 
 /// Returns what parsed arguments ask for.

@@ -18,15 +18,17 @@ mod placing;
 mod quality;
 
 pub use answers::{Asked, DecodeRequest, Target, Unasked, Verbosity};
-pub use asking::{asked, decode_request};
+pub use asking::{
+    asked, decode_request, flag_argument, refusal, resync_argument, strings_of, with_argument,
+};
 pub use describing::{DescribeRequest, describe_request};
 pub use devices::{Destination, Devices, Noted, Source};
 pub use ending::{Ending, Names, report_breaks, report_ending};
 pub use finishing::{finish, flushed};
 pub use head_line::describe;
-pub use machine::{Machine, hold_streams};
+pub use machine::{Machine, arguments, hold_streams};
 pub use many::{ManyRequest, image_name, many_request};
 pub use modes::Mode;
-pub use opening::{answer, opened, understood, warn_of_name};
+pub use opening::{answer, opened, understood, warn_of_name, wrong};
 pub use placing::{Part, make_part, place, unwritten};
 pub use quality::quality_of;

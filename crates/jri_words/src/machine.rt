@@ -5,9 +5,9 @@ use std::fs::{File, Metadata, OpenOptions};
 use std::io::{IsTerminal, Read, Result as IoResult, Stdin, Stdout, Write};
 use std::os::fd::AsRawFd;
 use std::os::unix::fs::{MetadataExt, OpenOptionsExt};
-use std::rt::Files;
+use std::rt::{Env, Files};
 use std::time::{SystemTime, UNIX_EPOCH};
-use std::{fs, process};
+use std::{env, fs, process};
 
 /// The name under which a system shows standard input.
 const STANDARD_INPUT: &str = "/dev/stdin";
@@ -39,6 +39,15 @@ fn held_stream(rt: &HostRuntime) -> Option<File> {
 /// Takes the numbers of all standard streams that are closed, so that no file that the program opens gets one of them.
 pub fn hold_streams(rt: &HostRuntime) -> [Option<File>; 3] {
     [held_stream(rt), held_stream(rt), held_stream(rt)]
+}
+
+/// Returns the arguments after the program's name.
+pub fn arguments<R: Env + AllocGlobal>(rt: &R) -> IoResult<Vec<String>> {
+    let mut words = Vec::new(rt.alloc());
+    for word in env::args(rt)?.skip(1) {
+        words.push(word)?;
+    }
+    Ok(words)
 }
 
 /// An open file, or a part of an image, which flushing writes to the disk.

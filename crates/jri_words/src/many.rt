@@ -7,9 +7,10 @@ ghost use Rattle.jri_words.specs.Steps.{IsInDirectory};
 
 use crate::answers::Unasked;
 use crate::asking::{
-    first_word, flag_word, refusal, resync_word, strings_of, with_word, workers_of, workers_word,
+    first_argument, flag_argument, refusal, resync_argument, strings_of, with_argument,
+    workers_argument, workers_of,
 };
-use crate::describing::files_word;
+use crate::describing::files_argument;
 use crate::opening::wrong;
 use clap::{Arg, ArgAction, ArgMatches, Command};
 use jr_base::VERSION;
@@ -33,7 +34,7 @@ pub struct ManyRequest {
 }
 
 /// `--output-dir DIR`.
-fn directory_word<'a>(alloc: Global) -> Arg<'a> {
+fn directory_argument<'a>(alloc: Global) -> Arg<'a> {
     Arg::new(alloc, "output-dir")
         .long("output-dir")
         .action(ArgAction::Set)
@@ -48,12 +49,12 @@ fn command<'a>(alloc: Global) -> Result<Command<'a>, AllocError> {
         .about("Decode baseline JPEG files to Netpbm images in a directory")
         .version(VERSION.trim_end())
         .no_binary_name(true);
-    let quiet = flag_word(alloc, "quiet", "Do not print the reports");
-    let command = with_word(Ok(command), directory_word(alloc));
-    let command = with_word(command, workers_word(alloc));
-    let command = with_word(command, first_word(alloc));
-    let command = with_word(command, resync_word(alloc));
-    with_word(with_word(command, quiet), files_word(alloc))
+    let quiet = flag_argument(alloc, "quiet", "Do not print the reports");
+    let command = with_argument(Ok(command), directory_argument(alloc));
+    let command = with_argument(command, workers_argument(alloc));
+    let command = with_argument(command, first_argument(alloc));
+    let command = with_argument(command, resync_argument(alloc));
+    with_argument(with_argument(command, quiet), files_argument(alloc))
 }
 
 /// The name of standard input, which has no name for its image.

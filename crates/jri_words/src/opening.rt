@@ -38,7 +38,7 @@ const OTHER_ENDING: &str =
 const OTHER_ENDINGS: [&str; 8] = ["png", "jpg", "jpeg", "gif", "webp", "tif", "tiff", "bmp"];
 
 /// Returns a text as that of wrong arguments.
-pub(crate) fn wrong(alloc: Global, text: &str) -> Unasked {
+pub fn wrong(alloc: Global, text: &str) -> Unasked {
     match String::from_str(alloc, text) {
         Ok(text) => Unasked::Wrong(text),
         Err(_) => Unasked::Memory,
