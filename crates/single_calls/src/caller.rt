@@ -18,20 +18,21 @@ pub(crate) struct Caller<'a> {
     pub errors: Stderr,
 }
 
+/// Returns the scan of a file, if it has one.
+pub(crate) fn scan_of(alloc: Global, file: &[u8]) -> Option<Arc<Scan>> {
+    let head = read_head(alloc, file).ok()?;
+    match Scan::cut(alloc, head, file) {
+        Ok(scan) => Arc::new(alloc, scan).ok(),
+        Err(_) => None,
+    }
+}
+
 impl<'a> Caller<'a> {
     pub(crate) fn of(alloc: Global, file: &'a [u8], errors: Stderr) -> Option<Caller<'a>> {
         if file.len() > 1000 {
             return None;
         }
-        let Ok(head) = read_head(alloc, file) else {
-            return None;
-        };
-        let Ok(scan) = Scan::cut(alloc, head, file) else {
-            return None;
-        };
-        let Ok(scan) = Arc::new(alloc, scan) else {
-            return None;
-        };
+        let scan = scan_of(alloc, file)?;
         Some(Caller {
             alloc,
             file,

@@ -76,15 +76,10 @@ impl<'a> Caller<'a> {
     }
 
     pub(crate) fn cut(&mut self) -> Option<bool> {
-        let file = self.file;
-        if file.len() > 1000 {
-            return Some(false);
-        }
-        let Ok(head) = read_head(self.alloc, file) else {
-            return None;
-        };
+        let (alloc, file) = (self.alloc, self.file);
+        let head = read_head(alloc, file).ok()?;
         self.begin();
-        let answer = Scan::cut(self.alloc, head, file);
+        let answer = Scan::cut(alloc, head, file);
         self.end();
         match answer {
             Ok(again) => Some(self.is_cut(&again)),
@@ -93,18 +88,11 @@ impl<'a> Caller<'a> {
     }
 
     pub(crate) fn cut_in_place(&mut self) -> Option<bool> {
-        let file = self.file;
-        if file.len() > 1000 {
-            return Some(false);
-        }
-        let Ok(head) = read_head(self.alloc, file) else {
-            return None;
-        };
-        let Ok(bytes) = file.to_vec(self.alloc) else {
-            return None;
-        };
+        let alloc = self.alloc;
+        let head = read_head(alloc, self.file).ok()?;
+        let bytes = self.file.to_vec(alloc).ok()?;
         self.begin();
-        let answer = Scan::cut_in_place(self.alloc, head, bytes);
+        let answer = Scan::cut_in_place(alloc, head, bytes);
         self.end();
         match answer {
             Ok(again) => Some(self.is_cut(&again)),

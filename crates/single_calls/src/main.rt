@@ -25,56 +25,58 @@ mod strips;
 mod times;
 mod writing;
 
-use caller::Caller;
+use caller::{Caller, scan_of};
 use guesses::{guess_counts, tell_guesses};
+use jr_scan::Scan;
 use std::io::Write;
 use std::process::ExitCode;
-use std::sync::Wait;
+use std::sync::{Arc, Wait};
 use std::thread::Threads;
 use std::time::Clock;
 use std::{env, fs};
-use times::{least_times, scan_of};
+use times::least_times;
 
-/// A call, and whether it is right; `None` if it reports that allocation fails.
-type Outcome = (&'static str, Option<bool>);
-
-/// Makes each call.
-fn make_calls<R: Threads + Wait + Sync>(rt: &R, caller: &mut Caller<'_>) -> [Outcome; 21] {
-    [
-        ("Interval::read", caller.read(0)),
-        ("Interval::read, damaged", caller.read(1)),
-        ("Piece::make", caller.make_piece(0)),
-        ("Piece::make, damaged", caller.make_piece(1)),
-        ("StripReader::next", caller.read_strip()),
-        ("CodedStrip::decode", caller.decode_strip()),
-        ("Scan::cut", caller.cut()),
-        ("Scan::cut_in_place", caller.cut_in_place()),
-        ("Board::new", caller.open_board()),
-        ("Desk::open", caller.open_desk()),
-        ("Cells::open", caller.open_cells()),
-        ("Cells::sight", caller.open_sight()),
-        ("Cells::hang", caller.hang()),
-        ("StripCells::open", caller.open_strip_cells()),
-        ("StripCells::sight", caller.open_strip_sight()),
-        ("StripCells::hang", caller.hang_strip()),
-        ("Decoding::open", caller.open_decoding()),
-        ("Decoding::finish", caller.finish_decoding()),
-        ("write_scan", caller.write()),
-        ("write_scan_by", caller.write_by(rt)),
-        ("paint_scan_lines", caller.paint_lines()),
-    ]
+/// Reports whether a call is right; `None` if it reports that allocation fails.
+fn tell<W: Write>(out: &mut W, name: &str, outcome: Option<bool>) {
+    let text = match outcome {
+        Some(true) => "right",
+        Some(false) => "wrong",
+        None => "out of memory",
+    };
+    let _ = writeln!(out, "{name}: {text}");
 }
 
-/// Reports the outcomes of calls.
-fn tell<W: Write>(out: &mut W, outcomes: &[Outcome]) {
-    for (name, outcome) in outcomes {
-        let text = match outcome {
-            Some(true) => "right",
-            Some(false) => "wrong",
-            None => "out of memory",
-        };
-        let _ = writeln!(out, "{name}: {text}");
-    }
+/// Makes each call on an interval or a scan, and reports what came of it.
+fn tell_of_scan<W: Write>(out: &mut W, caller: &mut Caller<'_>) {
+    tell(out, "Interval::read", caller.read(0));
+    tell(out, "Interval::read, damaged", caller.read(1));
+    tell(out, "Piece::make", caller.make_piece(0));
+    tell(out, "Piece::make, damaged", caller.make_piece(1));
+    tell(out, "StripReader::next", caller.read_strip());
+    tell(out, "CodedStrip::decode", caller.decode_strip());
+    tell(out, "Scan::cut", caller.cut());
+    tell(out, "Scan::cut_in_place", caller.cut_in_place());
+}
+
+/// Makes each call on a board or on cells, and reports what came of it.
+fn tell_of_cells<W: Write>(out: &mut W, caller: &mut Caller<'_>) {
+    tell(out, "Board::new", caller.open_board());
+    tell(out, "Desk::open", caller.open_desk());
+    tell(out, "Cells::open", caller.open_cells());
+    tell(out, "Cells::sight", caller.open_sight());
+    tell(out, "Cells::hang", caller.hang());
+    tell(out, "StripCells::open", caller.open_strip_cells());
+    tell(out, "StripCells::sight", caller.open_strip_sight());
+    tell(out, "StripCells::hang", caller.hang_strip());
+}
+
+/// Makes each call that decodes the file, and reports what came of it.
+fn tell_of_file<R: Threads + Wait + Sync, W: Write>(rt: &R, out: &mut W, caller: &mut Caller<'_>) {
+    tell(out, "Decoding::open", caller.open_decoding());
+    tell(out, "Decoding::finish", caller.finish_decoding());
+    tell(out, "write_scan", caller.write());
+    tell(out, "write_scan_by", caller.write_by(rt));
+    tell(out, "paint_scan_lines", caller.paint_lines());
 }
 
 /// What is done with the arguments after one that names it.
@@ -96,13 +98,19 @@ fn task_of(word: &str) -> Option<Task> {
     }
 }
 
+/// Returns the scan of the file of that name, if there is one.
+fn scan_at(rt: &HostRuntime, name: &str) -> Option<Arc<Scan>> {
+    let file = fs::read(rt, name).ok()?;
+    scan_of(rt.alloc(), file.as_slice())
+}
+
 /// Reports the times of a file's decoding. `None` if there is no such file, or memory or a thread is refused.
 fn tell_times_of<R: Threads + Wait + Clock + Sync>(
     rt: &HostRuntime,
     threads: &R,
     name: &str,
 ) -> Option<()> {
-    let scan = scan_of(rt, name)?;
+    let scan = scan_at(rt, name)?;
     let times = least_times(threads, rt.alloc(), &scan)?;
     times::tell(&mut rt.stdout(), &times);
     Some(())
@@ -110,7 +118,7 @@ fn tell_times_of<R: Threads + Wait + Clock + Sync>(
 
 /// Reports the use of speculative reads of a file. `None` if there is no such file, or allocation fails.
 fn tell_guesses_of(rt: &HostRuntime, name: &str) -> Option<()> {
-    let scan = scan_of(rt, name)?;
+    let scan = scan_at(rt, name)?;
     let counts = guess_counts(rt.alloc(), &scan)?;
     tell_guesses(&mut rt.stdout(), &counts);
     Some(())
@@ -124,8 +132,10 @@ fn tell_calls_on<R: Threads + Wait + Sync>(
 ) -> Option<()> {
     let file = fs::read(rt, name).ok()?;
     let mut caller = Caller::of(rt.alloc(), file.as_slice(), rt.stderr())?;
-    let outcomes = make_calls(threads, &mut caller);
-    tell(&mut rt.stdout(), &outcomes);
+    let mut out = rt.stdout();
+    tell_of_scan(&mut out, &mut caller);
+    tell_of_cells(&mut out, &mut caller);
+    tell_of_file(threads, &mut out, &mut caller);
     Some(())
 }
 

@@ -13,6 +13,7 @@ use jr_scan::Scan;
 use jr_segments::Refusal;
 use std::alloc::{AllocError, Global};
 use std::io::{Error, Read, Write};
+use std::mem::replace;
 
 /// The maximum number of bytes that may be read at once.
 const MAX_PART: usize = 1 << 30;
@@ -24,7 +25,7 @@ const MOST_LINES: u32 = 65_536;
 #[derive(Clone, Copy)]
 enum Failure {
     Stream,
-    Memory,
+    /// The file is refused, or allocation fails.
     Refused(Refusal),
 }
 
@@ -36,22 +37,19 @@ impl From<Error> for Failure {
 
 impl From<AllocError> for Failure {
     fn from(_refused: AllocError) -> Self {
-        Failure::Memory
+        Failure::Refused(Refusal::Memory)
     }
 }
 
 impl From<Memory> for Failure {
     fn from(_refused: Memory) -> Self {
-        Failure::Memory
+        Failure::Refused(Refusal::Memory)
     }
 }
 
 impl From<Refusal> for Failure {
     fn from(refusal: Refusal) -> Self {
-        match refusal {
-            Refusal::Memory => Failure::Memory,
-            _ => Failure::Refused(refusal),
-        }
+        Failure::Refused(refusal)
     }
 }
 
@@ -73,7 +71,7 @@ fn write_header<W: Write>(
 ) -> Result<(), Failure> {
     let shape = shape_of(head);
     let lines = (shape.deep as usize).saturating_mul(shape.line);
-    *pixels = vec![in alloc; 0; lines.max(HEADER_ROOM)]?;
+    drop(replace(pixels, vec![in alloc; 0; lines.max(HEADER_ROOM)]?));
     let filled = put_header(head, pixels.as_mut_slice());
     Ok(out.write_all(&pixels[..filled])?)
 }
@@ -214,20 +212,15 @@ fn report<E: Write>(errors: &mut E, counts: &Counts) -> u8 {
 }
 
 /// Reports why there is no image, or no whole one, and returns the exit status.
-fn tell<E: Write>(errors: &mut E, failure: &Failure) -> u8 {
+fn tell<E: Write>(errors: &mut E, failure: Failure) -> u8 {
+    let _ = match failure {
+        Failure::Stream => writeln!(errors, "a stream failed"),
+        Failure::Refused(Refusal::Memory) => writeln!(errors, "out of memory"),
+        Failure::Refused(refusal) => writeln!(errors, "refused {}: {refusal}", refusal.number()),
+    };
     match failure {
-        Failure::Stream => {
-            let _ = writeln!(errors, "a stream failed");
-            1
-        }
-        Failure::Memory => {
-            let _ = writeln!(errors, "out of memory");
-            1
-        }
-        Failure::Refused(refusal) => {
-            let _ = writeln!(errors, "refused {}: {refusal}", refusal.number());
-            2
-        }
+        Failure::Stream | Failure::Refused(Refusal::Memory) => 1,
+        Failure::Refused(_) => 2,
     }
 }
 
@@ -242,6 +235,6 @@ pub(crate) fn show_input(rt: &HostRuntime, word: &str) -> u8 {
     };
     match show(rt.alloc(), part, &mut rt.stdin(), &mut out) {
         Ok(counts) => report(&mut errors, &counts),
-        Err(failure) => tell(&mut errors, &failure),
+        Err(failure) => tell(&mut errors, failure),
     }
 }

@@ -1,11 +1,9 @@
 //! The time that `decode_all` takes with several numbers of workers.
 
 use jr_base::limits::MAX_WORKERS;
-use jr_head::read_head;
 use jr_scan::Scan;
 use jr_wall::{Board, OpenGate, decode_all};
 use std::alloc::Global;
-use std::fs;
 use std::io::Write;
 use std::sync::{Arc, Wait};
 use std::thread::Threads;
@@ -19,20 +17,6 @@ const WORKERS: [u32; NUMBERS] = [1, 2, 4];
 
 /// The number of times that each number of workers decodes a file.
 const TURNS: u32 = 9;
-
-/// Returns the scan of the file of that name, if there is one.
-pub(crate) fn scan_of(rt: &HostRuntime, name: &str) -> Option<Arc<Scan>> {
-    let Ok(file) = fs::read(rt, name) else {
-        return None;
-    };
-    let Ok(head) = read_head(rt.alloc(), file.as_slice()) else {
-        return None;
-    };
-    match Scan::cut(rt.alloc(), head, file.as_slice()) {
-        Ok(scan) => Arc::new(rt.alloc(), scan).ok(),
-        Err(_) => None,
-    }
-}
 
 /// Decodes a scan with the given number of workers, of which there are 1 to 64.
 fn decode<R: Threads + Wait + Sync>(
