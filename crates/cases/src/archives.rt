@@ -1,23 +1,26 @@
 //! Runs of `jri_check`'s program over a directory of memory: its lines and its exit status, with several numbers of workers.
 
-use crate::commands::{compare_field, file_of};
-use crate::differences::{Differences, Subject, compare_numbers};
-use crate::failure::Failure;
-use crate::row::field;
+use crate::case::Case;
+use crate::commands::{compare_field, named_by};
+use crate::differences::Differences;
+use crate::row::{field, part};
+use crate::texts::put_check_lines;
 use jri_archive::{
     Entry, EntryKind, Folder, Lists, NoProgress, ReadError, StateError, Streams, program,
 };
 use std::alloc::Global;
 use std::io::{Cursor, Error, ErrorKind, Result as IoResult, Write};
-use std::sync::{Mutex, Wait};
+use std::sync::Wait;
 use std::thread::Threads;
 use test_files::error::NotationError;
 use test_files::files::file;
 
-/// The files and directories of a table, two files that are not read, and lists and state files.
-#[derive(Drop)]
+/// The files and directories of a table and a further file, two files that are not read, and lists and state files.
+#[derive(Clone, Copy)]
 struct Shelf<'a> {
     table: &'a str,
+    name: &'a str,
+    bytes: &'a [u8],
 }
 
 /// Returns the bytes of a word: those of the hexadecimal digits after `%`, or its text.
@@ -28,58 +31,61 @@ fn bytes_of(alloc: Global, word: &str) -> Result<Vec<u8>, NotationError> {
     }
 }
 
-/// Returns the entries of a directory: a name that ends in `/` is a directory's, and one in digits is not UTF-8.
+/// Returns the entry of a name: one that ends in `/` is a directory's, and one in digits is not UTF-8.
+fn entry_of(alloc: Global, word: &str) -> Result<Entry, NotationError> {
+    let (word, kind) = match word.strip_suffix('/') {
+        Some(folder) => (folder, EntryKind::Folder),
+        None if word.starts_with('%') => (word, EntryKind::Unread(ReadError::NameIsNoText)),
+        None => (word, EntryKind::File),
+    };
+    let name = bytes_of(alloc, word)?;
+    Ok(Entry { name, kind })
+}
+
+/// Returns the entries of a directory.
 fn entries_of(alloc: Global, names: &str) -> Result<Vec<Entry>, NotationError> {
     let mut entries = Vec::new(alloc);
     for word in names.split_whitespace() {
-        let (word, kind) = match word.strip_suffix('/') {
-            Some(folder) => (folder, EntryKind::Folder),
-            None if word.starts_with('%') => (word, EntryKind::Unread(ReadError::NameIsNoText)),
-            None => (word, EntryKind::File),
-        };
-        let name = bytes_of(alloc, word)?;
-        entries.push(Entry { name, kind })?;
+        entries.push(entry_of(alloc, word)?)?;
     }
     Ok(entries)
 }
 
-/// Returns the name of a directory in a line of the table, and the names in it.
-fn directory_of(line: &str) -> Option<(&str, &str)> {
-    line.strip_prefix("/ ")?.split_once(" | ")
+impl<'a> Shelf<'a> {
+    /// Returns what the table's line with this sign and name gives.
+    fn find(&self, sign: char, name: &str) -> Option<&'a str> {
+        for line in self.table.lines() {
+            if let Some((found, content)) = named_by(line, sign)
+                && found == name
+            {
+                return Some(content);
+            }
+        }
+        None
+    }
 }
 
 impl Folder for Shelf<'_> {
     fn read(&self, alloc: Global, name: &str) -> Result<Vec<u8>, ReadError> {
-        match name {
-            "shut" => return Err(ReadError::NotAllowed),
-            "fifo" => return Err(ReadError::NotRegular),
-            _ => {}
+        if name == self.name {
+            return self.bytes.to_vec(alloc).or(Err(ReadError::Memory));
         }
-        for line in self.table.lines() {
-            if let Some((found, words)) = file_of(line)
-                && found == name
-            {
-                return match file(alloc, words) {
-                    Ok(bytes) => Ok(bytes),
-                    Err(_) => Err(ReadError::Memory),
-                };
-            }
+        match (name, self.find('=', name)) {
+            ("shut", _) => Err(ReadError::NotAllowed),
+            ("fifo", _) => Err(ReadError::NotRegular),
+            (_, Some(words)) => file(alloc, words).or(Err(ReadError::Memory)),
+            (_, None) => Err(ReadError::NotFound),
         }
-        Err(ReadError::NotFound)
     }
 
     fn entries(&self, alloc: Global, name: &str) -> Result<Option<Vec<Entry>>, ReadError> {
-        for line in self.table.lines() {
-            if let Some((found, names)) = directory_of(line)
-                && found == name
-            {
-                return match entries_of(alloc, names) {
-                    Ok(entries) => Ok(Some(entries)),
-                    Err(_) => Err(ReadError::Memory),
-                };
-            }
+        let Some(names) = self.find('/', name) else {
+            return Ok(None);
+        };
+        match entries_of(alloc, names) {
+            Ok(entries) => Ok(Some(entries)),
+            Err(_) => Err(ReadError::Memory),
         }
-        Ok(None)
     }
 }
 
@@ -118,23 +124,21 @@ impl Lists for Shelf<'_> {
 
 /// An output with space for a number of bytes. A bar follows each write that does not end with a line.
 #[derive(Drop)]
-struct Stream<'a, R> {
-    rt: &'a R,
-    bytes: &'a Mutex<Vec<u8>>,
+struct Stream<'a> {
+    bytes: &'a mut Vec<u8>,
     room: usize,
     refusal: ErrorKind,
 }
 
-impl<'a, R: Wait> Write for Stream<'a, R> {
+impl Write for Stream<'_> {
     fn write(&mut self, bytes: &[u8]) -> IoResult<usize> {
         if self.room < bytes.len() {
             return Err(Error::from(self.refusal));
         }
         self.room -= bytes.len();
-        let mut all = self.bytes.lock(self.rt);
-        all.extend_from_slice(bytes)?;
+        self.bytes.extend_from_slice(bytes)?;
         if bytes.last() != Some(&b'\n') {
-            all.push(b'|')?;
+            self.bytes.push(b'|')?;
         }
         Ok(bytes.len())
     }
@@ -155,37 +159,49 @@ fn words_of(alloc: Global, before: &str, words: &str) -> Result<Vec<Vec<u8>>, No
     Ok(all)
 }
 
-/// Returns the number of bytes for which standard output has space, and the error of a write past them.
-fn limit_of(settings: &str) -> Result<(usize, ErrorKind), Failure> {
-    let (digits, refusal) = match settings.split_once(' ') {
-        Some((digits, "reader-gone")) => (digits, ErrorKind::BrokenPipe),
-        _ => (settings, ErrorKind::StorageFull),
-    };
-    if digits.is_empty() {
-        return Ok((usize::MAX, refusal));
+/// Returns the number of bytes for which standard output has space.
+fn room_of(settings: &str) -> Result<usize, NotationError> {
+    match part(settings, ' ', 0) {
+        "" => Ok(usize::MAX),
+        digits => Ok(digits.parse::<usize>()?),
     }
-    Ok((digits.parse::<usize>()?, refusal))
 }
 
-/// Runs the program over the files of a table, and returns its exit status. What it writes goes to `written` and `told`, the
-/// former as far as there is space.
-fn run_on<'a, R: Threads + Wait + Sync>(
-    rt: &'a R,
+/// Returns the error of a write past that space.
+fn refusal_of(settings: &str) -> ErrorKind {
+    match part(settings, ' ', 1) {
+        "reader-gone" => ErrorKind::BrokenPipe,
+        _ => ErrorKind::StorageFull,
+    }
+}
+
+/// A run of the program: its files, its arguments, and the space of standard output.
+#[derive(Clone, Copy)]
+struct CheckRun<'a> {
+    folder: Shelf<'a>,
+    options: &'a str,
+    names: &'a str,
+    room: usize,
+    /// The error of a write past that space.
+    refusal: ErrorKind,
+}
+
+/// Makes a run, and returns its exit status.
+fn make<R: Threads + Wait + Sync>(
+    rt: &R,
     alloc: Global,
-    table: &str,
-    words: Vec<Vec<u8>>,
-    (room, refusal): (usize, ErrorKind),
-    written: &'a Mutex<Vec<u8>>,
-    told: &'a Mutex<Vec<u8>>,
-) -> u8 {
+    run: CheckRun<'_>,
+    written: &mut Vec<u8>,
+    told: &mut Vec<u8>,
+) -> Result<u8, NotationError> {
+    let words = words_of(alloc, run.options, run.names)?;
+    let (folder, room, refusal) = (run.folder, run.room, run.refusal);
     let out = Stream {
-        rt,
         bytes: written,
         room,
         refusal,
     };
     let errors = Stream {
-        rt,
         bytes: told,
         room: usize::MAX,
         refusal,
@@ -195,43 +211,82 @@ fn run_on<'a, R: Threads + Wait + Sync>(
         errors,
         progress: NoProgress,
     };
-    let (folder, lists) = (Shelf { table }, Shelf { table });
-    program(rt, alloc, folder, &lists, Ok(words), streams).status()
+    Ok(program(rt, alloc, folder, &folder, Ok(words), streams).status())
 }
 
 /// Makes the run of a row with these arguments before its own, and compares what comes of it.
-fn compare_run<'a, R: Threads + Wait + Sync>(
+fn compare_run<R: Threads + Wait + Sync>(
     rt: &R,
-    alloc: Global,
     table: &str,
-    line: &'a str,
-    before: &'a str,
+    line: &str,
+    options: &str,
     out: &mut Differences,
-) -> Result<(), Failure> {
-    let name = field(line, 0);
-    let words = words_of(alloc, before, name)?;
-    let limit = limit_of(field(line, 1))?;
-    let (written, told) = (Mutex::new(Vec::new(alloc)), Mutex::new(Vec::new(alloc)));
-    let status = run_on(rt, alloc, table, words, limit, &written, &told);
-    let subject = Subject { name, path: before };
+) -> Result<(), NotationError> {
+    let (name, bytes): (&str, &[u8]) = ("", &[]);
+    let run = CheckRun {
+        folder: Shelf { table, name, bytes },
+        options,
+        names: field(line, 0),
+        room: room_of(field(line, 1))?,
+        refusal: refusal_of(field(line, 1)),
+    };
     let wanted = u64::from(field(line, 3).parse::<u8>()?);
-    compare_numbers(out, subject, wanted, u64::from(status));
-    let (written, told) = (written.into_inner(), told.into_inner());
-    compare_field(alloc, subject, field(line, 2), written.as_slice(), out)?;
-    compare_field(alloc, subject, field(line, 4), told.as_slice(), out)
+    let (mut written, mut told) = (Vec::new(out.alloc), Vec::new(out.alloc));
+    let status = make(rt, out.alloc, run, &mut written, &mut told)?;
+    out.compare_numbers(options, wanted, u64::from(status));
+    compare_field(options, field(line, 2), written.as_slice(), out);
+    compare_field(options, field(line, 4), told.as_slice(), out);
+    Ok(())
 }
 
 /// Checks a row of a table of checks: what a line has after `%`.
 pub(crate) fn check_archive<R: Threads + Wait + Sync>(
     rt: &R,
-    alloc: Global,
     table: &str,
     line: &str,
     out: &mut Differences,
 ) {
-    for before in ["", "-j 1", "-j 8"] {
-        if let Err(failure) = compare_run(rt, alloc, table, line, before, out) {
-            out.fail(failure);
+    for options in ["", "-j 1", "-j 8"] {
+        if let Err(error) = compare_run(rt, table, line, options, out) {
+            out.fail(error);
         }
     }
+}
+
+/// Checks a case's file with these arguments before its name.
+fn check_case<R: Threads + Wait + Sync>(
+    rt: &R,
+    case: &Case<'_>,
+    options: &str,
+    wanted: &str,
+    out: &mut Differences,
+) {
+    let (table, name, bytes) = ("", case.row.name, case.bytes);
+    let run = CheckRun {
+        folder: Shelf { table, name, bytes },
+        options,
+        names: name,
+        room: usize::MAX,
+        refusal: ErrorKind::StorageFull,
+    };
+    let (mut written, mut told) = (Vec::new(case.alloc), Vec::new(case.alloc));
+    match make(rt, case.alloc, run, &mut written, &mut told) {
+        Ok(_status) => {
+            let found = str::from_utf8(written.as_slice()).unwrap_or("no text");
+            out.compare_texts("check", wanted, found);
+        }
+        Err(error) => out.fail(error),
+    }
+}
+
+/// Checks a case's file with a map, with one worker and with three.
+pub(crate) fn check_as_archive<R: Threads + Wait + Sync>(
+    rt: &R,
+    case: &Case<'_>,
+    out: &mut Differences,
+) {
+    let mut wanted = String::new(case.alloc);
+    out.note(put_check_lines(&mut wanted, case.row));
+    check_case(rt, case, "--map -j 1", wanted.as_str(), out);
+    check_case(rt, case, "--map -j 3", wanted.as_str(), out);
 }

@@ -4,7 +4,6 @@ ghost use Rattle.std.specs.Prelude.{◌<◌};
 
 use crate::case::Case;
 use crate::differences::Differences;
-use crate::failure::Failure;
 use crate::runs::compare_outcome;
 use crate::scans::report_of;
 use jr_arrival::{Finished, PartialFile};
@@ -14,6 +13,7 @@ use jr_rows::{paint_scan_lines, shape_of};
 use jr_scan::Scan;
 use jri_engine::{Fault, Report};
 use std::alloc::Global;
+use test_files::error::NotationError;
 
 /// A file of more bytes does not come in small parts.
 const LONG: usize = 1024;
@@ -25,10 +25,12 @@ struct Pace {
     lines: u32,
 }
 
-/// Returns the size of a line of the image in bytes, and its height, once the header has arrived.
-fn size_of(partial_file: &PartialFile) -> Option<(usize, u32)> {
-    let head = partial_file.head()?;
-    Some((shape_of(head).line, head.height()))
+/// Returns the size of a line of the image in bytes, and its height; 0 until the header has arrived.
+fn size_of(partial_file: &PartialFile) -> (usize, u32) {
+    match partial_file.head() {
+        Some(head) => (shape_of(head).line, head.height()),
+        None => (0, 0),
+    }
 }
 
 /// Appends the next lines that are final, at most those for which `room` has space. Returns whether
@@ -54,9 +56,7 @@ fn take_lines(
     shown: &mut Vec<u8>,
 ) -> Result<(), Refusal> {
     partial_file.begin(alloc)?;
-    let Some((line, height)) = size_of(partial_file) else {
-        return Ok(());
-    };
+    let (line, height) = size_of(partial_file);
     let mut room = vec![in alloc; 0; usize::saturating_mul(most.min(height) as usize, line)]?;
     for _ in 0..height {
         if !take_next(alloc, partial_file, line, room.as_mut_slice(), shown)? {
@@ -85,23 +85,15 @@ fn push_parts(
     Ok(())
 }
 
-/// Returns the lines of a scan's image, starting at one.
-fn missing(alloc: Global, scan: &Scan, first: u32) -> Result<Vec<u8>, Memory> {
+/// Appends the lines of a scan's image, starting at one.
+fn put_missing(alloc: Global, scan: &Scan, first: u32, shown: &mut Vec<u8>) -> Result<(), Memory> {
     let head = scan.head();
     let count = head.height().saturating_sub(first);
     let mut pixels = vec![in alloc; 0; count as usize * shape_of(head).line]?;
     if count > 0 {
-        let _marked = paint_scan_lines(alloc, scan, first, count, pixels.as_mut_slice())?;
+        paint_scan_lines(alloc, scan, first, count, pixels.as_mut_slice())?;
     }
-    Ok(pixels)
-}
-
-/// Appends the lines of a scan's image, starting at one.
-fn put_missing(alloc: Global, scan: &Scan, first: u32, shown: &mut Vec<u8>) -> Result<(), Refusal> {
-    match missing(alloc, scan, first) {
-        Ok(pixels) => Ok(shown.extend_from_slice(pixels.as_slice())?),
-        Err(_) => Err(Refusal::Memory),
-    }
+    Ok(shown.extend_from_slice(pixels.as_slice())?)
 }
 
 /// Appends the lines that are missing when no further byte comes.
@@ -112,8 +104,10 @@ fn finish(
 ) -> Result<Report, Refusal> {
     let lines = partial_file.lines();
     let Finished { scan, counts } = partial_file.finish(alloc)?;
-    put_missing(alloc, &scan, lines, shown)?;
-    Ok(report_of(&scan, counts))
+    match put_missing(alloc, &scan, lines, shown) {
+        Ok(()) => Ok(report_of(&scan, counts)),
+        Err(_) => Err(Refusal::Memory),
+    }
 }
 
 /// Lets a file arrive, and appends all lines of its image.
@@ -133,7 +127,7 @@ fn check_arrival(case: &Case<'_>, pace: Pace, path: &str, out: &mut Differences)
     let mut shown = Vec::new(case.alloc);
     let outcome = match arrive(case.alloc, case.bytes, pace, &mut shown) {
         Ok(report) => Ok(report),
-        Err(Refusal::Memory) => return out.fail(Failure::Memory),
+        Err(Refusal::Memory) => return out.fail(NotationError::Memory),
         Err(refusal) => Err(Fault::Refused(refusal)),
     };
     compare_outcome(case, path, shown.as_slice(), outcome, out);

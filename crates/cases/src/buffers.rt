@@ -1,16 +1,16 @@
 //! The calls of the C library that decode a whole file into buffers, check it, or read its header.
 
 use crate::case::Case;
-use crate::differences::{Differences, compare_bytes, compare_numbers};
-use crate::failure::Failure;
+use crate::differences::Differences;
 use crate::row::part;
-use crate::texts::{is_doubt, map_of};
+use crate::texts::{after_first, is_doubt};
 use jri_memory::status::{BUFFER_TOO_SMALL, OK};
 use jri_memory::{
     DecodeReport, Header, check_marks, decode_file, end_text, read_header, refusal_text,
 };
 use std::alloc::{AllocError, Global};
 use std::num::ParseIntError;
+use test_files::error::NotationError;
 
 /// What is in a buffer before a call.
 const BEFORE: u8 = 7;
@@ -70,26 +70,24 @@ fn intervals_of(line: &str) -> Result<(usize, usize), ParseIntError> {
     }
 }
 
-/// Marks the intervals from one to another as damaged.
-fn mark_damaged(marks: &mut [u8], first: usize, last: usize) -> Result<(), Failure> {
-    for i in first..=last {
-        match marks.get_mut(i) {
-            Some(mark) => *mark = 2,
-            None => return Err(Failure::Malformed),
-        }
+/// Marks the intervals of a line of a map as damaged, if they are not doubtful.
+fn mark_line(marks: &mut [u8], line: &str) -> Result<(), NotationError> {
+    if is_doubt(line) {
+        return Ok(());
+    }
+    let (first, last) = intervals_of(line)?;
+    match marks.get_mut(first..=last) {
+        Some(damaged) => damaged.fill(2),
+        None => return Err(NotationError::Malformed),
     }
     Ok(())
 }
 
 /// Marks the damaged intervals of a map, whose lines are separated by `/`.
-fn mark_map(marks: &mut [u8], map: &str) -> Result<(), Failure> {
-    if map.is_empty() {
-        return Ok(());
-    }
-    for line in map.split(" / ") {
-        if !is_doubt(line) {
-            let (first, last) = intervals_of(line)?;
-            mark_damaged(marks, first, last)?;
+fn mark_map(marks: &mut [u8], map: &str) -> Result<(), NotationError> {
+    if !map.is_empty() {
+        for line in map.split(" / ") {
+            mark_line(marks, line)?;
         }
     }
     Ok(())
@@ -97,45 +95,33 @@ fn mark_map(marks: &mut [u8], map: &str) -> Result<(), Failure> {
 
 /// Decodes a file into buffers that just fit.
 fn check_decoding(case: &Case<'_>, marks: &[u8], out: &mut Differences) {
-    let mut pixels = out.bytes(case.alloc, BEFORE, case.samples().len());
-    let mut found = out.bytes(case.alloc, BEFORE, marks.len());
+    let mut pixels = out.bytes(BEFORE, case.samples().len());
+    let mut found = out.bytes(BEFORE, marks.len());
     let mut report = DecodeReport::empty();
-    let answer = decode_file(
-        case.alloc,
-        case.bytes,
-        0,
-        &mut pixels,
-        &mut found,
-        &mut report,
-    );
-    compare_bytes(out, case.at("decode, marks"), marks, found.as_slice());
+    let (alloc, bytes) = (case.alloc, case.bytes);
+    let answer = decode_file(alloc, bytes, 0, &mut pixels, &mut found, &mut report);
+    out.compare_bytes("decode, marks", marks, found.as_slice());
     compare_call(case, "decode", pixels.as_slice(), &report, answer, out);
 }
 
 /// Reads a file's intervals, without an image.
 fn check_marks_of(case: &Case<'_>, marks: &[u8], out: &mut Differences) {
-    let mut found = out.bytes(case.alloc, BEFORE, marks.len());
+    let mut found = out.bytes(BEFORE, marks.len());
     let mut report = DecodeReport::empty();
     let answer = check_marks(case.alloc, case.bytes, 0, &mut found, &mut report);
-    compare_bytes(out, case.at("marks"), marks, found.as_slice());
+    out.compare_bytes("marks", marks, found.as_slice());
     compare_call(case, "check of marks", case.samples(), &report, answer, out);
 }
 
 /// Decodes a file into a buffer that lacks a byte, which stays unchanged.
 fn check_small_buffer(case: &Case<'_>, out: &mut Differences) {
     let size = case.samples().len().saturating_sub(1);
-    let mut pixels = out.bytes(case.alloc, BEFORE, size);
-    let wanted = out.bytes(case.alloc, BEFORE, size);
+    let mut pixels = out.bytes(BEFORE, size);
+    let wanted = out.bytes(BEFORE, size);
     let mut report = DecodeReport::empty();
     let answer = decode_file(case.alloc, case.bytes, 0, &mut pixels, &mut [], &mut report);
-    compare_bytes(
-        out,
-        case.at("bytes kept"),
-        wanted.as_slice(),
-        pixels.as_slice(),
-    );
-    let (wanted, found) = (u64::from(BUFFER_TOO_SMALL), u64::from(answer));
-    compare_numbers(out, case.at("no room"), wanted, found);
+    out.compare_bytes("bytes kept", wanted.as_slice(), pixels.as_slice());
+    out.compare_numbers("no room", u64::from(BUFFER_TOO_SMALL), u64::from(answer));
 }
 
 /// Compares the size of the image with what the header says.
@@ -145,20 +131,20 @@ fn check_header(case: &Case<'_>, out: &mut Differences) {
     let magic = case.header.components / 2 + 5;
     out.note(write!(header, "P{magic}\n{width} {height}\n255\n"));
     let front = &case.picture[..header.len().min(case.picture.len())];
-    compare_bytes(out, case.at("header"), header.as_bytes(), front);
+    out.compare_bytes("header", header.as_bytes(), front);
     let size = case.picture.len().saturating_sub(header.len());
-    compare_numbers(out, case.at("pixels"), size as u64, case.header.pixels);
+    out.compare_numbers("pixels", size as u64, case.header.pixels);
     let mut partial = Header::empty();
     let answer = read_header(case.alloc, case.bytes, 1, &mut partial);
     let is_same = answer == OK && partial == case.header;
-    compare_numbers(out, case.at("header, more may come"), 1, u64::from(is_same));
+    out.compare_numbers("header, more may come", 1, u64::from(is_same));
 }
 
 /// Decodes a case's file, checks it, and reads its header.
 pub(crate) fn check_buffers(case: &Case<'_>, out: &mut Differences) {
-    let mut marks = out.bytes(case.alloc, 1, case.header.intervals as usize);
-    if let Err(failure) = mark_map(marks.as_mut_slice(), map_of(case.row)) {
-        return out.fail(failure);
+    let mut marks = out.bytes(1, case.header.intervals as usize);
+    if let Err(error) = mark_map(marks.as_mut_slice(), after_first(case.row.damaged)) {
+        return out.fail(error);
     }
     check_decoding(case, marks.as_slice(), out);
     check_marks_of(case, marks.as_slice(), out);

@@ -1,10 +1,10 @@
 //! A row with what follows from it, and the paths that decode its file.
 
+use crate::archives::check_as_archive;
 use crate::arrival::check_arrivals;
 use crate::buffers::{check_buffers, header_of};
-use crate::checks::check_as_archive;
-use crate::differences::{Differences, Subject, compare_bytes, compare_numbers, compare_texts};
-use crate::failure::Failure;
+use crate::damage::check_damage;
+use crate::differences::Differences;
 use crate::lines::check_lines_of;
 use crate::places::check_places;
 use crate::row::Row;
@@ -17,6 +17,7 @@ use jri_memory::Header;
 use std::alloc::Global;
 use std::sync::Wait;
 use std::thread::Threads;
+use test_files::error::NotationError;
 use test_files::files::{file, front};
 use test_files::pictures::picture;
 
@@ -52,17 +53,6 @@ impl<'a> Case<'a> {
         u32::saturating_mul(self.header.width, self.header.components) as usize
     }
 
-    /// Returns the case's name with that of a path.
-    pub(crate) fn at<'p>(&self, path: &'p str) -> Subject<'p>
-    where
-        'a: 'p,
-    {
-        Subject {
-            name: self.row.name,
-            path,
-        }
-    }
-
     /// Compares all results of a path: the image, or its samples, the report and the status.
     pub(crate) fn compare(
         &self,
@@ -72,53 +62,41 @@ impl<'a> Case<'a> {
         status: u32,
         out: &mut Differences,
     ) {
-        let subject = self.at(path);
-        compare_bytes(out, subject, self.samples(), found);
-        compare_texts(out, subject, self.report, report);
-        compare_numbers(out, subject, u64::from(self.row.status), u64::from(status));
+        out.compare_bytes(path, self.samples(), found);
+        out.compare_texts(path, self.report, report);
+        out.compare_numbers(path, u64::from(self.row.status), u64::from(status));
     }
 }
 
-/// Returns the Netpbm text that one worker writes, which has the sum of these digits.
-fn summed<R: Threads + Wait + Sync>(
-    rt: &R,
-    alloc: Global,
-    row: &Row<'_>,
-    bytes: &[u8],
-    digits: &str,
-    out: &mut Differences,
-) -> Vec<u8> {
-    let (text, _outcome) = written(rt, alloc, bytes, row.options.first);
-    let (name, path) = (row.name, "sum");
+/// Compares the sum of an image with that of these digits.
+fn compare_sum(text: &[u8], digits: &str, out: &mut Differences) {
     match u32::from_str_radix(digits, 16) {
-        Ok(wanted) => {
-            let found = u64::from(crc_32(text.as_slice()));
-            compare_numbers(out, Subject { name, path }, u64::from(wanted), found);
-        }
-        Err(_) => out.fail(Failure::Malformed),
+        Ok(wanted) => out.compare_numbers("sum", u64::from(wanted), u64::from(crc_32(text))),
+        Err(_) => out.fail(NotationError::Malformed),
     }
-    text
 }
 
-/// Returns the Netpbm text of a row's image; empty if the file is refused.
+/// Returns the Netpbm text of a row's image: the one that one worker writes, if the row has its sum. It is empty if the
+/// file is refused.
 fn picture_of<R: Threads + Wait + Sync>(
     rt: &R,
-    alloc: Global,
     row: &Row<'_>,
     bytes: &[u8],
     out: &mut Differences,
 ) -> Vec<u8> {
     if row.status == 2 {
-        return Vec::new(alloc);
+        return Vec::new(out.alloc);
     }
     if let Some((_size, digits)) = row.picture.split_once(" sum ") {
-        return summed(rt, alloc, row, bytes, digits, out);
+        let text = written(rt, out.alloc, bytes, row.first).0;
+        compare_sum(text.as_slice(), digits, out);
+        return text;
     }
-    match picture(alloc, row.picture) {
+    match picture(out.alloc, row.picture) {
         Ok(text) => text,
         Err(error) => {
-            out.fail(Failure::from(error));
-            Vec::new(alloc)
+            out.fail(error);
+            Vec::new(out.alloc)
         }
     }
 }
@@ -127,24 +105,28 @@ fn picture_of<R: Threads + Wait + Sync>(
 fn check_paths<R: Threads + Wait + Sync>(rt: &R, case: &Case<'_>, out: &mut Differences) {
     check_runs(rt, case, out);
     check_scans(rt, case, out);
-    if case.row.options.first.is_none() {
-        check_as_archive(rt, case, out);
-        check_arrivals(case, out);
-        check_places(case, out);
-        check_buffers(case, out);
+    if case.row.first.is_some() {
+        return;
+    }
+    check_as_archive(rt, case, out);
+    check_arrivals(case, out);
+    check_places(case, out);
+    check_buffers(case, out);
+    if !case.is_refused() {
         check_lines_of(case, out);
+        check_damage(case, out);
     }
 }
 
 /// Checks a file of a row on each path.
 fn check_file<R: Threads + Wait + Sync>(
     rt: &R,
-    alloc: Global,
     row: &Row<'_>,
     bytes: &[u8],
     out: &mut Differences,
 ) {
-    let picture = picture_of(rt, alloc, row, bytes, out);
+    let alloc = out.alloc;
+    let picture = picture_of(rt, row, bytes, out);
     let mut report = String::new(alloc);
     out.note(put_lines(&mut report, row.report));
     let case = Case {
@@ -161,33 +143,29 @@ fn check_file<R: Threads + Wait + Sync>(
 /// Checks a row's file on each path, cut to each of its lengths.
 fn check_lengths<R: Threads + Wait + Sync>(
     rt: &R,
-    alloc: Global,
     row: &Row<'_>,
     bytes: &[u8],
     out: &mut Differences,
 ) {
-    let (least, most) = row.options.cut.unwrap_or((bytes.len(), bytes.len()));
+    let (least, most) = row.cut.unwrap_or((bytes.len(), bytes.len()));
     for length in least..=most {
         let before = out.len();
-        check_file(rt, alloc, row, front(bytes, length), out);
+        check_file(rt, row, front(bytes, length), out);
         if out.len() > before {
-            out.add(row.name, "the file has", length, " bytes");
+            out.add("the file has", length, " bytes");
         }
-    }
-    if row.options.is_stored && row.status != 2 {
-        check_sweep(rt, alloc, row, bytes, out);
     }
 }
 
-/// Checks a row's file. Each difference is a line of `out`.
-pub(crate) fn check_row<R: Threads + Wait + Sync>(
-    rt: &R,
-    alloc: Global,
-    row: &Row<'_>,
-    out: &mut Differences,
-) {
-    match file(alloc, row.file) {
-        Ok(bytes) => check_lengths(rt, alloc, row, bytes.as_slice(), out),
-        Err(error) => out.fail(Failure::from(error)),
+/// Checks a row's file.
+pub(crate) fn check_row<R: Threads + Wait + Sync>(rt: &R, row: &Row<'_>, out: &mut Differences) {
+    match file(out.alloc, row.file) {
+        Ok(bytes) => {
+            check_lengths(rt, row, bytes.as_slice(), out);
+            if row.is_stored && row.status != 2 {
+                check_sweep(rt, bytes.as_slice(), out);
+            }
+        }
+        Err(error) => out.fail(error),
     }
 }

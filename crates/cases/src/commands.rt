@@ -1,9 +1,8 @@
 //! Runs of the program over a machine of memory: its lines, its exit status, what it writes and what it leaves in the directory.
 
-use crate::differences::{Differences, Subject, compare_bytes, compare_numbers};
-use crate::failure::Failure;
+use crate::differences::Differences;
 use crate::machine::Machine;
-use crate::row::{field, part};
+use crate::row::field;
 use crate::texts::put_lines;
 use jri_engine::{
     Mode, describe_request, many_request, program, program_for_headers, program_for_many,
@@ -12,28 +11,17 @@ use std::alloc::{AllocError, Global};
 use std::io::{Error, ErrorKind, Result as IoResult};
 use std::sync::Wait;
 use std::thread::Threads;
+use test_files::error::NotationError;
 use test_files::files::file;
 use test_files::pictures::picture;
 
-/// A row of the table of commands.
-#[derive(Clone, Copy)]
-struct Command<'a> {
-    words: &'a str,
-    settings: &'a str,
-    lines: &'a str,
-    status: &'a str,
-    output: &'a str,
-    /// The files that the run makes, with their content.
-    files: &'a str,
-}
-
-/// Returns the name and the notation of the file in a line of the table.
-pub(crate) fn file_of(line: &str) -> Option<(&str, &str)> {
-    line.strip_prefix("= ")?.split_once(" | ")
+/// Returns the name and the content of what a line of the table with this sign gives.
+pub(crate) fn named_by<'a>(line: &'a str, sign: char) -> Option<(&'a str, &'a str)> {
+    line.strip_prefix(sign)?.trim_start().split_once(" | ")
 }
 
 /// Changes a machine as a word says.
-fn set(machine: &mut Machine, word: &str) -> Result<(), Failure> {
+fn set(machine: &mut Machine, word: &str) -> Result<(), NotationError> {
     match word.split_once('=') {
         Some(("room", digits)) => machine.room = digits.parse::<usize>()?,
         Some(("input", name)) => machine.read_from(name)?,
@@ -44,23 +32,27 @@ fn set(machine: &mut Machine, word: &str) -> Result<(), Failure> {
         None if word == "no-rename" => machine.can_rename = false,
         None if word == "input-terminal" => machine.has_input_terminal = true,
         None if word == "output-terminal" => machine.has_output_terminal = true,
-        _ => return Err(Failure::Malformed),
+        _ => return Err(NotationError::Malformed),
     }
     Ok(())
 }
 
-/// Returns a machine with the files of a table, and with a command's settings.
-fn machine_of(alloc: Global, table: &str, command: &Command<'_>) -> Result<Machine, Failure> {
-    let mut machine = Machine::new(alloc)?;
+/// Adds the files of a table to a machine.
+fn put_files(alloc: Global, table: &str, machine: &mut Machine) -> Result<(), NotationError> {
     for line in table.lines() {
-        if let Some((name, words)) = file_of(line) {
+        if let Some((name, words)) = named_by(line, '=') {
             machine.put(name, file(alloc, words)?.as_slice(), false)?;
         }
     }
-    for word in command.settings.split_whitespace() {
-        set(&mut machine, word)?;
+    Ok(())
+}
+
+/// Changes a machine as a command's settings say.
+fn set_all(settings: &str, machine: &mut Machine) -> Result<(), NotationError> {
+    for word in settings.split_whitespace() {
+        set(machine, word)?;
     }
-    Ok(machine)
+    Ok(())
 }
 
 /// Returns the arguments of a command; two texts mean arguments that cannot be read.
@@ -77,37 +69,46 @@ fn words_of(alloc: Global, line: &str) -> IoResult<Vec<String>> {
     Ok(words)
 }
 
-/// Runs the program on a machine as `main` does, and returns the lines on standard error and the exit status.
+/// Runs the program on a machine as `main` does, and returns the exit status.
 fn run_on<R: Threads + Wait + Sync>(
     rt: &R,
     alloc: Global,
     machine: &mut Machine,
-    line: &str,
-) -> (Vec<u8>, u8) {
-    let mut errors = Vec::new(alloc);
-    let words = words_of(alloc, line);
-    let mode = match &words {
-        Ok(words) => Mode::of(words),
-        Err(_) => Mode::Decode,
-    };
-    let ended = match (mode, words) {
-        (Mode::DecodeEach, Ok(words)) => {
+    words: Vec<String>,
+    errors: &mut Vec<u8>,
+) -> u8 {
+    let ended = match Mode::of(&words) {
+        Mode::DecodeEach => {
             let request = many_request(alloc, &words);
-            program_for_many(rt, alloc, machine, request, &mut errors)
+            program_for_many(rt, alloc, machine, request, errors)
         }
-        (Mode::Describe, Ok(words)) => {
+        Mode::Describe => {
             let request = describe_request(alloc, &words);
-            program_for_headers(alloc, machine, request, &mut errors)
+            program_for_headers(alloc, machine, request, errors)
         }
-        (_, words) => program(rt, alloc, machine, words, &mut errors),
+        Mode::Decode => program(rt, alloc, machine, Ok(words), errors),
     };
-    (errors, ended.status())
+    ended.status()
+}
+
+/// Runs the program on a machine with the arguments of a command, and returns the exit status.
+fn run<R: Threads + Wait + Sync>(
+    rt: &R,
+    alloc: Global,
+    machine: &mut Machine,
+    line: &str,
+    errors: &mut Vec<u8>,
+) -> u8 {
+    match words_of(alloc, line) {
+        Ok(words) => run_on(rt, alloc, machine, words, errors),
+        Err(error) => program(rt, alloc, machine, Err(error), errors).status(),
+    }
 }
 
 /// Returns the bytes of a field: an image in the notation of images, or lines that are separated by `/`.
-fn content(alloc: Global, field: &str) -> Result<Vec<u8>, Failure> {
+fn content(alloc: Global, field: &str) -> Result<Vec<u8>, NotationError> {
     if field.starts_with("P5 ") || field.starts_with("P6 ") {
-        return Ok(picture(alloc, field)?);
+        return picture(alloc, field);
     }
     let mut text = String::new(alloc);
     if !field.is_empty() {
@@ -117,134 +118,110 @@ fn content(alloc: Global, field: &str) -> Result<Vec<u8>, Failure> {
 }
 
 /// Compares bytes with those of a field, if it is not `*`.
-pub(crate) fn compare_field(
-    alloc: Global,
-    subject: Subject<'_>,
-    field: &str,
-    found: &[u8],
-    out: &mut Differences,
-) -> Result<(), Failure> {
-    if field != "*" {
-        let wanted = content(alloc, field)?;
-        compare_bytes(out, subject, wanted.as_slice(), found);
+pub(crate) fn compare_field(path: &str, field: &str, found: &[u8], out: &mut Differences) {
+    if field == "*" {
+        return;
     }
-    Ok(())
+    match content(out.alloc, field) {
+        Ok(wanted) => out.compare_bytes(path, wanted.as_slice(), found),
+        Err(error) => out.fail(error),
+    }
 }
 
 /// Compares a file of the machine.
-fn compare_file(
-    command: &Command<'_>,
-    machine: &Machine,
-    path: &str,
-    wanted: &[u8],
-    out: &mut Differences,
-) -> Result<(), AllocError> {
-    let name = command.words;
-    match machine.kept(path)? {
-        Some(kept) => compare_bytes(out, Subject { name, path }, wanted, kept.as_slice()),
-        None => out.add(name, path, 0, " files"),
+fn compare_file(machine: &Machine, path: &str, wanted: &[u8], out: &mut Differences) {
+    match machine.kept(path) {
+        Ok(Some(kept)) => out.compare_bytes(path, wanted, kept.as_slice()),
+        Ok(None) => out.add(path, 0, " files"),
+        Err(_) => out.fail(NotationError::Memory),
     }
-    Ok(())
 }
 
-/// Returns the name and the content of a file that a command makes, of which there are at most three.
-fn made<'a>(command: &Command<'a>, number: usize) -> Option<(&'a str, &'a str)> {
-    let (name, field) = part(command.files, ';', number).split_once(" = ")?;
-    Some((name.trim(), field.trim()))
+/// Compares the files that a command makes, and returns their number.
+fn compare_made(
+    machine: &Machine,
+    files: &str,
+    out: &mut Differences,
+) -> Result<usize, NotationError> {
+    let mut count: usize = 0;
+    for made in files.split(';') {
+        if let Some((name, field)) = made.split_once(" = ") {
+            let wanted = content(out.alloc, field.trim())?;
+            compare_file(machine, name.trim(), wanted.as_slice(), out);
+            count = count.saturating_add(1);
+        }
+    }
+    Ok(count)
 }
 
-/// Returns whether a command makes a file of this name.
-fn makes(command: &Command<'_>, name: &str) -> bool {
-    for number in 0..3usize {
-        if made(command, number).is_some_and(|made| made.0 == name) {
+/// Returns whether a file of this name is among those that a command makes.
+fn makes(files: &str, name: &str) -> bool {
+    for made in files.split(';') {
+        if let Some((found, _field)) = made.split_once(" = ")
+            && found.trim() == name
+        {
             return true;
         }
     }
     false
 }
 
-/// Compares the files that a command makes, and those of the table, which are otherwise unchanged; there are no more.
-fn compare_files(
-    alloc: Global,
-    table: &str,
-    command: &Command<'_>,
+/// Compares the files of a table that a command leaves unchanged, and returns their number.
+fn compare_kept(
     machine: &Machine,
+    table: &str,
+    files: &str,
     out: &mut Differences,
-) -> Result<(), Failure> {
+) -> Result<usize, NotationError> {
     let mut count: usize = 0;
-    for number in 0..3usize {
-        if let Some((name, field)) = made(command, number) {
-            let wanted = content(alloc, field)?;
-            compare_file(command, machine, name, wanted.as_slice(), out)?;
-            count = count.saturating_add(1);
-        }
-    }
     for line in table.lines() {
-        if let Some((name, words)) = file_of(line)
-            && !makes(command, name)
+        if let Some((name, words)) = named_by(line, '=')
+            && !makes(files, name)
         {
-            let wanted = file(alloc, words)?;
-            compare_file(command, machine, name, wanted.as_slice(), out)?;
+            let wanted = file(out.alloc, words)?;
+            compare_file(machine, name, wanted.as_slice(), out);
             count = count.saturating_add(1);
         }
     }
-    let (name, path) = (command.words, "files");
-    let found = machine.files.len() as u64;
-    compare_numbers(out, Subject { name, path }, count as u64, found);
-    Ok(())
+    Ok(count)
 }
 
-/// Runs a command, and compares what comes of it.
+/// Runs a command on a machine, and compares what comes of it.
 fn compare_run<R: Threads + Wait + Sync>(
     rt: &R,
-    alloc: Global,
     table: &str,
-    command: &Command<'_>,
+    line: &str,
+    machine: &mut Machine,
     out: &mut Differences,
-) -> Result<(), Failure> {
-    let name = command.words;
-    let mut machine = machine_of(alloc, table, command)?;
-    let (lines, status) = run_on(rt, alloc, &mut machine, name);
-    let wanted = u64::from(command.status.parse::<u8>()?);
-    let path = "status";
-    compare_numbers(out, Subject { name, path }, wanted, u64::from(status));
-    let path = "standard error";
-    compare_field(
-        alloc,
-        Subject { name, path },
-        command.lines,
-        lines.as_slice(),
-        out,
-    )?;
-    let path = "standard output";
+) -> Result<(), NotationError> {
+    let alloc = out.alloc;
+    put_files(alloc, table, machine)?;
+    set_all(field(line, 1), machine)?;
+    let wanted = u64::from(field(line, 3).parse::<u8>()?);
+    let mut errors = Vec::new(alloc);
+    let status = run(rt, alloc, machine, field(line, 0), &mut errors);
+    out.compare_numbers("status", wanted, u64::from(status));
+    compare_field("standard error", field(line, 2), errors.as_slice(), out);
     let written = machine.written()?;
-    compare_field(
-        alloc,
-        Subject { name, path },
-        command.output,
-        written.as_slice(),
-        out,
-    )?;
-    compare_files(alloc, table, command, &machine, out)
+    compare_field("standard output", field(line, 4), written.as_slice(), out);
+    let made = compare_made(machine, field(line, 5), out)?;
+    let kept = compare_kept(machine, table, field(line, 5), out)?;
+    let (wanted, found) = (made.saturating_add(kept), machine.files.len());
+    out.compare_numbers("files", wanted as u64, found as u64);
+    Ok(())
 }
 
 /// Checks a row of a table of commands: what a line has after `$`.
 pub(crate) fn check_command<R: Threads + Wait + Sync>(
     rt: &R,
-    alloc: Global,
     table: &str,
     line: &str,
     out: &mut Differences,
 ) {
-    let command = Command {
-        words: field(line, 0),
-        settings: field(line, 1),
-        lines: field(line, 2),
-        status: field(line, 3),
-        output: field(line, 4),
-        files: field(line, 5),
+    let Ok(mut machine) = Machine::new(out.alloc) else {
+        return out.fail(NotationError::Memory);
     };
-    if let Err(failure) = compare_run(rt, alloc, table, &command, out) {
-        out.fail(failure);
+    if let Err(error) = compare_run(rt, table, line, &mut machine, out) {
+        out.fail(error);
     }
 }

@@ -1,9 +1,12 @@
 //! A machine of memory: its standard streams, and a directory of files.
 
+ghost use Rattle.std.specs.Io.{ReadsAtMost};
+
 use jri_engine::{Destination, Devices};
 use std::alloc::{AllocError, Global};
 use std::cell::RefCell;
 use std::io::{Error, ErrorKind, Read, Result as IoResult, Write};
+use std::mem::replace;
 use std::rc::Rc;
 
 /// The bytes of a file or a stream, which all of its handles share.
@@ -18,16 +21,30 @@ pub(crate) struct Handle {
     refusal: ErrorKind,
 }
 
+/// Reads the bytes starting at an offset.
+fn read_at(bytes: &Bytes, at: usize, buf: &mut [u8]) -> IoResult<usize>
+    ensures { ReadsAtMost result buf.new }
+{
+    match bytes.try_borrow() {
+        Ok(bytes) => bytes.get(at..).unwrap_or(&[]).read(buf),
+        Err(_) => Err(Error::from(ErrorKind::Other)),
+    }
+}
+
+/// Appends bytes to a file or a stream.
+fn append(bytes: &Bytes, more: &[u8]) -> Result<(), AllocError> {
+    match bytes.try_borrow_mut() {
+        Ok(mut bytes) => bytes.extend_from_slice(more),
+        Err(_) => Err(AllocError),
+    }
+}
+
 impl Read for Handle {
     fn read(&mut self, buf: &mut [u8]) -> IoResult<usize> {
-        let Some(bytes) = &self.bytes else {
-            return Err(Error::from(ErrorKind::Other));
+        let count = match &self.bytes {
+            Some(bytes) => read_at(bytes, self.at, buf)?,
+            None => return Err(Error::from(ErrorKind::Other)),
         };
-        let Ok(bytes) = bytes.try_borrow() else {
-            return Err(Error::from(ErrorKind::Other));
-        };
-        let mut rest = bytes.get(self.at..).unwrap_or(&[]);
-        let count = rest.read(buf)?;
         self.at = self.at.saturating_add(count);
         Ok(count)
     }
@@ -38,15 +55,11 @@ impl Write for Handle {
         if self.room < buf.len() {
             return Err(Error::from(self.refusal));
         }
-        let Some(bytes) = &self.bytes else {
-            return Err(Error::from(ErrorKind::Other));
-        };
-        let Ok(mut bytes) = bytes.try_borrow_mut() else {
-            return Err(Error::from(ErrorKind::Other));
-        };
         self.room -= buf.len();
-        bytes.extend_from_slice(buf)?;
-        Ok(buf.len())
+        match &self.bytes {
+            Some(bytes) if append(bytes, buf).is_ok() => Ok(buf.len()),
+            _ => Err(Error::from(ErrorKind::Other)),
+        }
     }
 
     fn flush(&mut self) -> IoResult<()> {
@@ -57,7 +70,7 @@ impl Write for Handle {
 /// A file of the directory.
 #[derive(Drop)]
 pub(crate) struct Named {
-    pub(crate) name: String,
+    name: String,
     bytes: Bytes,
     is_device: bool,
 }
@@ -80,10 +93,8 @@ pub(crate) struct Machine {
 }
 
 fn shared(alloc: Global, bytes: &[u8]) -> Result<Bytes, AllocError> {
-    match Rc::new(alloc, RefCell::new(Vec::from_slice(alloc, bytes)?)) {
-        Ok(shared) => Ok(shared),
-        Err(_) => Err(AllocError),
-    }
+    let bytes = Vec::from_slice(alloc, bytes)?;
+    Rc::new(alloc, RefCell::new(bytes)).or(Err(AllocError))
 }
 
 /// Returns the bytes that handles share.
@@ -123,14 +134,16 @@ impl Machine {
             bytes: shared(self.alloc, bytes)?,
             is_device,
         };
-        self.files.push(named)?;
+        if self.files.push(named).is_err() {
+            return Err(AllocError);
+        }
         Ok(())
     }
 
     /// Gives standard input the content of a file.
     pub(crate) fn read_from(&mut self, name: &str) -> Result<(), AllocError> {
         let bytes = self.kept(name)?.ok_or(AllocError)?;
-        self.input = shared(self.alloc, bytes.as_slice())?;
+        drop(replace(&mut self.input, shared(self.alloc, bytes.as_slice())?));
         Ok(())
     }
 
@@ -147,14 +160,17 @@ impl Machine {
         }
     }
 
-    fn named(&self, name: &str) -> Option<&Named> {
-        self.files.iter().find(|file| file.name.as_str() == name)
+    fn place(&self, name: &str) -> Option<usize> {
+        for i in 0..self.files.len() {
+            if self.files[i].name.as_str() == name {
+                return Some(i);
+            }
+        }
+        None
     }
 
-    fn place(&self, name: &str) -> Option<usize> {
-        self.files
-            .iter()
-            .position(|file| file.name.as_str() == name)
+    fn named(&self, name: &str) -> Option<&Named> {
+        self.files.get(self.place(name)?)
     }
 
     fn handle(&self, bytes: &Bytes) -> Handle {
@@ -198,14 +214,11 @@ impl Devices for Machine {
     }
 
     fn destination(&self, name: &str, source: Option<&str>) -> Destination {
-        if source.is_some_and(|source| source == name) {
-            Destination::Source
-        } else if self.named(name).is_some_and(|file| file.is_device) {
-            Destination::WrittenInto
-        } else if self.named(name).is_some() {
-            Destination::Replaced
-        } else {
-            Destination::New
+        match (source, self.named(name)) {
+            (Some(source), _) if source == name => Destination::Source,
+            (_, Some(file)) if file.is_device => Destination::WrittenInto,
+            (_, Some(_)) => Destination::Replaced,
+            (_, None) => Destination::New,
         }
     }
 
@@ -232,28 +245,24 @@ impl Devices for Machine {
         if !self.can_rename {
             return Err(Error::from(ErrorKind::PermissionDenied));
         }
-        let name = String::from_str(self.alloc, to)?;
-        if self.place(from).is_none() {
+        if self.named(from).is_none() {
             return Err(Error::from(ErrorKind::NotFound));
         }
         let _ = self.remove(to);
-        match self
-            .files
-            .iter_mut()
-            .find(|file| file.name.as_str() == from)
-        {
-            Some(file) => {
-                file.name = name;
+        let name = String::from_str(self.alloc, to)?;
+        match self.place(from) {
+            Some(place) if place < self.files.len() => {
+                drop(replace(&mut self.files[place].name, name));
                 Ok(())
             }
-            None => Err(Error::from(ErrorKind::NotFound)),
+            _ => Err(Error::from(ErrorKind::NotFound)),
         }
     }
 
     fn remove(&mut self, name: &str) -> IoResult<()> {
         match self.place(name) {
             Some(place) if place < self.files.len() => {
-                self.files.remove(place);
+                drop(self.files.remove(place));
                 Ok(())
             }
             _ => Err(Error::from(ErrorKind::NotFound)),

@@ -9,10 +9,9 @@ mod archives;
 mod arrival;
 mod buffers;
 mod case;
-mod checks;
 mod commands;
+mod damage;
 mod differences;
-mod failure;
 mod lines;
 mod machine;
 mod places;
@@ -27,7 +26,7 @@ use crate::archives::check_archive;
 use crate::case::check_row;
 use crate::commands::check_command;
 use crate::differences::Differences;
-use crate::row::row_of;
+use crate::row::{field, row_of};
 use std::alloc::Global;
 use std::io::{Result as IoResult, Write};
 use std::process::ExitCode;
@@ -35,34 +34,34 @@ use std::sync::Wait;
 use std::thread::Threads;
 use std::{env, fs};
 
-/// Checks a line of the table, if it is a row, and returns whether it is one. Each difference is a line of `out`.
-fn check_line<R: Threads + Wait + Sync>(
-    rt: &R,
-    alloc: Global,
-    table: &str,
-    line: &str,
-    out: &mut Differences,
-) -> bool {
-    let line = line.trim();
-    if line.is_empty() || line.starts_with('#') || line.starts_with('=') || line.starts_with('/') {
-        return false;
-    }
-    if let Some(command) = line.strip_prefix('$') {
-        check_command(rt, alloc, table, command, out);
-        return true;
-    }
-    if let Some(command) = line.strip_prefix('%') {
-        check_archive(rt, alloc, table, command, out);
-        return true;
-    }
-    match row_of(line) {
-        Ok(row) => check_row(rt, alloc, &row, out),
-        Err(failure) => out.fail(failure),
-    }
-    true
+/// Returns whether a line of a table, without the spaces around it, is a row.
+fn is_row(line: &str) -> bool {
+    let is_other = line.starts_with('#') || line.starts_with('=') || line.starts_with('/');
+    !line.is_empty() && !is_other
 }
 
-/// The number of rows of the tables, and of differing ones.
+/// Returns a row without the sign of its kind.
+fn fields_of(line: &str) -> &str {
+    line.strip_prefix('$')
+        .or(line.strip_prefix('%'))
+        .unwrap_or(line)
+}
+
+/// Checks a row of a table.
+fn check_line<R: Threads + Wait + Sync>(rt: &R, table: &str, line: &str, out: &mut Differences) {
+    if line.starts_with('$') {
+        check_command(rt, table, fields_of(line), out);
+    } else if line.starts_with('%') {
+        check_archive(rt, table, fields_of(line), out);
+    } else {
+        match row_of(line) {
+            Ok(row) => check_row(rt, &row, out),
+            Err(error) => out.fail(error),
+        }
+    }
+}
+
+/// The number of rows of the tables that are checked on each path, and of rows that are not or that differ.
 #[derive(Clone, Copy)]
 struct Rows {
     all: u32,
@@ -70,25 +69,14 @@ struct Rows {
 }
 
 impl Rows {
-    /// Checks the line of this number, and writes its differences.
-    fn check<R: Threads + Wait + Sync, W: Write>(
-        &mut self,
-        rt: &R,
-        alloc: Global,
-        table: &str,
-        (number, line): (usize, &str),
-        out: &mut W,
-    ) -> IoResult<()> {
-        let mut differences = Differences::new(alloc);
-        let is_row = check_line(rt, alloc, table, line, &mut differences);
-        let has_failed = differences.failure().is_some();
-        if is_row && !has_failed {
+    /// Counts a row.
+    fn count(&mut self, differences: &Differences) {
+        if !differences.has_failed() {
             self.all = self.all.saturating_add(1);
         }
-        if has_failed || differences.len() > 0 {
+        if differences.has_failed() || differences.len() > 0 {
             self.wrong = self.wrong.saturating_add(1);
         }
-        differences.write(number, out)
     }
 
     /// Checks each row of a table, and writes the differences.
@@ -102,46 +90,45 @@ impl Rows {
         let mut number: usize = 0;
         for line in table.lines() {
             number = number.saturating_add(1);
-            self.check(rt, alloc, table, (number, line), out)?;
+            let line = line.trim();
+            if is_row(line) {
+                let mut differences = Differences::new(alloc);
+                check_line(rt, table, line, &mut differences);
+                self.count(&differences);
+                differences.write(number, field(fields_of(line), 0), out)?;
+            }
         }
         Ok(())
     }
-}
 
-/// Returns the tables that the arguments name.
-fn tables_of(rt: &HostRuntime) -> IoResult<Vec<String>> {
-    let mut tables = Vec::new(rt.alloc());
-    for name in env::args(rt)?.skip(1) {
-        tables.push(fs::read_to_string(rt, name.as_str())?)?;
+    /// Writes whether the tables have rows and every row holds, and returns it.
+    fn report<W: Write>(self, out: &mut W) -> IoResult<bool> {
+        let holds = self.all > 0 && self.wrong == 0;
+        if self.all == 0 {
+            writeln!(out, "the tables have no rows")?;
+        } else if holds {
+            writeln!(out, "every case holds")?;
+        }
+        Ok(holds)
     }
-    Ok(tables)
 }
 
-/// Checks tables, and returns whether they have rows and every row holds.
+/// Checks the tables that the arguments name, and returns whether they have rows and every row holds.
 fn check<R: Threads + Wait + Sync, W: Write>(
-    rt: &R,
-    alloc: Global,
-    tables: &[String],
+    rt: &HostRuntime,
+    threads: &R,
     out: &mut W,
 ) -> IoResult<bool> {
     let mut rows = Rows { all: 0, wrong: 0 };
-    for table in tables {
-        rows.check_table(rt, alloc, table.as_str(), out)?;
+    for name in env::args(rt)?.skip(1) {
+        let table = fs::read_to_string(rt, name.as_str())?;
+        rows.check_table(threads, rt.alloc(), table.as_str(), out)?;
     }
-    if rows.all == 0 {
-        writeln!(out, "the tables have no rows")?;
-    } else if rows.wrong == 0 {
-        writeln!(out, "every case holds")?;
-    }
-    Ok(rows.all > 0 && rows.wrong == 0)
+    rows.report(out)
 }
 
 fn main(rt: HostRuntime) -> ExitCode {
-    let checked = match tables_of(&rt) {
-        Ok(tables) => check(&rt, rt.alloc(), &tables, &mut rt.stdout()),
-        Err(error) => Err(error),
-    };
-    match checked {
+    match check(&rt, &rt, &mut rt.stdout()) {
         Ok(true) => ExitCode::SUCCESS,
         Ok(false) => ExitCode::FAILURE,
         Err(error) => {

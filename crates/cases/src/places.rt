@@ -1,11 +1,11 @@
 //! Rows of MCUs from positions: one after the other, all at once, while the file comes, each from its own position, and
 //! from windows of the file.
 
-ghost use Rattle.std.specs.Prelude.{◌<◌};
+ghost use Rattle.std.specs.Prelude.{◌<◌, ◌≤◌};
 
 use crate::buffers::put_refusal;
 use crate::case::Case;
-use crate::differences::{Differences, compare_bytes, compare_numbers, compare_texts};
+use crate::differences::Differences;
 use jri_memory::status::{NOT_IN_WINDOW, OK};
 use jri_memory::{
     FileBytes, RowPlace, RowsReport, decode_file_rows, decode_window_rows, skip_file_rows,
@@ -26,78 +26,74 @@ const TOP: RowPlace = RowPlace {
     state: 0,
 };
 
-/// The position after the rows that are decoded, and what the last call reported.
+/// The position after the rows that are decoded, their first line, and what the last call reported.
 #[derive(Clone, Copy)]
 struct Reading {
+    alloc: Global,
     place: RowPlace,
+    first_line: u32,
     report: RowsReport,
     /// The size of a line in bytes.
     line: usize,
 }
 
 impl Reading {
-    fn at_top(line: usize) -> Reading {
+    fn at_top(case: &Case<'_>) -> Reading {
         Reading {
+            alloc: case.alloc,
             place: TOP,
+            first_line: 0,
             report: RowsReport::empty(),
-            line,
+            line: case.line(),
         }
     }
 
-    /// Decodes at most the given number of rows to their lines in `pixels`, of the whole image, and returns the status.
-    fn decode(
-        &mut self,
-        alloc: Global,
-        bytes: &[u8],
-        more: u32,
-        rows: u32,
-        first_line: u32,
-        pixels: &mut [u8],
-    ) -> u32 {
-        let from = usize::saturating_mul(first_line as usize, self.line).min(pixels.len());
-        let pixels = &mut pixels[from..];
-        let (mut place, mut report) = (self.place, RowsReport::empty());
-        let answer = decode_file_rows(alloc, bytes, more, &mut place, rows, pixels, &mut report);
+    /// Returns the offset of the next line in an image of the given size in bytes.
+    fn offset(&self, size: usize) -> usize
+        ensures { result ≤ size }
+    {
+        usize::saturating_mul(self.first_line as usize, self.line).min(size)
+    }
+
+    /// Notes a call's report, and returns whether the call has succeeded.
+    fn step(&mut self, answer: u32, place: RowPlace, report: RowsReport) -> bool {
         self.place = place;
         self.report = report;
-        answer
+        if answer == OK && report.lines > 0 {
+            self.first_line = report.first_line.saturating_add(report.lines);
+        }
+        answer == OK
+    }
+
+    /// Decodes at most the given number of rows to their lines in `pixels`, of the whole image, and returns whether the call
+    /// succeeds.
+    fn decode(&mut self, bytes: &[u8], more: u32, rows: u32, pixels: &mut [u8]) -> bool {
+        let (mut place, mut report) = (self.place, RowsReport::empty());
+        let from = self.offset(pixels.len());
+        let (alloc, rest) = (self.alloc, &mut pixels[from..]);
+        let answer = decode_file_rows(alloc, bytes, more, &mut place, rows, rest, &mut report);
+        self.step(answer, place, report)
     }
 
     /// Decodes the rows that a window makes final to their lines in `pixels`, and returns the call's status.
-    fn decode_window(
-        &mut self,
-        alloc: Global,
-        header: &[u8],
-        window: FileBytes<'_>,
-        first_line: u32,
-        pixels: &mut [u8],
-    ) -> u32 {
-        let from = usize::saturating_mul(first_line as usize, self.line).min(pixels.len());
-        let pixels = &mut pixels[from..];
+    fn decode_window(&mut self, header: &[u8], window: FileBytes<'_>, pixels: &mut [u8]) -> u32 {
         let (mut place, mut report) = (self.place, RowsReport::empty());
+        let from = self.offset(pixels.len());
+        let (alloc, rest) = (self.alloc, &mut pixels[from..]);
         let (rows, all) = (u32::MAX, &mut report);
-        let answer = decode_window_rows(alloc, header, window, &mut place, rows, pixels, all);
-        self.place = place;
-        self.report = report;
+        let answer = decode_window_rows(alloc, header, window, &mut place, rows, rest, all);
+        self.step(answer, place, report);
         answer
-    }
-
-    /// Returns the line after those of the last call.
-    fn next_line(&self) -> u32 {
-        self.report.first_line.saturating_add(self.report.lines)
     }
 }
 
 /// Decodes rows into `pixels`, at most the given number a call, until no row is left.
 fn by_rows(case: &Case<'_>, rows: u32, pixels: &mut [u8]) -> Reading {
-    let mut reading = Reading::at_top(case.line());
-    let mut first_line = 0;
+    let mut reading = Reading::at_top(case);
     for _ in 0..=pixels.len() {
-        let answer = reading.decode(case.alloc, case.bytes, 0, rows, first_line, pixels);
-        if answer != OK {
-            return reading;
+        if !reading.decode(case.bytes, 0, rows, pixels) {
+            break;
         }
-        first_line = reading.next_line();
     }
     reading
 }
@@ -106,18 +102,14 @@ fn by_rows(case: &Case<'_>, rows: u32, pixels: &mut [u8]) -> Reading {
 fn in_parts(case: &Case<'_>, part: usize, pixels: &mut [u8])
     requires { 0 < part }
 {
-    let (alloc, bytes) = (case.alloc, case.bytes);
-    let mut reading = Reading::at_top(case.line());
-    let mut first_line = 0;
+    let bytes = case.bytes;
+    let mut reading = Reading::at_top(case);
     let mut length: usize = 0;
     for more in bytes.chunks(part) {
         length = length.saturating_add(more.len()).min(bytes.len());
-        let answer = reading.decode(alloc, &bytes[..length], 1, u32::MAX, first_line, pixels);
-        if answer == OK && reading.report.lines > 0 {
-            first_line = reading.next_line();
-        }
+        reading.decode(&bytes[..length], 1, u32::MAX, pixels);
     }
-    reading.decode(alloc, bytes, 0, u32::MAX, first_line, pixels);
+    reading.decode(bytes, 0, u32::MAX, pixels);
 }
 
 /// Returns the bytes of a file starting at an offset, at most the given number.
@@ -136,67 +128,54 @@ fn window_of(bytes: &[u8], at: u64, size: usize) -> FileBytes<'_> {
 /// that has made no row final.
 fn in_windows(case: &Case<'_>, size: usize, pixels: &mut [u8]) {
     let bytes = case.bytes;
-    let mut reading = Reading::at_top(case.line());
+    let mut reading = Reading::at_top(case);
     let mut header: &[u8] = &[];
-    let mut first_line = 0;
     let mut length = size;
     for _ in 0..=bytes.len() {
         let window = window_of(bytes, reading.place.at, length);
         if reading.place.at == 0 {
             header = window.bytes;
         }
-        if reading.decode_window(case.alloc, header, window, first_line, pixels) != OK {
+        if reading.decode_window(header, window, pixels) != OK {
             return;
         }
-        if reading.report.rows > 0 {
-            first_line = reading.next_line();
-            length = size;
+        length = if reading.report.rows > 0 {
+            size
         } else {
-            length = usize::saturating_mul(length, 2);
-        }
+            usize::saturating_mul(length, 2)
+        };
     }
 }
 
 /// Compares the results of windows that do not have the position: one that begins after the file's end, and one that
 /// ends before the scan header's.
 fn compare_outside(case: &Case<'_>, pixels: &mut [u8], out: &mut Differences) {
-    let after = FileBytes {
-        from: u64::MAX,
-        bytes: &[],
-        are_all: true,
-    };
-    let before = FileBytes { from: 0, ..after };
-    for window in [after, before] {
-        let mut reading = Reading::at_top(case.line());
-        let answer = reading.decode_window(case.alloc, case.bytes, window, 0, pixels);
-        let subject = case.at("rows of another window");
-        compare_numbers(out, subject, u64::from(NOT_IN_WINDOW), u64::from(answer));
+    for from in [u64::MAX, 0] {
+        let window = FileBytes {
+            from,
+            bytes: &[],
+            are_all: true,
+        };
+        let answer = Reading::at_top(case).decode_window(case.bytes, window, pixels);
+        out.compare_numbers(
+            "rows of another window",
+            u64::from(NOT_IN_WINDOW),
+            u64::from(answer),
+        );
     }
 }
 
-/// A position, and the first line after it.
-#[derive(Clone, Copy)]
-struct IndexEntry {
-    place: RowPlace,
-    first_line: u32,
-}
-
-/// Appends the positions before each row.
-fn put_index(
-    entries: &mut Vec<IndexEntry>,
-    alloc: Global,
-    bytes: &[u8],
-    height: u32,
-) -> Result<(), AllocError> {
+/// Appends the readings that stand before each row.
+fn put_index(entries: &mut Vec<Reading>, case: &Case<'_>) -> Result<(), AllocError> {
     let mut next = TOP;
-    for _ in 0..height {
-        let place = next;
-        let mut report = RowsReport::empty();
-        if skip_file_rows(alloc, bytes, 0, &mut next, 1, &mut report) != OK {
+    for _ in 0..case.header.height {
+        let mut entry = Reading::at_top(case);
+        entry.place = next;
+        if skip_file_rows(case.alloc, case.bytes, 0, &mut next, 1, &mut entry.report) != OK {
             break;
         }
-        let first_line = report.first_line;
-        if entries.push(IndexEntry { place, first_line }).is_err() {
+        entry.first_line = entry.report.first_line;
+        if entries.push(entry).is_err() {
             return Err(AllocError);
         }
     }
@@ -206,17 +185,16 @@ fn put_index(
 /// Decodes each row from its own position, the last row first.
 fn by_index(case: &Case<'_>, pixels: &mut [u8], out: &mut Differences) {
     let mut entries = Vec::new(case.alloc);
-    out.note(put_index(&mut entries, case.alloc, case.bytes, case.header.height));
+    out.note(put_index(&mut entries, case));
     for entry in entries.iter().rev() {
-        let mut reading = Reading::at_top(case.line());
-        reading.place = entry.place;
-        reading.decode(case.alloc, case.bytes, 0, 1, entry.first_line, pixels);
+        let mut reading = *entry;
+        reading.decode(case.bytes, 0, 1, pixels);
     }
 }
 
 /// Compares an image with a case's, and clears it.
 fn compare_pixels(case: &Case<'_>, path: &str, pixels: &mut [u8], out: &mut Differences) {
-    compare_bytes(out, case.at(path), case.samples(), pixels);
+    out.compare_bytes(path, case.samples(), pixels);
     pixels.fill(7);
 }
 
@@ -224,7 +202,7 @@ fn compare_pixels(case: &Case<'_>, path: &str, pixels: &mut [u8], out: &mut Diff
 fn compare_refusal(case: &Case<'_>, report: &RowsReport, out: &mut Differences) {
     let mut found = String::new(case.alloc);
     out.note(put_refusal(&mut found, report.refusal, report.detail));
-    compare_texts(out, case.at("rows"), case.report, found.as_str());
+    out.compare_texts("rows", case.report, found.as_str());
 }
 
 /// Decodes the rows of a case's file in several ways; `pixels` has space for its image.
@@ -234,7 +212,7 @@ fn check_ways(case: &Case<'_>, pixels: &mut [u8], out: &mut Differences) {
         return compare_refusal(case, &reading.report, out);
     }
     compare_pixels(case, "row by row", pixels, out);
-    let _all = by_rows(case, u32::MAX, pixels);
+    by_rows(case, u32::MAX, pixels);
     compare_pixels(case, "all rows", pixels, out);
     let part = if case.bytes.len() <= LONG { 1 } else { 4099 };
     in_parts(case, part, pixels);
@@ -248,6 +226,6 @@ fn check_ways(case: &Case<'_>, pixels: &mut [u8], out: &mut Differences) {
 
 /// Decodes the rows of a case's file from positions.
 pub(crate) fn check_places(case: &Case<'_>, out: &mut Differences) {
-    let mut pixels = out.bytes(case.alloc, 7, case.samples().len());
+    let mut pixels = out.bytes(7, case.samples().len());
     check_ways(case, pixels.as_mut_slice(), out);
 }

@@ -1,17 +1,6 @@
 //! A row of the table.
 
-use crate::failure::Failure;
-
-/// What a row says of its file.
-#[derive(Clone, Copy)]
-pub(crate) struct Options {
-    /// The number of intervals that are decoded, if not all are.
-    pub first: Option<u32>,
-    /// The least and the greatest length to which the file is cut, if it is.
-    pub cut: Option<(usize, usize)>,
-    /// Whether the stored run of `jri_check` has the file; such a file is also cut and changed at each byte.
-    pub is_stored: bool,
-}
+use test_files::error::NotationError;
 
 /// A row's fields, as the table has them.
 #[derive(Clone, Copy)]
@@ -19,7 +8,12 @@ pub(crate) struct Row<'a> {
     pub name: &'a str,
     /// The file, in the notation of files.
     pub file: &'a str,
-    pub options: Options,
+    /// The number of intervals that are decoded, if not all are.
+    pub first: Option<u32>,
+    /// The least and the greatest length to which the file is cut, if it is.
+    pub cut: Option<(usize, usize)>,
+    /// Whether the stored run of `jri_check` has the file; such a file is also cut and changed at each byte.
+    pub is_stored: bool,
     /// The lines of the report, separated by `/`.
     pub report: &'a str,
     pub status: u8,
@@ -31,45 +25,24 @@ pub(crate) struct Row<'a> {
 
 /// Returns the part of a text of this number, between separators; nothing if the text has fewer.
 pub(crate) fn part(text: &str, separator: char, number: usize) -> &str {
-    for (i, part) in text.split(separator).enumerate() {
-        if i == number {
-            return part;
-        }
-    }
-    ""
+    text.split(separator).nth(number).unwrap_or("")
 }
 
 /// Returns the lengths of the option `cut`, as `2..145`.
-fn lengths_of(digits: &str) -> Result<(usize, usize), Failure> {
-    match digits.split_once("..") {
-        Some((least, most)) => Ok((least.parse::<usize>()?, most.parse::<usize>()?)),
-        None => Err(Failure::Malformed),
-    }
+fn lengths_of(digits: &str) -> Result<(usize, usize), NotationError> {
+    let (least, most) = digits.split_once("..").ok_or(NotationError::Malformed)?;
+    Ok((least.parse::<usize>()?, most.parse::<usize>()?))
 }
 
-/// Returns options with that of a word.
-fn with_option(options: Options, word: &str) -> Result<Options, Failure> {
-    let mut options = options;
+/// Changes a row as an option says.
+fn set(row: &mut Row<'_>, word: &str) -> Result<(), NotationError> {
     match word.split_once('=') {
-        None if word == "stored" => options.is_stored = true,
-        Some(("first", digits)) => options.first = Some(digits.parse::<u32>()?),
-        Some(("cut", digits)) => options.cut = Some(lengths_of(digits)?),
-        _ => return Err(Failure::Malformed),
+        None if word == "stored" => row.is_stored = true,
+        Some(("first", digits)) => row.first = Some(digits.parse::<u32>()?),
+        Some(("cut", digits)) => row.cut = Some(lengths_of(digits)?),
+        _ => return Err(NotationError::Malformed),
     }
-    Ok(options)
-}
-
-/// Returns the options of a row.
-fn options_of(words: &str) -> Result<Options, Failure> {
-    let mut options = Options {
-        first: None,
-        cut: None,
-        is_stored: false,
-    };
-    for word in words.split_whitespace() {
-        options = with_option(options, word)?;
-    }
-    Ok(options)
+    Ok(())
 }
 
 /// Returns the field of this number, without the spaces around it; nothing if the line has fewer.
@@ -78,19 +51,23 @@ pub(crate) fn field(line: &str, number: usize) -> &str {
 }
 
 /// Returns the row that a line of the table has.
-pub(crate) fn row_of(line: &str) -> Result<Row<'_>, Failure> {
+pub(crate) fn row_of(line: &str) -> Result<Row<'_>, NotationError> {
     if line.split('|').count() != 7 {
-        return Err(Failure::Malformed);
+        return Err(NotationError::Malformed);
     }
-    let options = options_of(field(line, 2))?;
-    let status = field(line, 4).parse::<u8>()?;
-    Ok(Row {
+    let mut row = Row {
         name: field(line, 0),
         file: field(line, 1),
-        options,
+        first: None,
+        cut: None,
+        is_stored: false,
         report: field(line, 3),
-        status,
+        status: field(line, 4).parse::<u8>()?,
         picture: field(line, 5),
         damaged: field(line, 6),
-    })
+    };
+    for word in field(line, 2).split_whitespace() {
+        set(&mut row, word)?;
+    }
+    Ok(row)
 }

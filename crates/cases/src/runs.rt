@@ -4,7 +4,7 @@ ghost use Rattle.std.specs.Prelude.{◌≤◌};
 ghost use Rattle.jr_base.specs.declared.limits.TheConstants.{MAX_WORKERS};
 
 use crate::case::Case;
-use crate::differences::{Differences, compare_bytes};
+use crate::differences::Differences;
 use jr_paint::Tally;
 use jr_wall::OpenGate;
 use jri_engine::{Fault, Report, finish, run};
@@ -36,11 +36,11 @@ pub(crate) fn compare_written(
     outcome: Result<Report, Fault>,
     out: &mut Differences,
 ) {
-    compare_bytes(out, case.at(path), case.picture, text);
+    out.compare_bytes(path, case.picture, text);
     compare_outcome(case, path, case.samples(), outcome, out);
 }
 
-/// Returns `count` bytes at most a call.
+/// An input that returns at most `count` bytes a call.
 #[derive(Drop)]
 struct SlowInput<'a> {
     rest: &'a [u8],
@@ -57,46 +57,58 @@ impl Read for SlowInput<'_> {
     }
 }
 
-/// Runs a case with this number of workers.
-fn check_run<R: Threads + Wait + Sync, I: Read + Drop>(
+/// Returns the image of a file that a number of workers write, and the run's outcome. The input returns at most `count` bytes
+/// a call.
+fn written_by<R: Threads + Wait + Sync>(
     rt: &R,
-    case: &Case<'_>,
-    input: I,
+    alloc: Global,
+    input: SlowInput<'_>,
     workers: u32,
-    path: &str,
-    out: &mut Differences,
-)
+    first: Option<u32>,
+) -> (Vec<u8>, Result<Report, Fault>)
     requires some { 1 ≤ workers }
     requires few { workers ≤ MAX_WORKERS }
 {
-    let first = case.row.options.first;
     let mut input = Tally::of(input);
-    let mut text = Tally::of(Vec::new(case.alloc));
-    let outcome = run(
-        rt, case.alloc, &mut input, &mut text, workers, first, &OpenGate,
-    );
-    compare_written(case, path, text.into_inner().as_slice(), outcome, out);
-}
-
-/// Runs a case with 1, 2, 4 and 64 workers, once with an input that returns some bytes a call.
-pub(crate) fn check_runs<R: Threads + Wait + Sync>(rt: &R, case: &Case<'_>, out: &mut Differences) {
-    let rest = case.bytes;
-    let slow = SlowInput { rest, count: 4099 };
-    check_run(rt, case, rest, 1, "run with 1 worker", out);
-    check_run(rt, case, slow, 2, "run with 2 workers", out);
-    check_run(rt, case, rest, 4, "run with 4 workers", out);
-    check_run(rt, case, rest, 64, "run with 64 workers", out);
+    let mut text = Tally::of(Vec::new(alloc));
+    let outcome = run(rt, alloc, &mut input, &mut text, workers, first, &OpenGate);
+    (text.into_inner(), outcome)
 }
 
 /// Returns the image of a file that one worker writes, and the run's outcome.
 pub(crate) fn written<R: Threads + Wait + Sync>(
     rt: &R,
     alloc: Global,
-    bytes: &[u8],
+    rest: &[u8],
     first: Option<u32>,
 ) -> (Vec<u8>, Result<Report, Fault>) {
-    let mut input = Tally::of(bytes);
-    let mut text = Tally::of(Vec::new(alloc));
-    let outcome = run(rt, alloc, &mut input, &mut text, 1, first, &OpenGate);
-    (text.into_inner(), outcome)
+    let count = usize::MAX;
+    written_by(rt, alloc, SlowInput { rest, count }, 1, first)
+}
+
+/// Runs a case with this number of workers. The input returns at most `count` bytes a call.
+fn check_run<R: Threads + Wait + Sync>(
+    rt: &R,
+    case: &Case<'_>,
+    workers: u32,
+    count: usize,
+    path: &str,
+    out: &mut Differences,
+)
+    requires some { 1 ≤ workers }
+    requires few { workers ≤ MAX_WORKERS }
+{
+    let (rest, first) = (case.bytes, case.row.first);
+    let input = SlowInput { rest, count };
+    let (text, outcome) = written_by(rt, case.alloc, input, workers, first);
+    compare_written(case, path, text.as_slice(), outcome, out);
+}
+
+/// Runs a case with 1, 2, 4 and 64 workers, once with an input that returns some bytes a call.
+pub(crate) fn check_runs<R: Threads + Wait + Sync>(rt: &R, case: &Case<'_>, out: &mut Differences) {
+    let all = usize::MAX;
+    check_run(rt, case, 1, all, "run with 1 worker", out);
+    check_run(rt, case, 2, 4099, "run with 2 workers", out);
+    check_run(rt, case, 4, all, "run with 4 workers", out);
+    check_run(rt, case, 64, all, "run with 64 workers", out);
 }

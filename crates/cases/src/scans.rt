@@ -5,8 +5,8 @@ ghost use Rattle.jr_base.specs.declared.limits.TheConstants.{MAX_WORKERS};
 
 use crate::case::Case;
 use crate::differences::Differences;
-use crate::failure::Failure;
 use crate::runs::compare_written;
+use jr_base::Memory;
 use jr_crew::write_scan_by;
 use jr_paint::{Tally, write_netpbm};
 use jr_picture::Counts;
@@ -15,6 +15,7 @@ use jr_wall::{Board, OpenGate, decode_all, decode_alone};
 use jri_engine::{Fault, Report, scan_of_file};
 use std::sync::{Arc, Wait};
 use std::thread::Threads;
+use test_files::error::NotationError;
 
 /// Returns the report of a scan with these counts.
 pub(crate) fn report_of(scan: &Scan, counts: Counts) -> Report {
@@ -39,7 +40,7 @@ fn check_crew<R: Threads + Wait + Sync>(
     requires some { 1 ≤ workers }
     requires few { workers ≤ MAX_WORKERS }
 {
-    let first = case.row.options.first;
+    let first = case.row.first;
     let mut text = Tally::of(Vec::new(case.alloc));
     let outcome = match write_scan_by(rt, case.alloc, scan, workers, first, &OpenGate, &mut text) {
         Ok(counts) => Ok(report_of(scan, counts)),
@@ -49,38 +50,40 @@ fn check_crew<R: Threads + Wait + Sync>(
 }
 
 /// Writes the image of a board.
-fn check_board(case: &Case<'_>, scan: &Scan, board: &Board, path: &str, out: &mut Differences) {
+fn check_board(
+    case: &Case<'_>,
+    scan: &Scan,
+    board: Result<Board, Memory>,
+    path: &str,
+    out: &mut Differences,
+) {
+    let Ok(board) = board else {
+        return out.fail(NotationError::Memory);
+    };
     let counts = board.headline();
     let mut text = Tally::of(Vec::new(case.alloc));
-    let outcome = match write_netpbm(board, &mut text) {
+    let outcome = match write_netpbm(&board, &mut text) {
         Ok(()) => Ok(report_of(scan, counts)),
         Err(_) => Err(Fault::Write),
     };
     compare_written(case, path, text.into_inner().as_slice(), outcome, out);
 }
 
-/// Decodes a scan onto a board in the calling thread.
-fn check_alone(case: &Case<'_>, scan: &Arc<Scan>, out: &mut Differences) {
-    match decode_alone(case.alloc, scan, case.row.options.first) {
-        Ok(board) => check_board(case, scan, &board, "board of one worker", out),
-        Err(_) => out.fail(Failure::Memory),
-    }
-}
-
-/// Decodes a scan onto a board with two workers.
-fn check_two<R: Threads + Wait + Sync>(
+/// Decodes a scan onto a board in the calling thread, and with two workers.
+fn check_boards<R: Threads + Wait + Sync>(
     rt: &R,
     case: &Case<'_>,
     scan: &Arc<Scan>,
     out: &mut Differences,
 ) {
+    let (alloc, first) = (case.alloc, case.row.first);
+    let board = decode_alone(alloc, scan, first);
+    check_board(case, scan, board, "board of one worker", out);
     let Ok(shared) = Arc::try_clone(scan) else {
-        return out.fail(Failure::Memory);
+        return out.fail(NotationError::Memory);
     };
-    match decode_all(rt, case.alloc, shared, 2, case.row.options.first, &OpenGate) {
-        Ok(board) => check_board(case, scan, &board, "board of two workers", out),
-        Err(_) => out.fail(Failure::Memory),
-    }
+    let board = decode_all(rt, alloc, shared, 2, first, &OpenGate);
+    check_board(case, scan, board, "board of two workers", out);
 }
 
 /// Writes the images of a case's scan, if its file has one.
@@ -93,8 +96,7 @@ pub(crate) fn check_scans<R: Threads + Wait + Sync>(
         Ok(scan) => {
             check_crew(rt, case, &scan, 2, "rows by 2 workers", out);
             check_crew(rt, case, &scan, 5, "rows by 5 workers", out);
-            check_alone(case, &scan, out);
-            check_two(rt, case, &scan, out);
+            check_boards(rt, case, &scan, out);
         }
         Err(refusal) => compare_written(case, "scan", &[], Err(Fault::Refused(refusal)), out),
     }

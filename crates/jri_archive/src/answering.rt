@@ -20,7 +20,7 @@ fn write_text<W: Write, E: Write>(out: &mut Tally<W>, errors: &mut E, text: &str
     if let Err(error) = written
         && error.kind() != ErrorKind::BrokenPipe
     {
-        let _ = writeln!(errors, "cannot write to standard output");
+        let _ = errors.write_all(b"cannot write to standard output\n");
     }
 }
 
@@ -28,16 +28,17 @@ fn write_text<W: Write, E: Write>(out: &mut Tally<W>, errors: &mut E, text: &str
 pub fn answer<W: Write, E: Write>(out: &mut Tally<W>, errors: &mut E, unasked: &RequestError) -> u8
     ensures { result ≡ request_status unasked.now (has_failed out.new) }
 {
-    let _ = match unasked {
+    let text = match unasked {
         RequestError::Help(text) => {
             write_text(out, errors, text.as_str());
             if out.failed() {
                 return UNWRITTEN;
             }
-            Ok(())
+            ""
         }
-        RequestError::Wrong(text) => write!(errors, "{text}"),
-        RequestError::Memory => writeln!(errors, "out of memory"),
+        RequestError::Wrong(text) => text.as_str(),
+        RequestError::Memory => "out of memory\n",
     };
+    let _ = errors.write_all(text.as_bytes());
     unasked.status()
 }

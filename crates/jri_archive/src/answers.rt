@@ -6,7 +6,7 @@ ghost use Rattle.jri_archive.specs.Status.{request_error_status};
 use std::alloc::AllocError;
 
 /// What is reported of each file.
-#[derive(Clone, Copy, PartialEq, Eq)]
+#[derive(Clone, Copy)]
 pub struct LineForm {
     /// Whether there is a line for each damaged interval.
     pub has_map: bool,

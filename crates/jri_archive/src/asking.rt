@@ -11,72 +11,123 @@ use jr_base::VERSION;
 use jr_base::limits::MAX_WORKERS;
 use std::alloc::{AllocError, Global};
 
-/// Returns an argument without a value.
-fn flag<'a>(alloc: Global, name: &'a str, help: &'a str) -> Arg<'a> {
-    Arg::new(alloc, name)
-        .long(name)
-        .action(ArgAction::SetTrue)
-        .help(help)
+/// What an argument is besides its name, the name of its value and its help.
+#[derive(Clone, Copy)]
+enum Rule {
+    Plain,
+    /// It has a letter also.
+    Letter(char),
+    /// Which intervals a map has.
+    Which,
+    /// The number of workers.
+    Workers,
+    /// A state file is of files as they are.
+    WithoutState,
+    NeedsState,
 }
 
-/// Returns the argument for the number of files that are checked at once.
-fn workers_argument<'a>(alloc: Global) -> Arg<'a> {
-    Arg::new(alloc, "workers")
-        .long("workers")
-        .short('j')
-        .action(ArgAction::Set)
-        .value_name("N")
-        .help("Number of threads, 1 to 64")
-        .value_parser(value_parser!(u32).range(1..=i64::from(MAX_WORKERS)))
-        .default_value("4")
-}
+/// The name of an argument, the name of its value if it is not a flag, its help, and its rule.
+type Word = (&'static str, &'static [&'static str], &'static str, Rule);
 
-/// Returns the argument by which directories are searched.
-fn recursive_argument<'a>(alloc: Global) -> Arg<'a> {
-    flag(
-        alloc,
+static WORDS: [Word; 10] = [
+    (
+        "map",
+        &["WHICH"],
+        "Also list damaged intervals and doubtful values; =all also sound intervals",
+        Rule::Which,
+    ),
+    ("json", &[], "Print each line as a JSON object", Rule::Plain),
+    (
+        "quiet",
+        &[],
+        "List no sound files and print no counts",
+        Rule::Letter('q'),
+    ),
+    (
+        "counts",
+        &[],
+        "Also print the counts as the last line",
+        Rule::Plain,
+    ),
+    (
+        "workers",
+        &["N"],
+        "Number of threads, 1 to 64",
+        Rule::Workers,
+    ),
+    (
         "recursive",
+        &[],
         "Check the JPEG files in directories, recursively",
-    )
-    .short('r')
-}
-
-/// Returns the argument of the list of names.
-fn list_argument<'a>(alloc: Global) -> Arg<'a> {
-    Arg::new(alloc, "files0-from")
-        .long("files0-from")
-        .action(ArgAction::Set)
-        .value_name("LIST")
-        .help("Also check the NUL-terminated names in LIST; - is standard input")
-}
-
-/// Returns the argument by which files are resynchronised; a state file is of files as they are.
-fn resync_argument<'a>(alloc: Global) -> Result<Arg<'a>, AllocError> {
-    flag(
-        alloc,
+        Rule::Letter('r'),
+    ),
+    (
+        "files0-from",
+        &["LIST"],
+        "Also check the NUL-terminated names in LIST; - is standard input",
+        Rule::Plain,
+    ),
+    (
         "resync",
+        &[],
         "Check files read past restart markers that are out of step; not with --state",
-    )
-    .conflicts_with("state")
-}
-
-/// Returns the argument of the state file.
-fn state_argument<'a>(alloc: Global) -> Arg<'a> {
-    Arg::new(alloc, "state")
-        .long("state")
-        .action(ArgAction::Set)
-        .value_name("STATE")
-        .help("Record files in STATE, and skip those that it has unless they changed")
-}
-
-/// Returns the argument by which recorded files are read again.
-fn verify_argument<'a>(alloc: Global) -> Result<Arg<'a>, AllocError> {
-    flag(
-        alloc,
+        Rule::WithoutState,
+    ),
+    (
+        "state",
+        &["STATE"],
+        "Record files in STATE, and skip those that it has unless they changed",
+        Rule::Plain,
+    ),
+    (
         "verify",
+        &[],
         "Read recorded files again and report changed bytes; needs --state",
-    )
-    .requires_arg("state")
+        Rule::NeedsState,
+    ),
+];
+
+/// The values of `--map`.
+const DAMAGED_ALONE: &str = "damaged";
+
+const ALL: &str = "all";
+
+/// Returns an argument.
+fn argument<'a>(alloc: Global, word: &Word) -> Result<Arg<'a>, AllocError> {
+    let (name, values, help, rule) = *word;
+    let action = if values.is_empty() {
+        ArgAction::SetTrue
+    } else {
+        ArgAction::Set
+    };
+    let arg = Arg::new(alloc, name)
+        .long(name)
+        .action(action)
+        .value_names(values)
+        .help(help);
+    with_rule(arg, rule)
+}
+
+/// Adds a rule to an argument.
+fn with_rule<'a>(arg: Arg<'a>, rule: Rule) -> Result<Arg<'a>, AllocError> {
+    let values: &[&str] = &[DAMAGED_ALONE, ALL];
+    match rule {
+        Rule::Plain => Ok(arg),
+        Rule::Letter(letter) => Ok(arg.short(letter)),
+        Rule::Which => Ok(
+            arg.num_args(0..=1)
+                .require_equals(true)
+                .value_parser(values)
+                .default_missing_value(DAMAGED_ALONE),
+        ),
+        Rule::Workers => Ok(
+            arg.short('j')
+                .value_parser(value_parser!(u32).range(1..=i64::from(MAX_WORKERS)))
+                .default_value("4"),
+        ),
+        Rule::WithoutState => arg.conflicts_with("state"),
+        Rule::NeedsState => arg.requires_arg("state"),
+    }
 }
 
 /// Returns the arguments that are names of files.
@@ -87,74 +138,6 @@ fn files_argument<'a>(alloc: Global) -> Result<Arg<'a>, AllocError> {
         .value_name("FILE")
         .help("JPEG files to check; - is standard input")
         .required_unless_present("files0-from")
-}
-
-/// Returns the argument of the map, of damaged intervals alone or of all.
-fn map_argument<'a>(alloc: Global) -> Arg<'a> {
-    let values: &[&str] = &[DAMAGED_ALONE, ALL];
-    Arg::new(alloc, "map")
-        .long("map")
-        .action(ArgAction::Set)
-        .value_name("WHICH")
-        .num_args(0..=1)
-        .require_equals(true)
-        .value_parser(values)
-        .default_missing_value(DAMAGED_ALONE)
-        .help("Also list damaged intervals and doubtful values; =all also sound intervals")
-}
-
-/// The values of `--map`.
-const DAMAGED_ALONE: &str = "damaged";
-
-const ALL: &str = "all";
-
-/// Adds an argument to a command, unless an earlier one could not be added.
-fn with_word<'a>(
-    command: Result<Command<'a>, AllocError>,
-    word: Arg<'a>,
-) -> Result<Command<'a>, AllocError> {
-    match command {
-        Ok(command) => command.arg(word),
-        Err(refused) => Err(refused),
-    }
-}
-
-/// Adds an argument to a command, unless it or an earlier one could not be made.
-fn with_made_word<'a>(
-    command: Result<Command<'a>, AllocError>,
-    word: Result<Arg<'a>, AllocError>,
-) -> Result<Command<'a>, AllocError> {
-    match word {
-        Ok(word) => with_word(command, word),
-        Err(refused) => Err(refused),
-    }
-}
-
-/// Adds the arguments that select what is reported.
-fn with_line_words<'a>(
-    alloc: Global,
-    command: Result<Command<'a>, AllocError>,
-) -> Result<Command<'a>, AllocError> {
-    let json = flag(alloc, "json", "Print each line as a JSON object");
-    let quiet = flag(alloc, "quiet", "List no sound files and print no counts").short('q');
-    let counts = flag(alloc, "counts", "Also print the counts as the last line");
-    let with_map = with_word(command, map_argument(alloc));
-    let with_json = with_word(with_map, json);
-    let with_quiet = with_word(with_json, quiet);
-    with_word(with_quiet, counts)
-}
-
-/// Adds the arguments for the number of files that are checked at once, and for where further ones are found.
-fn with_finding_words<'a>(
-    alloc: Global,
-    command: Result<Command<'a>, AllocError>,
-) -> Result<Command<'a>, AllocError> {
-    let with_workers = with_word(command, workers_argument(alloc));
-    let with_recursive = with_word(with_workers, recursive_argument(alloc));
-    let with_list = with_word(with_recursive, list_argument(alloc));
-    let with_resync = with_made_word(with_list, resync_argument(alloc));
-    let with_state = with_word(with_resync, state_argument(alloc));
-    with_made_word(with_state, verify_argument(alloc))
 }
 
 /// The text of `--help` after the options.
@@ -168,20 +151,25 @@ Exit status, the first that applies:
   0  every file is sound
 The statuses 1 and 3 of jri mean other things.";
 
-/// Returns the program, without its arguments.
-fn wordless<'a>(alloc: Global) -> Command<'a> {
+/// Returns all arguments, in the order of the help.
+fn arguments<'a>(alloc: Global) -> Result<Vec<Arg<'a>>, AllocError> {
+    let mut arguments = Vec::new(alloc);
+    for word in &WORDS {
+        arguments.push(argument(alloc, word)?)?;
+    }
+    arguments.push(files_argument(alloc)?)?;
+    Ok(arguments)
+}
+
+/// `jri_check [--map[=all]] [--json] [-q] [--counts] [-j N] [-r] [--files0-from LIST] [--resync] [--state STATE [--verify]] FILE..`.
+fn command<'a>(alloc: Global) -> Result<Command<'a>, AllocError> {
+    let arguments = arguments(alloc)?;
     Command::new(alloc, "jri_check")
         .about("Check baseline JPEG files for damage")
         .version(VERSION.trim_end())
         .after_help(AFTER_HELP)
         .no_binary_name(true)
-}
-
-/// `jri_check [--map[=all]] [--json] [-q] [--counts] [-j N] [-r] [--files0-from LIST] [--resync] [--state STATE [--verify]] FILE..`.
-fn command<'a>(alloc: Global) -> Result<Command<'a>, AllocError> {
-    let with_lines = with_line_words(alloc, Ok(wordless(alloc)));
-    let with_finding = with_finding_words(alloc, with_lines);
-    with_made_word(with_finding, files_argument(alloc))
+        .args(arguments)
 }
 
 fn refusal(alloc: Global, error: &Error) -> RequestError {
@@ -197,64 +185,61 @@ fn refusal(alloc: Global, error: &Error) -> RequestError {
     }
 }
 
-/// Returns the names among the arguments.
-fn names_in(
+/// Adds the names among the arguments.
+fn add_names(
     alloc: Global,
     words: &[Vec<u8>],
     matches: &ArgMatches<'_>,
-) -> Result<Vec<Vec<u8>>, AllocError> {
-    let mut names = Vec::new(alloc);
+    names: &mut Vec<Vec<u8>>,
+) -> Result<(), AllocError> {
     if let Some(files) = matches.get_strs("files") {
         for text in files {
             names.push(bytes_of(alloc, words, text)?)?;
         }
     }
-    Ok(names)
+    Ok(())
 }
 
-/// Returns the name of the list of names.
-fn list_in(alloc: Global, matches: &ArgMatches<'_>) -> Result<Option<String>, AllocError> {
-    match matches.get_str("files0-from") {
-        Some(name) => Ok(Some(String::from_str(alloc, name)?)),
-        None => Ok(None),
+/// Stores a copy of a text, if there is one.
+fn set_text(
+    alloc: Global,
+    text: Option<&str>,
+    stored: &mut Option<String>,
+) -> Result<(), AllocError> {
+    if let Some(text) = text {
+        drop(stored.replace(String::from_str(alloc, text)?));
     }
+    Ok(())
 }
 
-/// Returns whether standard input is both a file and the list of names.
-fn is_read_twice(names: &[Vec<u8>], names_from: &Option<String>) -> bool {
-    let from_input = match names_from {
-        Some(list) => list.as_str() == "-",
-        None => false,
-    };
-    from_input && names.iter().any(|name| name.as_slice() == b"-".as_slice())
-}
-
-/// The error of arguments by which standard input is both a file and the list of names.
+/// The errors of arguments that the parser lets through.
 const READ_TWICE: &str =
     "error: standard input cannot be both a FILE and the LIST of --files0-from\n";
 
-/// Returns the name of the state file.
-///
-/// # Errors
-///
-/// Standard input, and a name that is not UTF-8.
-fn state_in(alloc: Global, matches: &ArgMatches<'_>) -> Result<Option<String>, RequestError> {
-    let Some(name) = matches.get_str("state") else {
-        return Ok(None);
-    };
-    if name == "-" {
-        return Err(RequestError::Wrong(String::from_str(alloc, STATE_INPUT)?));
-    }
-    if is_no_text(name) {
-        return Err(RequestError::Wrong(String::from_str(alloc, STATE_NAME)?));
-    }
-    Ok(Some(String::from_str(alloc, name)?))
-}
-
-/// The errors of names that a state file cannot have.
 const STATE_INPUT: &str = "error: the STATE of --state cannot be standard input\n";
 
 const STATE_NAME: &str = "error: the name of the STATE of --state is not UTF-8\n";
+
+/// Returns whether standard input is both a file and the list of names.
+fn is_read_twice(matches: &ArgMatches<'_>) -> bool {
+    if matches.get_str("files0-from") != Some("-") {
+        return false;
+    }
+    match matches.get_strs("files") {
+        Some(files) => files.contains(&"-"),
+        None => false,
+    }
+}
+
+/// Returns what is wrong with arguments that the parser lets through.
+fn error_of(matches: &ArgMatches<'_>) -> Option<&'static str> {
+    match matches.get_str("state") {
+        Some("-") => return Some(STATE_INPUT),
+        Some(name) if is_no_text(name) => return Some(STATE_NAME),
+        _ => {}
+    }
+    is_read_twice(matches).then_some(READ_TWICE)
+}
 
 /// Returns what a line reports.
 fn form_in(matches: &ArgMatches<'_>) -> LineForm {
@@ -267,6 +252,35 @@ fn form_in(matches: &ArgMatches<'_>) -> LineForm {
     }
 }
 
+/// Returns the number of workers, which the parser's contract does not bound.
+fn workers_in(matches: &ArgMatches<'_>) -> u32
+    ensures some { 1 ≤ result }
+    ensures few { result ≤ MAX_WORKERS }
+{
+    match matches.get_one::<u32>("workers") {
+        Some(workers) => workers.clamp(1, MAX_WORKERS),
+        None => 1,
+    }
+}
+
+/// Returns what valid arguments ask for, without the names.
+fn nameless(alloc: Global, matches: &ArgMatches<'_>) -> CheckRequest
+    ensures some { 1 ≤ result.workers }
+    ensures few { result.workers ≤ MAX_WORKERS }
+{
+    CheckRequest {
+        workers: workers_in(matches),
+        form: form_in(matches),
+        has_counts: matches.get_flag("counts"),
+        is_recursive: matches.get_flag("recursive"),
+        names_from: None,
+        is_resync: matches.get_flag("resync"),
+        state: None,
+        is_verifying: matches.get_flag("verify"),
+        names: Vec::new(alloc),
+    }
+}
+
 /// Returns what valid arguments ask for.
 fn request_in(
     alloc: Global,
@@ -276,26 +290,35 @@ fn request_in(
     ensures some { IfOk result (λ a. 1 ≤ a.workers) }
     ensures few { IfOk result (λ a. a.workers ≤ MAX_WORKERS) }
 {
-    let names = names_in(alloc, words, matches)?;
-    let names_from = list_in(alloc, matches)?;
-    let state = state_in(alloc, matches)?;
-    if is_read_twice(names.as_slice(), &names_from) {
-        return Err(RequestError::Wrong(String::from_str(alloc, READ_TWICE)?));
+    let mut request = nameless(alloc, matches);
+    let named = add_names(alloc, words, matches, &mut request.names);
+    let listed = set_text(
+        alloc,
+        matches.get_str("files0-from"),
+        &mut request.names_from,
+    );
+    let kept = set_text(alloc, matches.get_str("state"), &mut request.state);
+    match named.and(listed).and(kept) {
+        Ok(()) => Ok(request),
+        Err(_) => Err(RequestError::Memory),
     }
-    match matches.get_one::<u32>("workers") {
-        // the range of the argument's values, which the parser's contract does not repeat
-        Some(workers) if (1..=MAX_WORKERS).contains(&workers) => Ok(CheckRequest {
-            workers,
-            form: form_in(matches),
-            has_counts: matches.get_flag("counts"),
-            is_recursive: matches.get_flag("recursive"),
-            names_from,
-            is_resync: matches.get_flag("resync"),
-            state,
-            is_verifying: matches.get_flag("verify"),
-            names,
-        }),
-        _ => Err(RequestError::Wrong(String::new(alloc))),
+}
+
+/// Returns what parsed arguments ask for.
+fn checked_request(
+    alloc: Global,
+    words: &[Vec<u8>],
+    texts: &[String],
+) -> Result<CheckRequest, RequestError>
+    ensures some { IfOk result (λ a. 1 ≤ a.workers) }
+    ensures few { IfOk result (λ a. a.workers ≤ MAX_WORKERS) }
+{
+    match command(alloc)?.try_get_matches_from(texts) {
+        Ok(matches) => match error_of(&matches) {
+            Some(text) => Err(RequestError::Wrong(String::from_str(alloc, text)?)),
+            None => request_in(alloc, words, &matches),
+        },
+        Err(error) => Err(refusal(alloc, &error)),
     }
 }
 
@@ -307,8 +330,5 @@ pub fn asked(alloc: Global, words: &[Vec<u8>]) -> Result<CheckRequest, RequestEr
     ensures few { IfOk result (λ a. a.workers ≤ MAX_WORKERS) }
 {
     let texts = texts(alloc, words)?;
-    match command(alloc)?.try_get_matches_from(texts.as_slice()) {
-        Ok(matches) => request_in(alloc, words, &matches),
-        Err(error) => Err(refusal(alloc, &error)),
-    }
+    checked_request(alloc, words, texts.as_slice())
 }

@@ -26,7 +26,7 @@ pub enum FileState {
 }
 
 /// The number of files in each state.
-#[derive(Clone, Copy, PartialEq, Eq)]
+#[derive(Clone, Copy)]
 pub struct FileCounts {
     pub sound: u64,
     pub damaged: u64,

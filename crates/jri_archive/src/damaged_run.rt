@@ -1,12 +1,18 @@
 //! Damaged intervals that share a line.
 
-use jr_damage::{DamagedInterval, Lines, McuRange};
+use jr_damage::{CodedSpan, DamagedInterval, Lines, McuRange};
 
 /// A damaged interval, or consecutive ones that have no bytes.
 #[derive(Clone, Copy)]
 pub(crate) struct DamagedRun {
-    pub(crate) first: DamagedInterval,
-    pub(crate) last: DamagedInterval,
+    /// The numbers of the first and the last interval.
+    pub(crate) first: u32,
+    pub(crate) last: u32,
+    pub(crate) mcus: McuRange,
+    /// The number of the first MCUs of the first interval that can be decoded.
+    pub(crate) decodable: u32,
+    pub(crate) lines: Lines,
+    pub(crate) bytes: Option<CodedSpan>,
     /// Offset in the file of the byte in which the first MCU of the first interval begins that cannot be decoded.
     pub(crate) decodable_to: usize,
 }
@@ -15,45 +21,27 @@ impl DamagedRun {
     /// Returns the run of one interval.
     pub(crate) fn of(interval: DamagedInterval, decodable_to: usize) -> DamagedRun {
         DamagedRun {
-            first: interval,
-            last: interval,
+            first: interval.number,
+            last: interval.number,
+            mcus: interval.mcus,
+            decodable: interval.decodable,
+            lines: interval.lines,
+            bytes: interval.bytes,
             decodable_to,
         }
     }
 
     /// Returns the run with this run of one interval, if that follows it and neither has bytes.
     pub(crate) fn with(self, next: DamagedRun) -> Option<DamagedRun> {
-        let next = next.first;
-        let is_next = self.last.number.checked_add(1) == Some(next.number);
-        if !is_next || self.last.bytes.is_some() || next.bytes.is_some() {
+        let is_next = self.last.checked_add(1) == Some(next.first);
+        if !is_next || self.bytes.is_some() || next.bytes.is_some() {
             return None;
         }
-        Some(DamagedRun {
-            first: self.first,
-            last: next,
-            decodable_to: self.decodable_to,
-        })
-    }
-
-    /// Returns whether it is one interval.
-    pub(crate) fn is_single(&self) -> bool {
-        self.first.number == self.last.number
-    }
-
-    /// Returns the MCUs of all its intervals.
-    pub(crate) fn mcus(&self) -> McuRange {
-        let end = self.last.mcus.first.saturating_add(self.last.mcus.count);
-        McuRange {
-            first: self.first.mcus.first,
-            count: end.saturating_sub(self.first.mcus.first),
-        }
-    }
-
-    /// Returns the first and the last line of the image that they cover.
-    pub(crate) fn lines(&self) -> Lines {
-        Lines {
-            first: self.first.lines.first,
-            last: self.last.lines.last,
-        }
+        let mut run = self;
+        let end = next.mcus.first.saturating_add(next.mcus.count);
+        run.last = next.last;
+        run.mcus.count = end.saturating_sub(run.mcus.first);
+        run.lines.last = next.lines.last;
+        Some(run)
     }
 }

@@ -33,7 +33,7 @@ fn plain_count(bytes: &[u8]) -> usize
 }
 
 /// Returns the text that bytes begin with.
-fn text_of(bytes: &[u8]) -> &str
+pub(crate) fn text_of(bytes: &[u8]) -> &str
     ensures within { length result.now ≤ length bytes.now }
     ensures text { result.now ≡ take (length result.now) bytes.now }
 {

@@ -5,15 +5,15 @@ ghost use Rattle.jri_archive.specs.Outcomes.{IsOutcomeOf, plain_outcome, state_o
 ghost use Rattle.jri_archive.specs.Told.{AreTold, is_open};
 
 use crate::answers::LineForm;
+use crate::count_lines::append_counts;
 use crate::counts::{CheckEnd, CheckReport, FileCounts, FileState};
-use crate::json_lines::{write_counts_object, write_file_object};
-use crate::map::{TellError, write_breaks, write_map_in};
+use crate::lines::append_outcome;
+use crate::map::{TellError, write_breaks, write_line, write_map_in};
 use crate::names::NamesError;
 use crate::one_check::OneCheck;
 use crate::outcome::Outcome;
 use crate::progress::{Progress, Reported};
 use crate::state_record::FileRecord;
-use crate::text_lines::{append_counts_line, append_file_line};
 use jr_mend::Break;
 use std::alloc::Global;
 use std::io::Write;
@@ -58,30 +58,10 @@ impl<S: OneCheck, O, P> Model for FileQueue<S, O, P> {
     ghost invariant = { λ q. IsQueueOf S.names S.may_be (record { told = q.told; files = q.files; report = q.report }) };
 }
 
-/// Writes the line of a file by one write, unless the file is sound and sound ones are left out.
-fn write_file_line<O: Write>(
-    alloc: Global,
-    out: &mut O,
-    name: &[u8],
-    outcome: &Outcome,
-    form: LineForm,
-) -> Result<(), TellError> {
-    if form.is_quiet && outcome.state() == FileState::Sound {
-        return Ok(());
-    }
-    let mut line = String::new(alloc);
-    if form.is_json {
-        write_file_object(&mut line, name, outcome)?;
-    } else {
-        append_file_line(&mut line, name, outcome)?;
-    }
-    out.write_all(line.as_bytes())?;
-    Ok(())
-}
-
-/// Writes the line of a file and, if they are asked for, those of its damaged and doubtful intervals.
+/// Writes the line of a file and, if they are asked for, those of its damaged and doubtful intervals. A sound file has none
+/// if sound ones are left out. `line` is cleared for each.
 fn write_lines<O: Write>(
-    alloc: Global,
+    line: &mut String,
     out: &mut O,
     name: &[u8],
     file: &CheckedFile,
@@ -89,16 +69,19 @@ fn write_lines<O: Write>(
 ) -> Result<(), TellError>
     requires { IfSome file.now.bytes (λ b. IsOutcomeOf b.items (plain_outcome file.now.outcome)) }
 {
-    write_file_line(alloc, out, name, &file.outcome, form)?;
+    if !form.is_quiet || file.outcome.state() != FileState::Sound {
+        let made = append_outcome(line, name, &file.outcome, form.is_json);
+        write_line(out, made, line.as_str())?;
+    }
     if form.has_map
         && let Some(breaks) = &file.breaks
     {
-        write_breaks(alloc, out, name, breaks, form.is_json)?;
+        write_breaks(line, out, name, breaks, form.is_json)?;
     }
     if let Some(bytes) = &file.bytes
         && let Some(checked) = file.outcome.checked()
     {
-        write_map_in(alloc, out, name, bytes.as_slice(), checked, form)?;
+        return write_map_in(line, out, name, bytes.as_slice(), checked, form);
     }
     Ok(())
 }
@@ -111,13 +94,8 @@ pub(crate) fn write_counts<O: Write>(
     is_json: bool,
 ) -> Result<(), TellError> {
     let mut line = String::new(alloc);
-    if is_json {
-        write_counts_object(&mut line, counts)?;
-    } else {
-        append_counts_line(&mut line, counts)?;
-    }
-    out.write_all(line.as_bytes())?;
-    Ok(())
+    let made = append_counts(&mut line, counts, is_json);
+    write_line(out, made, line.as_str())
 }
 
 impl<S: OneCheck, O: Write, P: Progress + Drop> FileQueue<S, O, P> {
@@ -284,7 +262,8 @@ impl<S: OneCheck, O: Write, P: Progress + Drop> FileQueue<S, O, P> {
         let state = file.outcome.state();
         self.make_way(state);
         if !self.is_over() {
-            match write_lines(alloc, &mut self.out, name, file, self.form) {
+            let mut line = String::new(alloc);
+            match write_lines(&mut line, &mut self.out, name, file, self.form) {
                 Ok(()) => self.note(state),
                 Err(TellError::Write) => self.end(CheckEnd::Unwritten),
                 Err(TellError::Memory) => self.end(CheckEnd::Memory),

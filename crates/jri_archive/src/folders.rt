@@ -78,7 +78,7 @@ impl FolderWalk {
                 EntryKind::File => Ok(!is_jpeg(entry.name.as_slice())),
                 EntryKind::Unread(error) => Err(error),
             };
-            if entered != Ok(true) {
+            if !matches!(entered, Ok(true)) {
                 return Ok(Some(NamedFile {
                     name: entry.name,
                     error: entered.err(),
@@ -104,7 +104,7 @@ impl FolderWalk {
                 return Ok(None);
             };
             let entered = self.enter(alloc, folder, name.as_slice())?;
-            if entered != Ok(true) {
+            if !matches!(entered, Ok(true)) {
                 return Ok(Some(NamedFile {
                     name,
                     error: entered.err(),

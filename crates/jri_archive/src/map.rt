@@ -8,15 +8,11 @@ ghost use Rattle.jr_damage.specs.Verdicts.{IsFileScan};
 use crate::answers::LineForm;
 use crate::checking::Checked;
 use crate::damaged_run::DamagedRun;
-use crate::json_lines::{
-    write_break_object, write_doubtful_object, write_empty_object, write_interval_object,
-    write_sound_object,
-};
-use crate::sound_interval::SoundInterval;
-use crate::text_lines::{write_break, write_doubtful, write_empty, write_interval, write_sound};
+use crate::rows::{append_break, append_doubtful, append_run, append_sound};
 use jr_damage::{
     CodedSpan, DoubtfulMcu, Segment, damaged_interval, decodable_end, first_doubtful, segment_at,
 };
+use jr_head::Head;
 use jr_mend::Break;
 use jr_scan::IntervalRef;
 use std::alloc::{AllocError, Global};
@@ -43,63 +39,85 @@ impl From<Error> for TellError {
     }
 }
 
-/// Writes the line of a run of damaged intervals, if there is one, by one write.
-fn write_run<O: Write>(
-    line: &mut String,
+/// Writes a line that was made, by one write.
+pub(crate) fn write_line<O: Write>(
     out: &mut O,
-    name: &[u8],
-    run: Option<DamagedRun>,
-    is_json: bool,
+    made: Result<(), AllocError>,
+    line: &str,
 ) -> Result<(), TellError> {
-    let Some(run) = run else {
-        return Ok(());
-    };
-    line.clear();
-    match (run.is_single(), is_json) {
-        (true, true) => write_interval_object(line, name, &run)?,
-        (true, false) => write_interval(line, name, &run)?,
-        (false, true) => write_empty_object(line, name, &run)?,
-        (false, false) => write_empty(line, name, &run)?,
+    made?;
+    match out.write_all(line.as_bytes()) {
+        Ok(()) => Ok(()),
+        Err(_) => Err(TellError::Write),
     }
-    out.write_all(line.as_bytes())?;
-    Ok(())
 }
 
-/// Writes the line of a doubtful MCU by one write.
-fn write_doubt<O: Write>(
-    line: &mut String,
-    out: &mut O,
-    name: &[u8],
-    doubtful: &DoubtfulMcu,
+/// Writes the lines of a file's intervals, each by one write.
+#[derive(Drop)]
+struct MapWriter<'a, O> {
+    /// The line that is made.
+    line: &'a mut String,
+    out: &'a mut O,
+    /// The name of the file.
+    name: &'a [u8],
     is_json: bool,
-) -> Result<(), TellError> {
-    line.clear();
-    if is_json {
-        write_doubtful_object(line, name, doubtful)?;
-    } else {
-        write_doubtful(line, name, doubtful)?;
+    /// The damaged intervals whose line is not written.
+    run: Option<DamagedRun>,
+}
+
+impl<O: Write> MapWriter<'_, O> {
+    /// Writes the line of the run of damaged intervals, if there is one.
+    fn write_run(&mut self) -> Result<(), TellError> {
+        let Some(run) = self.run.take() else {
+            return Ok(());
+        };
+        self.line.clear();
+        let made = append_run(self.line, self.name, &run, self.is_json);
+        write_line(self.out, made, self.line.as_str())
     }
-    out.write_all(line.as_bytes())?;
-    Ok(())
+
+    /// Adds a damaged interval. If it begins another run, writes the line of the one before it.
+    fn add(&mut self, damaged: DamagedRun) -> Result<(), TellError> {
+        if let Some(longer) = self.run.and_then(|run| run.with(damaged)) {
+            self.run = Some(longer);
+            return Ok(());
+        }
+        self.write_run()?;
+        self.run = Some(damaged);
+        Ok(())
+    }
+
+    /// Writes the line of a sound interval.
+    fn write_sound(&mut self, head: &Head, number: u32, bytes: CodedSpan) -> Result<(), TellError>
+        requires { number < intervals_of head.now }
+    {
+        self.write_run()?;
+        self.line.clear();
+        let made = append_sound(self.line, self.name, head, number, bytes, self.is_json);
+        write_line(self.out, made, self.line.as_str())
+    }
+
+    /// Writes the line of a doubtful MCU.
+    fn write_doubtful(&mut self, doubtful: &DoubtfulMcu) -> Result<(), TellError> {
+        self.write_run()?;
+        self.line.clear();
+        let made = append_doubtful(self.line, self.name, doubtful, self.is_json);
+        write_line(self.out, made, self.line.as_str())
+    }
 }
 
 /// Writes a line for each marker that was out of step, each by one write.
 pub(crate) fn write_breaks<O: Write>(
-    alloc: Global,
+    line: &mut String,
     out: &mut O,
     name: &[u8],
     breaks: &[Break],
     is_json: bool,
 ) -> Result<(), TellError> {
-    let mut line = String::new(alloc);
     for found in breaks {
         line.clear();
-        if is_json {
-            write_break_object(&mut line, name, *found)?;
-        } else {
-            write_break(&mut line, name, *found)?;
-        }
-        out.write_all(line.as_bytes())?;
+        let made = append_break(line, name, *found, is_json);
+        write_line(out, made, line.as_str())?;
     }
     Ok(())
 }
@@ -114,45 +132,11 @@ fn damaged_run(file: &[u8], span: CodedSpan, interval: IntervalRef<'_>) -> Optio
     Some(DamagedRun::of(damaged, decodable_to))
 }
 
-/// Writes the line of a sound interval by one write.
-fn write_sound_line<O: Write>(
-    line: &mut String,
-    out: &mut O,
-    name: &[u8],
-    sound: &SoundInterval,
-    is_json: bool,
-) -> Result<(), TellError> {
-    line.clear();
-    if is_json {
-        write_sound_object(line, name, sound)?;
-    } else {
-        write_sound(line, name, sound)?;
-    }
-    out.write_all(line.as_bytes())?;
-    Ok(())
-}
-
-/// Returns the run with a damaged interval. If that begins another run, writes the line of the one before it.
-fn with_damaged<O: Write>(
-    line: &mut String,
-    out: &mut O,
-    name: &[u8],
-    run: Option<DamagedRun>,
-    damaged: DamagedRun,
-    is_json: bool,
-) -> Result<DamagedRun, TellError> {
-    if let Some(longer) = run.and_then(|run| run.with(damaged)) {
-        return Ok(longer);
-    }
-    write_run(line, out, name, run, is_json)?;
-    Ok(damaged)
-}
-
 /// Writes the lines of a map: as `write_map`, and if the form asks for it one for each sound interval.
-pub(crate) fn write_map_in<O: Write>(
-    alloc: Global,
-    out: &mut O,
-    name: &[u8],
+pub(crate) fn write_map_in<'a, O: Write>(
+    line: &'a mut String,
+    out: &'a mut O,
+    name: &'a [u8],
     file: &[u8],
     checked: &Checked,
     form: LineForm,
@@ -162,28 +146,28 @@ pub(crate) fn write_map_in<O: Write>(
     let scan = &checked.scan;
     let intervals = scan.intervals();
     let mut at = scan.head().scan_at() as usize;
-    let mut line = String::new(alloc);
-    let mut run: Option<DamagedRun> = None;
+    let mut lines = MapWriter {
+        line,
+        out,
+        name,
+        is_json: form.is_json,
+        run: None,
+    };
     for i in 0..intervals {
         let Segment { bytes, next } = segment_at(file, at, i, intervals);
         at = next;
         if checked.verdict.damaged > 0
             && let Some(damaged) = damaged_run(file, bytes, scan.interval_ref(i))
         {
-            run = Some(with_damaged(&mut line, out, name, run, damaged, form.is_json)?);
+            lines.add(damaged)?;
         } else if form.has_sound {
-            write_run(&mut line, out, name, run, form.is_json)?;
-            run = None;
-            let sound = SoundInterval::of(scan.head(), i, bytes);
-            write_sound_line(&mut line, out, name, &sound, form.is_json)?;
+            lines.write_sound(scan.head(), i, bytes)?;
         }
         if let Some(doubtful) = first_doubtful(file, bytes, scan.interval_ref(i)) {
-            write_run(&mut line, out, name, run, form.is_json)?;
-            run = None;
-            write_doubt(&mut line, out, name, &doubtful, form.is_json)?;
+            lines.write_doubtful(&doubtful)?;
         }
     }
-    write_run(&mut line, out, name, run, form.is_json)
+    lines.write_run()
 }
 
 /// Writes a line for each damaged interval, and one for consecutive ones without bytes; and a line for the first doubtful MCU of
@@ -204,5 +188,6 @@ pub fn write_map<O: Write>(
         is_json,
         is_quiet: false,
     };
-    write_map_in(alloc, out, name, file, checked, form)
+    let mut line = String::new(alloc);
+    write_map_in(&mut line, out, name, file, checked, form)
 }

@@ -96,4 +96,13 @@ impl Outcome {
             _ => None,
         }
     }
+
+    /// Returns why the file is refused; `None` also if memory ran out.
+    pub(crate) fn refusal(&self) -> Option<&Refusal> {
+        match self {
+            Outcome::Refused(Refusal::Memory) => None,
+            Outcome::Refused(refusal) | Outcome::ChangedRefused(refusal) => Some(refusal),
+            _ => None,
+        }
+    }
 }

@@ -7,7 +7,7 @@ use jr_mend::Break;
 use std::alloc::Global;
 
 /// Why the bytes of a file are not there.
-#[derive(Clone, Copy, PartialEq, Eq)]
+#[derive(Clone, Copy)]
 pub enum ReadError {
     /// No file has that name.
     NotFound,

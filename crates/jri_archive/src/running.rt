@@ -7,6 +7,7 @@ ghost use Rattle.jri_archive.specs.Status.{state_error_status};
 use crate::answering::answer;
 use crate::answers::{CheckRequest, RequestError};
 use crate::asking::asked;
+use crate::count_lines::write_counts_line;
 use crate::counts::{CheckEnd, CheckReport};
 use crate::in_step::InStepFolder;
 use crate::progress::Progress;
@@ -14,7 +15,6 @@ use crate::reading::{Folder, ReadError};
 use crate::sharing::check_all;
 use crate::source::Source;
 use crate::state_file::{State, StateError};
-use crate::text_lines::write_counts_line;
 use jr_base::Tally;
 use std::alloc::{AllocError, Global};
 use std::io::{BufReader, Eprint, ErrorKind, Read, Result as IoResult, Write};
@@ -108,13 +108,14 @@ fn report_end<E: Write>(errors: &mut E, report: &CheckReport, is_quiet: bool) {
     if !is_quiet {
         let _ = write_counts_line(errors, report.counts);
     }
-    let _ = match report.end {
-        CheckEnd::AllTold => Ok(()),
-        CheckEnd::NamesUnread => writeln!(errors, "cannot read further names"),
-        CheckEnd::Unwritten => writeln!(errors, "cannot write the lines"),
-        CheckEnd::Memory => writeln!(errors, "out of memory"),
-        CheckEnd::Unrecorded => writeln!(errors, "cannot write the state file"),
+    let text = match report.end {
+        CheckEnd::AllTold => "",
+        CheckEnd::NamesUnread => "cannot read further names\n",
+        CheckEnd::Unwritten => "cannot write the lines\n",
+        CheckEnd::Memory => "out of memory\n",
+        CheckEnd::Unrecorded => "cannot write the state file\n",
     };
+    let _ = errors.write_all(text.as_bytes());
 }
 
 /// Opens the list of names that the arguments name, if they name one.
@@ -150,14 +151,16 @@ fn open_state<L: Lists>(
 fn report_state<E: Write>(errors: &mut E, error: &StateError) -> u8
     ensures { result ≡ state_error_status error.now }
 {
+    let (what, why) = match error {
+        StateError::Unread(why) => ("cannot use the state file: ", why.text()),
+        StateError::InUse => ("cannot use the state file: ", "another run uses it"),
+        StateError::Damaged(_) => ("cannot use the state file: line ", ""),
+        StateError::Unwritten => ("cannot write the state file", ""),
+        StateError::Memory => ("out of memory", ""),
+    };
     let _ = match error {
-        StateError::Unread(why) => writeln!(errors, "cannot use the state file: {}", why.text()),
-        StateError::InUse => writeln!(errors, "cannot use the state file: another run uses it"),
-        StateError::Damaged(line) => {
-            writeln!(errors, "cannot use the state file: line {line} is damaged")
-        }
-        StateError::Unwritten => writeln!(errors, "cannot write the state file"),
-        StateError::Memory => writeln!(errors, "out of memory"),
+        StateError::Damaged(line) => writeln!(errors, "{what}{line} is damaged"),
+        _ => writeln!(errors, "{what}{why}"),
     };
     error.status()
 }

@@ -43,16 +43,19 @@ pub fn words_of<E: Env>(env: &E, alloc: Global) -> Result<Vec<Vec<u8>>, AllocErr
     Ok(words)
 }
 
-/// Returns the arguments as text. One that is not UTF-8 is its number after a byte that no argument has.
+/// Returns an argument as text. One that is not UTF-8 is its number after a byte that no argument has.
+fn text_of(alloc: Global, word: &[u8], number: usize) -> Result<String, AllocError> {
+    match str::from_utf8(word) {
+        Ok(text) => String::from_str(alloc, text),
+        Err(_) => format!(in alloc; "{NO_TEXT}{number}"),
+    }
+}
+
+/// Returns the arguments as text.
 pub fn texts(alloc: Global, words: &[Vec<u8>]) -> Result<Vec<String>, AllocError> {
     let mut texts = Vec::new(alloc);
     for number in 0..words.len() {
-        let mut text = String::new(alloc);
-        match str::from_utf8(words[number].as_slice()) {
-            Ok(word) => text.push_str(word)?,
-            Err(_) => write!(text, "{NO_TEXT}{number}")?,
-        }
-        texts.push(text)?;
+        texts.push(text_of(alloc, words[number].as_slice(), number)?)?;
     }
     Ok(texts)
 }
