@@ -1,5 +1,5 @@
 -- Worked examples of the definitions that the headline cites: figures and tables of T.81 and JFIF, computed by the definitions.
-use Rattle.std.proofs.Common.{◌≡◌, ℕ, ◌+◌, ◌*◌, ◌<◌, Bool, true, false, List, [], ◌∷◌, replicate, ℤ, pos, neg_ℤ, refl, arith, get_or, zero, suc, ap, inr}
+use Rattle.std.proofs.Common.{◌≡◌, ℕ, ◌+◌, ◌*◌, ◌<◌, Bool, true, false, List, [], ◌∷◌, ◌++◌, replicate, ℤ, pos, neg_ℤ, refl, arith, get_or, zero, suc, ap, inr}
 use Rattle.jr_segments.specs.declared.kind.Kind.TheVariants.{Grey, Ycc}
 use Rattle.jr_base.specs.Zigzag.{natural_indexes, zigzag_place}
 use Rattle.jr_code.specs.Bits.{bits, bits_of, number, value}
@@ -84,6 +84,19 @@ last_of_zigzag = refl
 flat_block : samples (pos 4 ∷ replicate 63 (pos 0)) (replicate 64 16) ≡ replicate 64 136
 unfolding samples pass zigzag_place
 flat_block = refl
+
+-- Eight equal lines whose second coefficient is 1, and whose values are clamped, as other decoders give them.
+
+abbrev eight_of : List ℕ → List ℕ
+eight_of line = line ++ line ++ line ++ line ++ line ++ line ++ line ++ line
+
+ramp : samples (pos 0 ∷ pos 1 ∷ replicate 62 (pos 0)) (replicate 64 16) ≡ eight_of (131 ∷ 130 ∷ 130 ∷ 129 ∷ 127 ∷ 126 ∷ 126 ∷ 125 ∷ [])
+unfolding samples pass zigzag_place
+ramp = refl
+
+clamped_ramp : samples (pos 4 ∷ pos 1023 ∷ replicate 62 (pos 0)) (replicate 64 16) ≡ eight_of (255 ∷ 255 ∷ 255 ∷ 255 ∷ 0 ∷ 0 ∷ 0 ∷ 0 ∷ [])
+unfolding samples pass zigzag_place
+clamped_ramp = refl
 
 -- Three components, the first with 2 by 2 data units in an MCU (A.2.3), 20 by 20 pixels, and a restart interval of three MCUs.
 

@@ -1,3 +1,2 @@
-pub mod Blocks
 pub mod Examples
 pub mod WholeFile

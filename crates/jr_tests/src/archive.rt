@@ -20,7 +20,10 @@ pub(crate) fn request_of(alloc: Global, line: &str) -> Result<CheckRequest, Fail
     for word in line.split_whitespace() {
         all.push(word.as_bytes().to_vec(alloc)?)?;
     }
-    Ok(asked(alloc, all.as_slice())?)
+    match asked(alloc, all.as_slice()) {
+        Ok(request) => Ok(request),
+        Err(_) => Err(Fail::from("arguments that are refused")),
+    }
 }
 
 /// Arguments, and the number of workers and of names that they ask for.
@@ -35,17 +38,16 @@ const LINES: [(&str, u32, usize); 4] = [
 fn asks_for_workers_and_names(rt: HostRuntime) -> Result<(), Fail> {
     for (line, workers, names) in &LINES {
         let asked = request_of(rt.alloc(), line)?;
-        assert!(rt;
-            (asked.workers, asked.names.len()) == (*workers, *names),
-            "{line}"
-        );
+        if asked.workers != *workers || asked.names.len() != *names {
+            return Err(Fail::from(*line));
+        }
     }
     Ok(())
 }
 
 /// The longest line of counts is written whole.
 #[test]
-fn counts_are_written_whole(rt: HostRuntime) -> Result<(), Fail> {
+fn counts_are_written_whole(rt: HostRuntime) {
     let counts = FileCounts {
         sound: u64::MAX,
         damaged: u64::MAX,
@@ -56,10 +58,10 @@ fn counts_are_written_whole(rt: HostRuntime) -> Result<(), Fail> {
         changed: u64::MAX,
     };
     let (mut line, mut wanted) = (Vec::new(rt.alloc()), String::new(rt.alloc()));
-    write_counts_line(&mut line, counts)?;
-    append_counts_line(&mut wanted, counts)?;
-    assert!(rt; line.as_slice() == wanted.as_bytes());
-    Ok(())
+    let is_whole = write_counts_line(&mut line, counts).is_ok()
+        && append_counts_line(&mut wanted, counts).is_ok()
+        && line.as_slice() == wanted.as_bytes();
+    assert!(rt; is_whole);
 }
 
 /// Files of no bytes, whose readings wait until two have begun.
@@ -96,9 +98,10 @@ fn two_files_are_read_at_once(rt: HostRuntime) -> Result<(), Fail> {
     let out = Vec::new(rt.alloc());
     let source = Source { folder, state };
     let (report, lines) = check_all(&rt, rt.alloc(), source, asked, NO_LIST, out, NoProgress);
-    assert!(rt; met.load(Ordering::SeqCst) == 2);
-    assert!(rt; report.counts.refused == 2);
-    let expected = "a: refused 1: not a JPEG file\nb: refused 1: not a JPEG file\n";
-    assert!(rt; lines.as_slice() == expected.as_bytes());
+    let expected = "a: refused 1: not a JPEG file\nb: refused 1: not a JPEG file\n".as_bytes();
+    let is_right = met.load(Ordering::SeqCst) == 2
+        && report.counts.refused == 2
+        && lines.as_slice() == expected;
+    assert!(rt; is_right);
     Ok(())
 }

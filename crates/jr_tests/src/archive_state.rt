@@ -2,11 +2,11 @@
 
 use crate::archive::{NO_LIST, request_of};
 use jri_archive::{
-    CheckEnd, CheckReport, Entry, FileRecord, Folder, NoProgress, ReadError, RecordedState, Source,
-    Stamp, State, StateError, check_all, parse_record, read_state, record_line,
+    CheckEnd, Entry, FileRecord, Folder, NoProgress, ReadError, RecordedState, Source, Stamp,
+    State, StateError, check_all, parse_record, read_state, record_line,
 };
 use std::alloc::Global;
-use std::io::{Cursor, Result as IoResult, Write};
+use std::io::{Result as IoResult, Write};
 use std::sync::atomic::{AtomicU64, Ordering};
 use std::sync::{Mutex, Wait};
 use std::test::Fail;
@@ -20,7 +20,7 @@ const ABC: [u8; 32] = [
 ];
 
 /// Returns a record of such a size, time and state.
-fn record_of(size: u64, seconds: i64, nanos: u32, state: RecordedState) -> FileRecord {
+fn record_of(size: u64, (seconds, nanos): (i64, u32), state: RecordedState) -> FileRecord {
     FileRecord {
         hash: ABC,
         stamp: Stamp {
@@ -32,38 +32,44 @@ fn record_of(size: u64, seconds: i64, nanos: u32, state: RecordedState) -> FileR
     }
 }
 
-/// The lines of two records; the check values are those of another program.
+/// The lines of two records without their ends; the check values are those of another program.
 const LINE: &str =
-    "ba7816bf8f01cfea414140de5dae2223b00361a396177a9cb410ff61f20015ad 3 1700000000.000000005 damaged \"a\\u0022\\u005c\\udcff\" 2281606d\n";
+    "ba7816bf8f01cfea414140de5dae2223b00361a396177a9cb410ff61f20015ad 3 1700000000.000000005 damaged \"a\\u0022\\u005c\\udcff\" 2281606d";
 
 const NAMELESS: &str =
-    "ba7816bf8f01cfea414140de5dae2223b00361a396177a9cb410ff61f20015ad 18446744073709551615 -1.999999999 unsupported \"\" 973afed2\n";
-
-#[test]
-fn lines_are_as_documented(rt: HostRuntime) -> Result<(), Fail> {
-    let record = record_of(3, 1_700_000_000, 5, RecordedState::Damaged);
-    assert!(rt; record_line(rt.alloc(), b"a\"\\\xFF", &record)?.as_str() == LINE);
-    let record = record_of(u64::MAX, -1, 999_999_999, RecordedState::Unsupported);
-    assert!(rt; record_line(rt.alloc(), b"", &record)?.as_str() == NAMELESS);
-    Ok(())
-}
+    "ba7816bf8f01cfea414140de5dae2223b00361a396177a9cb410ff61f20015ad 18446744073709551615 -1.999999999 unsupported \"\" 973afed2";
 
 /// Returns whether a line without its end has this name and this record.
-fn comes_back(alloc: Global, line: &[u8], name: &[u8], record: &FileRecord) -> Result<bool, Fail> {
-    let Some((found, of)) = parse_record(alloc, line)? else {
-        return Ok(false);
-    };
-    let is_same = of.stamp == record.stamp && of.state == record.state;
-    Ok(is_same && of.hash.as_slice() == record.hash.as_slice() && found.as_slice() == name)
+fn is_record(alloc: Global, line: &[u8], name: &[u8], record: &FileRecord) -> bool {
+    match parse_record(alloc, line) {
+        Ok(Some((found, of))) => {
+            of.stamp == record.stamp
+                && of.state == record.state
+                && of.hash == record.hash
+                && found.as_slice() == name
+        }
+        _ => false,
+    }
 }
 
-/// Returns whether the line of a record has that record.
-fn goes_round(alloc: Global, name: &[u8], record: &FileRecord) -> Result<bool, Fail> {
-    let line = record_line(alloc, name, record)?;
-    let Some(whole) = line.as_bytes().strip_suffix(b"\n") else {
-        return Ok(false);
+/// Returns whether a record has a line which, without its end, is `line`, if that is one, and has the record.
+fn goes_round(alloc: Global, line: &str, name: &[u8], record: &FileRecord) -> bool {
+    let Ok(whole) = record_line(alloc, name, record) else {
+        return false;
     };
-    comes_back(alloc, whole, name, record)
+    let Some(found) = whole.as_str().strip_suffix('\n') else {
+        return false;
+    };
+    (line.is_empty() || found == line) && is_record(alloc, found.as_bytes(), name, record)
+}
+
+#[test]
+fn lines_are_as_documented(rt: HostRuntime) {
+    let damaged = record_of(3, (1_700_000_000, 5), RecordedState::Damaged);
+    let unsupported = record_of(u64::MAX, (-1, 999_999_999), RecordedState::Unsupported);
+    let is_line = goes_round(rt.alloc(), LINE, b"a\"\\\xFF", &damaged)
+        && goes_round(rt.alloc(), NAMELESS, b"", &unsupported);
+    assert!(rt; is_line);
 }
 
 const STATES: [RecordedState; 4] = [
@@ -81,14 +87,22 @@ const TIMES: [(i64, u32); 5] = [
     (i64::MIN, 10),
 ];
 
+/// Returns whether records of a size and a time come back in each state.
+fn come_back(alloc: Global, size: u64, time: (i64, u32)) -> bool {
+    for state in STATES {
+        if !goes_round(alloc, "", b"a b", &record_of(size, time, state)) {
+            return false;
+        }
+    }
+    true
+}
+
 #[test]
 fn records_come_back(rt: HostRuntime) -> Result<(), Fail> {
-    let alloc: Global = rt.alloc();
-    for state in STATES {
-        for (seconds, nanos) in TIMES {
-            for size in [0, 1, u64::MAX] {
-                let record = record_of(size, seconds, nanos, state);
-                assert!(rt; goes_round(alloc, b"a b", &record)?);
+    for time in TIMES {
+        for size in [0, 1, u64::MAX] {
+            if !come_back(rt.alloc(), size, time) {
+                return Err(Fail::from("a record"));
             }
         }
     }
@@ -97,51 +111,57 @@ fn records_come_back(rt: HostRuntime) -> Result<(), Fail> {
 
 #[test]
 fn names_of_each_byte_come_back(rt: HostRuntime) -> Result<(), Fail> {
-    let record = record_of(1, 2, 3, RecordedState::Sound);
+    let record = record_of(1, (2, 3), RecordedState::Sound);
     for byte in 0..=u8::MAX {
-        assert!(rt; goes_round(rt.alloc(), &[byte], &record)?);
-        assert!(rt; goes_round(rt.alloc(), &[b'"', byte, b'\\', byte, b' '], &record)?);
-    }
-    assert!(rt; goes_round(rt.alloc(), "\u{E4}\u{20AC}\\u00e4".as_bytes(), &record)?);
-    Ok(())
-}
-
-/// No beginning of a line is a line, and no line with a changed byte is.
-#[test]
-fn damaged_lines_are_none(rt: HostRuntime) -> Result<(), Fail> {
-    let alloc: Global = rt.alloc();
-    let whole = &LINE.as_bytes()[..LINE.len() - 1];
-    for at in 0..whole.len() {
-        assert!(rt; parse_record(alloc, &whole[..at])?.is_none());
-        for change in [1, 0x20, 0x80] {
-            let mut line = whole.to_vec(alloc)?;
-            line[at] ^= change;
-            assert!(rt; parse_record(alloc, line.as_slice())?.is_none());
+        if !goes_round(rt.alloc(), "", &[byte], &record)
+            || !goes_round(rt.alloc(), "", &[b'"', byte, b'\\', byte, b' '], &record)
+        {
+            return Err(Fail::from(byte));
         }
     }
-    assert!(rt; parse_record(alloc, whole)?.is_some());
+    let name = "\u{E4}\u{20AC}\\u00e4".as_bytes();
+    assert!(rt; goes_round(rt.alloc(), "", name, &record));
     Ok(())
 }
 
-/// Returns what a state file of such a beginning and such lines lacks, or the number of its first damaged line.
-fn lacks(alloc: Global, front: &str, lines: &str) -> Result<Result<&'static [u8], u64>, Fail> {
-    let mut bytes = front.as_bytes().to_vec(alloc)?;
-    bytes.extend_from_slice(lines.as_bytes())?;
-    match read_state(alloc, bytes.as_slice()) {
-        Ok((_, missing)) => Ok(Ok(missing)),
-        Err(StateError::Damaged(line)) => Ok(Err(line)),
-        Err(_) => Err(Fail::from("memory")),
+/// Returns whether the beginning of a line and a line with a changed byte are no lines.
+fn are_none(alloc: Global, line: &mut [u8], at: usize) -> bool {
+    if at >= line.len() || !matches!(parse_record(alloc, &line[..at]), Ok(None)) {
+        return false;
     }
+    let byte = line[at];
+    for change in [1, 0x20, 0x80] {
+        line[at] = byte ^ change;
+        if !matches!(parse_record(alloc, &line[..]), Ok(None)) {
+            return false;
+        }
+    }
+    line[at] = byte;
+    true
 }
 
+#[test]
+fn damaged_lines_are_none(rt: HostRuntime) -> Result<(), Fail> {
+    let mut line = LINE.as_bytes().to_vec(rt.alloc())?;
+    for at in 0..LINE.len() {
+        if !are_none(rt.alloc(), line.as_mut_slice(), at) {
+            return Err(Fail::from(at));
+        }
+    }
+    Ok(())
+}
+
+/// The first line of a state file.
 const FRONT: &str = "jri_check state 1\n";
 
-/// What a state file lacks, or the number of its damaged line.
-const LACKING: [(&str, &str, Result<&[u8], u64>); 13] = [
+/// State files, a beginning and further lines, and what they lack, or the number of their damaged line. A whole line without its end
+/// is a record.
+const LACKING: [(&str, &str, Result<&[u8], u64>); 14] = [
     ("", "", Ok(b"jri_check state 1\n")),
     ("jri_check st", "", Ok(b"ate 1\n")),
     (FRONT, "", Ok(b"")),
-    (FRONT, NAMELESS, Ok(b"")),
+    (FRONT, NAMELESS, Ok(b"\n")),
+    ("jri_check state 1\nba78 cut\n", NAMELESS, Ok(b"\n")),
     (FRONT, "ba78", Ok(b" cut\n")),
     (FRONT, "ba78 cut\n", Ok(b"")),
     (FRONT, "ba78 cu", Ok(b" cut\n")),
@@ -153,50 +173,77 @@ const LACKING: [(&str, &str, Result<&[u8], u64>); 13] = [
     (FRONT, "ba78 cut\n\ncut", Err(3)),
 ];
 
+/// Returns whether a state file lacks that, or is damaged there.
+fn lacks(alloc: Global, bytes: &[u8], expected: Result<&[u8], u64>) -> bool {
+    match read_state(alloc, bytes) {
+        Ok((_, missing)) => expected == Ok(missing),
+        Err(StateError::Damaged(line)) => expected == Err(line),
+        Err(_) => false,
+    }
+}
+
 #[test]
 fn damaged_state_files_are_refused(rt: HostRuntime) -> Result<(), Fail> {
     for (front, lines, expected) in LACKING {
-        assert!(rt;
-            lacks(rt.alloc(), front, lines)? == expected,
-            "{front}{lines}"
-        );
+        let bytes = format!(in rt.alloc(); "{front}{lines}")?;
+        if !lacks(rt.alloc(), bytes.as_bytes(), expected) {
+            return Err(Fail::from(lines));
+        }
     }
-    // A whole line without its end is a record.
-    let whole = &NAMELESS[..NAMELESS.len() - 1];
-    assert!(rt; lacks(rt.alloc(), FRONT, whole)? == Ok(b"\n"));
     Ok(())
+}
+
+/// Appends the line of a record of such a size. Returns `false` if there is no memory for it.
+fn append_record(alloc: Global, bytes: &mut Vec<u8>, name: &[u8], size: u64) -> bool {
+    match record_line(alloc, name, &record_of(size, (0, 0), RecordedState::Sound)) {
+        Ok(line) => bytes.extend_from_slice(line.as_bytes()).is_ok(),
+        Err(_) => false,
+    }
 }
 
 /// The last record of a name counts.
 #[test]
 fn last_records_count(rt: HostRuntime) -> Result<(), Fail> {
-    let alloc: Global = rt.alloc();
-    let mut bytes = FRONT.as_bytes().to_vec(alloc)?;
+    let mut bytes = FRONT.as_bytes().to_vec(rt.alloc())?;
     for (name, size) in [(b"a", 1), (b"b", 2), (b"a", 3)] {
-        let line = record_line(alloc, name, &record_of(size, 0, 0, RecordedState::Sound))?;
-        bytes.extend_from_slice(line.as_bytes())?;
+        if !append_record(rt.alloc(), &mut bytes, name, size) {
+            return Err(Fail::from("out of memory"));
+        }
     }
-    let (records, _) = read_state(alloc, bytes.as_slice()).map_err(|_| Fail::from("damaged"))?;
-    assert!(rt; records.find(b"a").is_some_and(|r| r.stamp.size == 3));
-    assert!(rt; records.find(b"b").is_some_and(|r| r.stamp.size == 2));
-    assert!(rt; records.find(b"c").is_none());
+    let Ok((records, _)) = read_state(rt.alloc(), bytes.as_slice()) else {
+        return Err(Fail::from("a damaged file"));
+    };
+    for (name, size) in [(b"a", 3), (b"b", 2), (b"c", 0)] {
+        if records.find(name).map_or(0, |record| record.stamp.size) != size {
+            return Err(Fail::from(size));
+        }
+    }
     Ok(())
+}
+
+/// A run with the state file that the run before it left, and what comes of it.
+#[derive(Clone, Copy)]
+struct Step {
+    words: &'static str,
+    /// The bytes of `two`, in a notation, and its time.
+    two: (&'static str, i64),
+    /// The status, the number of reads, and whether the state file is unchanged.
+    outcome: (u8, u64, bool),
+    lines: &'static str,
 }
 
 /// Files of which each has a time, and how often one was read. `busy` is written while it is read, and `gone` is missing.
 #[derive(Drop)]
 struct Dated<'a> {
     reads: &'a AtomicU64,
-    /// The bytes of `two`, in a notation, and its time.
-    two: &'static str,
-    seconds: i64,
+    step: Step,
 }
 
 impl<'a> Folder for Dated<'a> {
     fn read(&self, alloc: Global, name: &str) -> Result<Vec<u8>, ReadError> {
         self.reads.fetch_add(1, Ordering::SeqCst);
         let words = match name {
-            "two" => self.two,
+            "two" => self.step.two.0,
             "ten" | "busy" | "-" => TEN,
             "progressive" => "S FF C2",
             _ => return Err(ReadError::NotFound),
@@ -209,9 +256,9 @@ impl<'a> Folder for Dated<'a> {
 
     fn stamp(&self, name: &str) -> Option<Stamp> {
         let seconds = match name {
-            "two" => self.seconds,
+            "two" => self.step.two.1,
             "ten" | "progressive" => 7,
-            "busy" => i64::try_from(self.reads.load(Ordering::SeqCst)).unwrap_or(0),
+            "busy" => (self.reads.load(Ordering::SeqCst) % 100) as i64,
             _ => return None,
         };
         Some(Stamp {
@@ -226,18 +273,20 @@ impl<'a> Folder for Dated<'a> {
     }
 }
 
-/// What is appended to a state file.
+/// A state file, which takes bytes up to its room.
 #[derive(Drop)]
 struct Log<'a, R> {
     rt: &'a R,
     bytes: &'a Mutex<Vec<u8>>,
+    room: usize,
 }
 
 impl<'a, R: Wait> Write for Log<'a, R> {
     fn write(&mut self, bytes: &[u8]) -> IoResult<usize> {
         let mut all = self.bytes.lock(self.rt);
-        all.extend_from_slice(bytes)?;
-        Ok(bytes.len())
+        let count = self.room.saturating_sub(all.len()).min(bytes.len());
+        all.extend_from_slice(&bytes[..count])?;
+        Ok(count)
     }
 
     fn flush(&mut self) -> IoResult<()> {
@@ -245,50 +294,39 @@ impl<'a, R: Wait> Write for Log<'a, R> {
     }
 }
 
-/// A run with the state file that the run before it left: the arguments, the bytes of `two` and their time, the status, the number of
-/// reads, whether the state file is unchanged, and the lines.
-type Step = (
-    &'static str,
-    (&'static str, i64),
-    (u8, u64, bool),
-    &'static str,
-);
-
-/// Makes the run of a step over these bytes of a state file. Returns the status, the number of reads, the lines, and the state file
-/// after it.
-fn run_of<R: Threads + Wait + Sync + AllocGlobal>(
+/// Makes the run of a step, and returns whether what comes of it is what the step says, and the run ended so.
+fn is_run<R: Threads + Wait + Sync + AllocGlobal>(
     rt: &R,
-    state: &[u8],
+    bytes: &Mutex<Vec<u8>>,
+    room: usize,
     step: &Step,
-) -> Result<(u8, u64, Vec<u8>, Vec<u8>), Fail> {
+    end: CheckEnd,
+) -> Result<bool, Fail> {
     let alloc: Global = rt.alloc();
-    let (words, (two, seconds), _, _) = *step;
-    let asked = request_of(alloc, words)?;
-    let (reads, bytes) = (AtomicU64::new(0), Mutex::new(state.to_vec(alloc)?));
-    let log = Log { rt, bytes: &bytes };
-    let state = State::open(alloc, state, log, asked.is_verifying).map_err(|_| Fail::from(
-        "damaged",
-    ))?;
+    let asked = request_of(alloc, step.words)?;
+    let before = bytes.lock(rt).as_slice().to_vec(alloc)?;
+    let log = Log { rt, bytes, room };
+    let Ok(state) = State::open(alloc, before.as_slice(), log, asked.is_verifying) else {
+        return Err(Fail::from("a damaged state file"));
+    };
+    let reads = AtomicU64::new(0);
     let folder = Dated {
         reads: &reads,
-        two,
-        seconds,
+        step: *step,
     };
-    let source = Source {
-        folder,
-        state: Some(state),
-    };
-    let (report, lines) = check_all(
-        rt,
-        alloc,
-        source,
-        asked,
-        NO_LIST,
-        Vec::new(alloc),
-        NoProgress,
-    );
-    let reads = reads.load(Ordering::SeqCst);
-    Ok((report.status(), reads, lines, bytes.into_inner()))
+    let state = Some(state);
+    let out = Vec::new(alloc);
+    let source = Source { folder, state };
+    let (report, lines) = check_all(rt, alloc, source, asked, NO_LIST, out, NoProgress);
+    let is_kept = bytes.lock(rt).as_slice() == before.as_slice();
+    let (status, read, unchanged) = step.outcome;
+    Ok(
+        report.end == end
+            && report.status() == status
+            && reads.load(Ordering::SeqCst) == read
+            && is_kept == unchanged
+            && lines.as_slice() == step.lines.as_bytes(),
+    )
 }
 
 /// Two intervals of one MCU, both sound, and the second without its bits.
@@ -300,143 +338,117 @@ const FIVE: &str = "-j 3 --state s two ten progressive gone busy";
 
 const VERIFY: &str = "-j 3 --verify --counts --state s two ten";
 
-const SOUND: &str = "two: sound, 2 intervals\n";
+/// A first run, which records a file.
+const FIRST: Step = Step {
+    words: "--state s two",
+    two: (TWO, 7),
+    outcome: (0, 1, false),
+    lines: "two: sound, 2 intervals\n",
+};
 
 /// Unchanged files are not read, but for one that is written meanwhile.
-const UNCHANGED: [Step; 2] = [
-    (
-        FIVE,
-        (TWO, 7),
-        (3, 5, false),
-        "two: sound, 2 intervals\nten: sound, 10 intervals\n\
-         progressive: unsupported 5: progressive JPEG (SOF2) is not supported\n\
-         gone: cannot be read: no such file\nbusy: sound, 10 intervals\n",
-    ),
-    (
-        FIVE,
-        (TWO, 7),
-        (3, 2, true),
-        "two: unchanged, sound\nten: unchanged, sound\nprogressive: unchanged, unsupported\n\
-         gone: cannot be read: no such file\nbusy: sound, 10 intervals\n",
-    ),
+static UNCHANGED: [Step; 2] = [
+    Step {
+        words: FIVE,
+        two: (TWO, 7),
+        outcome: (3, 5, false),
+        lines: "two: sound, 2 intervals\nten: sound, 10 intervals\n\
+                progressive: unsupported 5: progressive JPEG (SOF2) is not supported\n\
+                gone: cannot be read: no such file\nbusy: sound, 10 intervals\n",
+    },
+    Step {
+        words: FIVE,
+        two: (TWO, 7),
+        outcome: (3, 2, true),
+        lines: "two: unchanged, sound\nten: unchanged, sound\nprogressive: unchanged, unsupported\n\
+                gone: cannot be read: no such file\nbusy: sound, 10 intervals\n",
+    },
 ];
 
 /// A file of another time is a new version, and is recorded again.
-const NEW_VERSION: [Step; 3] = [
-    ("--state s two", (TWO, 7), (0, 1, false), SOUND),
-    (
-        "--state s two",
-        (CUT, 8),
-        (1, 1, false),
-        "two: damaged, 1 of 2 intervals, lines 0 to 7\n",
-    ),
-    (
-        "--state s two",
-        (CUT, 8),
-        (1, 0, true),
-        "two: unchanged, damaged\n",
-    ),
+static NEW_VERSION: [Step; 3] = [
+    FIRST,
+    Step {
+        words: "--state s two",
+        two: (CUT, 8),
+        outcome: (1, 1, false),
+        lines: "two: damaged, 1 of 2 intervals, lines 0 to 7\n",
+    },
+    Step {
+        words: "--state s two",
+        two: (CUT, 8),
+        outcome: (1, 0, true),
+        lines: "two: unchanged, damaged\n",
+    },
 ];
 
-const CHANGED: Step = (
-    VERIFY,
-    (CUT, 7),
-    (1, 2, true),
-    "two: changed, damaged, 1 of 2 intervals, lines 0 to 7\nten: sound, 10 intervals\n\
-     1 sound, 1 changed\n",
-);
+const CHANGED: Step = Step {
+    words: VERIFY,
+    two: (CUT, 7),
+    outcome: (1, 2, true),
+    lines: "two: changed, damaged, 1 of 2 intervals, lines 0 to 7\nten: sound, 10 intervals\n\
+            1 sound, 1 changed\n",
+};
 
 /// Each verification reports changed bytes, since the record stays.
-const VERIFIED: [Step; 4] = [
-    (
-        "--state s two ten",
-        (TWO, 7),
-        (0, 2, false),
-        "two: sound, 2 intervals\nten: sound, 10 intervals\n",
-    ),
-    (
-        VERIFY,
-        (TWO, 7),
-        (0, 2, true),
-        "two: sound, 2 intervals\nten: sound, 10 intervals\n2 sound\n",
-    ),
+static VERIFICATIONS: [Step; 4] = [
+    Step {
+        words: "--state s two ten",
+        two: (TWO, 7),
+        outcome: (0, 2, false),
+        lines: "two: sound, 2 intervals\nten: sound, 10 intervals\n",
+    },
+    Step {
+        words: VERIFY,
+        two: (TWO, 7),
+        outcome: (0, 2, true),
+        lines: "two: sound, 2 intervals\nten: sound, 10 intervals\n2 sound\n",
+    },
     CHANGED,
     CHANGED,
 ];
 
 /// The objects of files that are unchanged, changed and refused.
-const OBJECTS: [Step; 3] = [
-    ("--state s two", (TWO, 7), (0, 1, false), SOUND),
-    (
-        "--json --state s two",
-        (TWO, 7),
-        (0, 0, true),
-        "{\"file\":\"two\",\"is\":\"unchanged\",\"was\":\"sound\"}\n",
-    ),
-    (
-        "--json --counts --verify --state s two",
-        ("S FF C2", 7),
-        (1, 1, true),
-        "{\"file\":\"two\",\"is\":\"changed\",\"now\":\"unsupported\",\"refusal\":5,\"detail\":194,\"why\":\"progressive JPEG (SOF2) is not supported\"}\n\
-         {\"sound\":0,\"damaged\":0,\"refused\":0,\"unsupported\":0,\"unread\":0,\"out_of_memory\":0,\"changed\":1}\n",
-    ),
+static OBJECTS: [Step; 3] = [
+    FIRST,
+    Step {
+        words: "--json --state s two",
+        two: (TWO, 7),
+        outcome: (0, 0, true),
+        lines: "{\"file\":\"two\",\"is\":\"unchanged\",\"was\":\"sound\"}\n",
+    },
+    Step {
+        words: "--json --counts --verify --state s two",
+        two: ("S FF C2", 7),
+        outcome: (1, 1, true),
+        lines: "{\"file\":\"two\",\"is\":\"changed\",\"now\":\"unsupported\",\"refusal\":5,\"detail\":194,\"why\":\"progressive JPEG (SOF2) is not supported\"}\n\
+                {\"sound\":0,\"damaged\":0,\"refused\":0,\"unsupported\":0,\"unread\":0,\"out_of_memory\":0,\"changed\":1}\n",
+    },
 ];
 
 #[test]
 fn files_are_read_and_recorded(rt: HostRuntime) -> Result<(), Fail> {
-    let sequences: [&[Step]; 4] = [&UNCHANGED, &NEW_VERSION, &VERIFIED, &OBJECTS];
+    let sequences: [&[Step]; 4] = [&UNCHANGED, &NEW_VERSION, &VERIFICATIONS, &OBJECTS];
     for steps in sequences {
-        let mut state = Vec::new(rt.alloc());
+        let bytes = Mutex::new(Vec::new(rt.alloc()));
         for step in steps {
-            let (status, reads, lines, after) = run_of(&rt, state.as_slice(), step)?;
-            let is_kept = after == state;
-            assert!(rt; (status, reads, is_kept) == step.2, "{}", step.3);
-            assert!(rt; lines.as_slice() == step.3.as_bytes(), "{}", step.3);
-            state = after;
+            if !is_run(&rt, &bytes, 10_000, step, CheckEnd::AllTold)? {
+                return Err(Fail::from(step.lines));
+            }
         }
     }
     Ok(())
 }
 
-/// Checks `ten` with a log of `N` bytes.
-fn run_into<R: Threads + Wait + Sync + AllocGlobal, const N: usize>(
-    rt: &R,
-    log: [u8; N],
-) -> Result<CheckReport, Fail> {
-    let alloc: Global = rt.alloc();
-    let asked = request_of(alloc, "-j 1 ten ten")?;
-    let state = State::open(alloc, FRONT.as_bytes(), Cursor::new(log), false).map_err(
-        |_| Fail::from("damaged"),
-    )?;
-    let reads = AtomicU64::new(0);
-    let folder = Dated {
-        reads: &reads,
-        two: TWO,
-        seconds: 7,
-    };
-    let source = Source {
-        folder,
-        state: Some(state),
-    };
-    let (report, _) = check_all(
-        rt,
-        alloc,
-        source,
-        asked,
-        NO_LIST,
-        Vec::new(alloc),
-        NoProgress,
-    );
-    Ok(report)
-}
-
 /// A run ends if a record cannot be written.
 #[test]
 fn full_state_files_end_runs(rt: HostRuntime) -> Result<(), Fail> {
-    let report = run_into(&rt, [0; 10])?;
-    assert!(rt; report.end == CheckEnd::Unrecorded);
-    assert!(rt; (report.counts.sound, report.status()) == (1, 4));
-    let report = run_into(&rt, [0; 400])?;
-    assert!(rt; report.end == CheckEnd::AllTold && report.status() == 0);
+    let step = Step {
+        words: "-j 1 two two",
+        outcome: (4, 1, false),
+        ..FIRST
+    };
+    let bytes = Mutex::new(Vec::new(rt.alloc()));
+    assert!(rt; is_run(&rt, &bytes, FRONT.len() + 10, &step, CheckEnd::Unrecorded)?);
     Ok(())
 }

@@ -3,7 +3,7 @@
 use jr_arrival::PartialFile;
 use std::alloc::Global;
 use std::test::Fail;
-use test_files::files::{file, put_parts};
+use test_files::files::file;
 
 /// The restart interval of an image of 8 by 24 pixels, the bytes of its scan that have arrived, and the number of its lines that are
 /// final then. The codes 00, 01 and 10 have 0, 3 and 11 additional bits, no code begins with 11, and 0 ends a block:
@@ -49,28 +49,26 @@ const FINAL: [(&str, &str, u32); 33] = [
     ("I", "E0 FF D1", 24),
 ];
 
-/// Returns the first bytes of such a file.
-fn first_bytes(alloc: Global, restart: &str, words: &str) -> Result<Vec<u8>, Fail> {
-    let mut bytes = file(alloc, "S Q F:0018:0008 D:00:03:0B A")?;
-    put_parts(&mut bytes, restart)?;
-    put_parts(&mut bytes, "C")?;
-    put_parts(&mut bytes, words)?;
-    Ok(bytes)
-}
-
-/// Returns the number of lines, of 24 at most, that a file's first bytes make final.
-fn lines_of(alloc: Global, bytes: &[u8]) -> Result<u32, Fail> {
+/// Returns the number of lines, of 24 at most, that the first bytes of such a file make final.
+fn lines_of(alloc: Global, restart: &str, words: &str) -> Result<u32, Fail> {
+    let words = format!(in alloc; "S Q F:0018:0008 D:00:03:0B A {restart} C {words}")?;
+    let bytes = file(alloc, words.as_str())?;
     let mut partial_file = PartialFile::new(alloc);
-    partial_file.push(bytes)?;
-    Ok(partial_file.next_lines(alloc, &mut [0; 192])?)
+    if partial_file.push(bytes.as_slice()).is_err() {
+        return Err(Fail::from("out of memory"));
+    }
+    match partial_file.next_lines(alloc, &mut [0; 192]) {
+        Ok(lines) => Ok(lines),
+        Err(_) => Err(Fail::from("a file that is refused")),
+    }
 }
 
 #[test]
 fn gives_lines_as_soon_as_they_are_final(rt: HostRuntime) -> Result<(), Fail> {
     for (restart, words, count) in &FINAL {
-        let bytes = first_bytes(rt.alloc(), restart, words)?;
-        let lines = lines_of(rt.alloc(), bytes.as_slice())?;
-        assert!(rt; lines == *count, "{restart} {words}: {lines}");
+        if lines_of(rt.alloc(), restart, words)? != *count {
+            return Err(Fail::from(*words));
+        }
     }
     Ok(())
 }

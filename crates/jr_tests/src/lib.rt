@@ -1,5 +1,5 @@
-//! Tests through the crates' public calls, for what the program `cases` does not show: devices, bits and code tables,
-//! long headers, scans compared with a plain reader, the transform, desks, archives, lines of an arriving file, boards.
+//! Tests through the crates' public calls, for what the program `cases` does not show: devices, copies of code tables,
+//! long headers, scans compared with a plain reader, desks, archives, lines of an arriving file, boards.
 #![tactic(auto)]
 
 #[cfg(test)]
@@ -16,8 +16,6 @@ mod code;
 mod desk;
 #[cfg(test)]
 mod head;
-#[cfg(test)]
-mod idct;
 #[cfg(test)]
 mod plain;
 #[cfg(test)]

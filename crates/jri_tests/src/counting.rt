@@ -108,19 +108,17 @@ fn decodes_by<R: Threads + Wait + Sync + AllocGlobal>(rt: &R, workers: u32) -> R
 {
     let gate = Crowd::of(workers);
     let scan = scan(rt.alloc(), TEN)?;
-    let board = decode_all(rt, rt.alloc(), scan, workers, None, &gate)?;
-    Ok(board.sound() == 10 && gate.is_exact())
+    let board = decode_all(rt, rt.alloc(), scan, workers, None, &gate);
+    Ok(board.is_ok_and(|board| board.sound() == 10) && gate.is_exact())
 }
 
 /// The number of workers is the one that is given to `run` and `decode_all`.
 #[test]
 fn counts_workers(rt: HostRuntime) -> Result<(), Fail> {
     for workers in [1, 2, 4] {
-        assert!(rt; runs_by(&rt, workers)?, "{workers} workers by run");
-        assert!(rt;
-            decodes_by(&rt, workers)?,
-            "{workers} workers by decode_all"
-        );
+        if !runs_by(&rt, workers)? || !decodes_by(&rt, workers)? {
+            return Err(Fail::from(workers));
+        }
     }
     Ok(())
 }

@@ -12,7 +12,6 @@ use jr_wall::OpenGate;
 use jri_engine::{Fault, Report, finish};
 use std::alloc::Global;
 use std::io::{Error, ErrorKind, Read, Result as IoResult, Write};
-use std::process::Abort;
 use std::sync::Wait;
 use std::test::Fail;
 use std::thread::Threads;
@@ -86,7 +85,7 @@ fn is_unread<R: Threads + Wait + Sync + AllocGlobal>(rt: &R, input: Device<'_>) 
     outcome.err() == Some(Fault::Read) && out.into_inner().is_empty()
 }
 
-/// The smallest file has 143 bytes, so call 144 reports its end. The larger one is not read at once, and its call 2 or 3 fails.
+/// The smallest file has 143 bytes, so call 144 reports its end.
 #[test]
 fn tells_an_input_that_fails_at_one_call(rt: HostRuntime) -> Result<(), Fail> {
     let bytes = file(rt.alloc(), "G 63 E")?;
@@ -95,14 +94,24 @@ fn tells_an_input_that_fails_at_one_call(rt: HostRuntime) -> Result<(), Fail> {
             let mut input = Device::new(rt.alloc(), bytes.as_slice(), 1);
             input.failing = failing;
             input.error = Some(kind);
-            assert!(rt; is_unread(&rt, input), "call {failing}");
+            if !is_unread(&rt, input) {
+                return Err(Fail::from(failing));
+            }
         }
     }
+    Ok(())
+}
+
+/// A larger file is not read at once, and its call 2 or 3 fails.
+#[test]
+fn tells_a_large_input_that_fails(rt: HostRuntime) -> Result<(), Fail> {
     let bytes = file(rt.alloc(), "G 63 70000*FF E")?;
     for (count, failing) in [(65_536, 2), (65_537, 3), (70_000, 3)] {
         let mut input = Device::new(rt.alloc(), front(bytes.as_slice(), count), 65_536);
         input.failing = failing;
-        assert!(rt; is_unread(&rt, input), "behind {count} bytes");
+        if !is_unread(&rt, input) {
+            return Err(Fail::from(count));
+        }
     }
     Ok(())
 }
@@ -125,30 +134,51 @@ fn written<R: Threads + Wait + Sync + AllocGlobal>(
 /// A file, the number of workers, the most bytes of a call, and how it fails.
 type Output = (&'static str, u32, usize, Option<ErrorKind>);
 
-/// Checks that the whole image is written if no call fails; otherwise what precedes that call, and none is made after it.
-fn check<R: Threads + Wait + Sync + AllocGlobal + Abort>(
+/// Returns whether this is written before a call of that number fails, by the calls up to it.
+fn is_front<R: Threads + Wait + Sync + AllocGlobal>(
     rt: &R,
-    (words, workers, most, error): Output,
-) -> Result<(), Fail> {
-    let workers = workers.clamp(1, MAX_WORKERS);
-    let bytes = file(rt.alloc(), words)?;
-    let (_fault, whole) = written(rt, &bytes, 2, Device::new(rt.alloc(), &[], 100_000));
-    let (fault, all) = written(rt, &bytes, workers, Device::new(rt.alloc(), &[], most));
-    assert!(rt;
-        fault.is_none() && all.bytes == whole.bytes,
-        "{words} by {most}"
-    );
-    for failing in 1..=all.calls {
-        let mut out = Device::new(rt.alloc(), &[], most);
-        out.failing = failing;
-        out.error = error;
-        let (fault, out) = written(rt, &bytes, workers, out);
-        let is_last = fault == Some(Fault::Write) && out.calls == failing;
-        assert!(rt; is_last, "{words} call {failing}");
-        let is_front = whole.bytes.as_slice().starts_with(out.bytes.as_slice());
-        assert!(rt; is_front, "{words} call {failing}");
+    bytes: &[u8],
+    (_words, workers, most, error): &Output,
+    failing: u32,
+    whole: &[u8],
+) -> bool {
+    let mut out = Device::new(rt.alloc(), &[], *most);
+    out.failing = failing;
+    out.error = *error;
+    let (fault, out) = written(rt, bytes, (*workers).clamp(1, MAX_WORKERS), out);
+    fault == Some(Fault::Write) && out.calls == failing && whole.starts_with(out.bytes.as_slice())
+}
+
+/// Returns the number of calls that write a whole image, which is that of two workers; 0 if it is another.
+fn calls_of<R: Threads + Wait + Sync + AllocGlobal>(
+    rt: &R,
+    bytes: &[u8],
+    (_words, workers, most, _error): &Output,
+    whole: &[u8],
+) -> u32 {
+    let out = Device::new(rt.alloc(), &[], *most);
+    let (fault, all) = written(rt, bytes, (*workers).clamp(1, MAX_WORKERS), out);
+    if fault.is_none() && all.bytes.as_slice() == whole {
+        all.calls
+    } else {
+        0
     }
-    Ok(())
+}
+
+/// Returns whether the whole image is written if no call fails; otherwise what precedes that call, and none is made after it.
+fn is_written<R: Threads + Wait + Sync + AllocGlobal>(
+    rt: &R,
+    output: &Output,
+) -> Result<bool, Fail> {
+    let bytes = file(rt.alloc(), output.0)?;
+    let (_fault, all) = written(rt, &bytes, 2, Device::new(rt.alloc(), &[], 100_000));
+    let whole = all.bytes.as_slice();
+    let calls = calls_of(rt, &bytes, output, whole);
+    let mut is_written = calls > 0;
+    for failing in 1..=calls {
+        is_written = is_written && is_front(rt, &bytes, output, failing, whole);
+    }
+    Ok(is_written)
 }
 
 const FULL: Option<ErrorKind> = Some(ErrorKind::StorageFull);
@@ -184,20 +214,22 @@ const LARGE: &str = "S Q F:0051:0401 D A2:00:01 I:0005 C M:0005:058B:0001 E";
 /// 5 rows of 33 MCUs.
 const LARGE_COLOURED: &str = "S Q F3:0041:0201:22 D A2:00:01 I:0005 C3 M:0005:00A5:0006 E";
 
+/// More rows of MCUs than fit into one write.
+const LARGER: [Output; 4] = [
+    (LARGE, 1, 10_000, FULL),
+    (LARGE_COLOURED, 1, 73_728, FULL),
+    (LARGE, 3, 10_000, FULL),
+    (LARGE_COLOURED, 3, 73_728, FULL),
+];
+
 #[test]
 fn tells_an_output_that_fails_at_one_call(rt: HostRuntime) -> Result<(), Fail> {
-    for output in SMALL {
-        check(&rt, output)?;
-    }
-    Ok(())
-}
-
-/// More rows of MCUs than fit into one write.
-#[test]
-fn writes_large_pictures_by_larger_calls(rt: HostRuntime) -> Result<(), Fail> {
-    for workers in [1, 3] {
-        check(&rt, (LARGE, workers, 10_000, FULL))?;
-        check(&rt, (LARGE_COLOURED, workers, 73_728, FULL))?;
+    for outputs in [SMALL.as_slice(), LARGER.as_slice()] {
+        for output in outputs {
+            if !is_written(&rt, output)? {
+                return Err(Fail::from(output.0));
+            }
+        }
     }
     Ok(())
 }
@@ -209,8 +241,9 @@ fn writes_many_rows_by_a_call(rt: HostRuntime) -> Result<(), Fail> {
     for workers in 1..=3 {
         let out = Device::new(rt.alloc(), &[], 100_000);
         let (fault, all) = written(&rt, &bytes, workers, out);
-        let is_right = fault.is_none() && all.calls <= 4;
-        assert!(rt; is_right, "{workers} workers, {} calls", all.calls);
+        if fault.is_some() || all.calls > 4 {
+            return Err(Fail::from(workers));
+        }
     }
     Ok(())
 }
@@ -239,8 +272,9 @@ fn loses_nothing_of_packets(rt: HostRuntime) -> Result<(), Fail> {
         let rest = bytes.as_slice();
         let out = Vec::new(rt.alloc());
         let (outcome, _) = outcome_of(&rt, Packets { rest, size }, out, 1, None, &OpenGate);
-        let is_whole = outcome.is_ok_and(|report| report.ended == ScanEnd::EndOfImage);
-        assert!(rt; is_whole, "packets of {size} bytes");
+        if !outcome.is_ok_and(|report| report.ended == ScanEnd::EndOfImage) {
+            return Err(Fail::from(size));
+        }
     }
     Ok(())
 }
@@ -321,29 +355,33 @@ const FAULTS: [(Fault, &str); 5] = [
     ),
 ];
 
+/// The line of the counts in `report`.
+const COUNTS: &str = "intervals 4294967295 sound 1234567890 damaged 9 blank 0\n|";
+
 /// Each line by one call, the longest among them; and the line of an output that cannot be flushed.
 #[test]
 fn tells_each_line_at_once(rt: HostRuntime) -> Result<(), Fail> {
     let alloc = rt.alloc();
-    let counts = "intervals 4294967295 sound 1234567890 damaged 9 blank 0\n|";
     for (ended, line) in &ENDS {
-        let lines = format!(in alloc; "{counts}{line}")?;
-        let outcome = Ok(report(*ended));
-        assert!(rt;
-            is_told(alloc, Vec::new(alloc), outcome, lines.as_str()),
-            "{line}"
-        );
+        let lines = format!(in alloc; "{COUNTS}{line}")?;
+        if !is_told(alloc, Vec::new(alloc), Ok(report(*ended)), lines.as_str()) {
+            return Err(Fail::from(*line));
+        }
     }
     for (fault, line) in &FAULTS {
-        assert!(rt;
-            is_told(alloc, Vec::new(alloc), Err(*fault), line),
-            "{line}"
-        );
+        if !is_told(alloc, Vec::new(alloc), Err(*fault), line) {
+            return Err(Fail::from(*line));
+        }
     }
-    let out = Barred {
-        bytes: Vec::new(alloc),
-    };
+    let bytes = Vec::new(alloc);
     let outcome = Ok(report(ScanEnd::EndOfImage));
-    assert!(rt; is_told(alloc, out, outcome, "cannot write the picture\n|"));
+    assert!(rt;
+        is_told(
+            alloc,
+            Barred { bytes },
+            outcome,
+            "cannot write the picture\n|"
+        )
+    );
     Ok(())
 }

@@ -4,10 +4,11 @@ use crate::decoding::outcome_of;
 use jr_crew::write_scan_by;
 use jr_paint::Tally;
 use jr_rows::write_scan;
+use jr_scan::Scan;
 use jr_wall::{Gate, Piece, decode_all};
-use std::process::Abort;
-use std::sync::Wait;
+use std::alloc::Global;
 use std::sync::atomic::{AtomicU32, Ordering};
+use std::sync::{Arc, Wait};
 use std::test::Fail;
 use std::thread::Threads;
 use test_files::files::{COLOURED, LONG, MIXED, TEN, file};
@@ -35,6 +36,15 @@ impl Calls {
             pieces: AtomicU32::new(0),
             mcus: AtomicU32::new(0),
         }
+    }
+
+    /// Returns the number of intervals that passed, of pieces, and of their MCUs.
+    fn counts(&self) -> [u32; 3] {
+        [
+            self.passed.load(Ordering::SeqCst),
+            self.pieces.load(Ordering::SeqCst),
+            self.mcus.load(Ordering::SeqCst),
+        ]
     }
 
     /// Returns whether just the first intervals passed, once, and this number of pieces was made.
@@ -66,22 +76,20 @@ impl Gate for Calls {
     }
 }
 
-/// Checks the calls of `write_scan` with one worker, and of `write_scan_by` with three.
-fn check_scan<R: Threads + Wait + Sync + AllocGlobal + Abort>(
+/// Returns whether the first intervals pass a gate of `write_scan`, in their order, and one of `write_scan_by` with three workers.
+fn pass_scan<R: Threads + Wait + Sync>(
     rt: &R,
-    words: &str,
+    alloc: Global,
+    scan: &Arc<Scan>,
     first: Option<u32>,
     passed: u32,
-) -> Result<(), Fail> {
-    let scan = scan(rt.alloc(), words)?;
+) -> bool {
     let (alone, several) = (Calls::new(), Calls::new());
-    let mut out = Tally::of(Vec::new(rt.alloc()));
-    assert!(rt; write_scan(rt.alloc(), &scan, first, &alone, &mut out).is_ok());
-    assert!(rt; alone.are_in_order(passed), "{words} by write_scan");
-    let mut out = Tally::of(Vec::new(rt.alloc()));
-    assert!(rt; write_scan_by(rt, rt.alloc(), &scan, 3, first, &several, &mut out).is_ok());
-    assert!(rt; several.are_first(passed, 0), "{words} by write_scan_by");
-    Ok(())
+    let mut out = Tally::of(Vec::new(alloc));
+    write_scan(alloc, scan, first, &alone, &mut out).is_ok()
+        && write_scan_by(rt, alloc, scan, 3, first, &several, &mut out).is_ok()
+        && alone.are_in_order(passed)
+        && several.are_first(passed, 0)
 }
 
 /// Returns the calls of `run`, with one worker or two.
@@ -96,7 +104,9 @@ fn calls_of_run<R: Threads + Wait + Sync + AllocGlobal>(
     let out = Vec::new(rt.alloc());
     let workers = if is_alone { 1 } else { 2 };
     let (outcome, _out) = outcome_of(rt, bytes.as_slice(), out, workers, first, &calls);
-    outcome.ok().ok_or("a run that failed")?;
+    if outcome.is_err() {
+        return Err(Fail::from("a run that failed"));
+    }
     Ok(calls)
 }
 
@@ -118,9 +128,11 @@ const PASSING: [(&str, Option<u32>, u32); 11] = [
 #[test]
 fn tells_a_gate_each_of_the_first_intervals_once(rt: HostRuntime) -> Result<(), Fail> {
     for (words, first, passed) in &PASSING {
-        check_scan(&rt, words, *first, *passed)?;
+        let scan = scan(rt.alloc(), words)?;
         let calls = calls_of_run(&rt, words, true, *first)?;
-        assert!(rt; calls.are_in_order(*passed), "{words} by run");
+        if !calls.are_in_order(*passed) || !pass_scan(&rt, rt.alloc(), &scan, *first, *passed) {
+            return Err(Fail::from(*words));
+        }
     }
     Ok(())
 }
@@ -137,8 +149,10 @@ const PIECES: [(&str, u32, u32); 3] = [
 fn makes_pieces_of_small_pictures_alone(rt: HostRuntime) -> Result<(), Fail> {
     for (words, passed, pieces) in &PIECES {
         let calls = calls_of_run(&rt, words, false, None)?;
-        assert!(rt; calls.passed.load(Ordering::SeqCst) == *passed, "{words}");
-        assert!(rt; calls.pieces.load(Ordering::SeqCst) == *pieces, "{words}");
+        let [passing, made, _] = calls.counts();
+        if passing != *passed || made != *pieces {
+            return Err(Fail::from(*words));
+        }
     }
     Ok(())
 }
@@ -149,17 +163,10 @@ fn tells_a_gate_a_long_interval_once(rt: HostRuntime) -> Result<(), Fail> {
     for workers in [1, 2, 4] {
         let calls = Calls::new();
         let scan = scan(rt.alloc(), LONG)?;
-        let board = decode_all(&rt, rt.alloc(), scan, workers, None, &calls)?;
-        let counts = (board.sound(), calls.passed.load(Ordering::SeqCst));
-        assert!(rt; counts == (1, 1), "{workers} workers");
-        assert!(rt;
-            calls.pieces.load(Ordering::SeqCst) == 1,
-            "{workers} workers"
-        );
-        assert!(rt;
-            calls.mcus.load(Ordering::SeqCst) == 1056,
-            "{workers} workers"
-        );
+        let board = decode_all(&rt, rt.alloc(), scan, workers, None, &calls);
+        if !board.is_ok_and(|board| board.sound() == 1) || calls.counts() != [1, 1, 1056] {
+            return Err(Fail::from(workers));
+        }
     }
     Ok(())
 }

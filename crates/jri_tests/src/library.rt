@@ -53,42 +53,54 @@ fn resynchronises(rt: HostRuntime) -> Result<(), Fail> {
         detail: 7,
     };
     let answer = resynchronise_file(rt.alloc(), &lost, &mut out, &mut breaks, &mut report);
-    assert!(rt; answer == OK && (report.size, report.breaks) == (175, 1));
-    assert!(rt; front(&out, 175) == in_step.as_slice() && out[175] == BYTE);
-    let found = (
-        breaks[0].at,
-        breaks[0].code,
-        breaks[0].due,
-        breaks[0].skipped,
-    );
-    assert!(rt; found == (150, 0xD2, 1, 1));
+    let is_in_step = answer == OK
+        && (report.size, report.breaks) == (175, 1)
+        && front(&out, 175) == in_step.as_slice()
+        && out[175] == BYTE;
+    let [
+        Break {
+            at,
+            code,
+            due,
+            skipped,
+        },
+    ] = breaks;
+    assert!(rt; is_in_step && (at, code, due, skipped) == (150, 0xD2, 1, 1));
     Ok(())
+}
+
+/// Returns whether the third of ten intervals is grey, and the others are lighter.
+fn has_third_lost(pixels: &[u8; 640]) -> bool {
+    for k in 0..640 {
+        let expected = if k % 80 / 8 == 2 { 128 } else { 136 };
+        if pixels[k] != expected {
+            return false;
+        }
+    }
+    true
 }
 
 #[test]
 fn decodes_resynchronised(rt: HostRuntime) -> Result<(), Fail> {
     let lost = file(rt.alloc(), LOST)?;
     let mut pixels = [BYTE; 640];
-    let mut marks = [BYTE; 10];
-    let mut checked = [BYTE; 10];
+    let (mut marks, mut checked) = ([BYTE; 10], [BYTE; 10]);
     let mut report = DecodeReport::empty();
     let answer = decode_file(rt.alloc(), &lost, 1, &mut pixels, &mut marks, &mut report);
-    assert!(rt; answer == DAMAGED && report.sound == 9 && report.damaged == 1 && report.ended == 1);
-    assert!(rt; marks == [1, 1, 2, 1, 1, 1, 1, 1, 1, 1]);
-    for k in 0..pixels.len() {
-        let expected = if k % 80 / 8 == 2 { 128 } else { 136 };
-        assert!(rt; pixels[k] == expected, "byte {k}");
-    }
+    let is_decoded = answer == DAMAGED
+        && (report.sound, report.damaged, report.ended) == (9, 1, 1)
+        && marks == [1, 1, 2, 1, 1, 1, 1, 1, 1, 1]
+        && has_third_lost(&pixels);
     let answer = check_marks(rt.alloc(), &lost, 1, &mut checked, &mut report);
-    assert!(rt; answer == DAMAGED && report.damaged == 1 && checked == marks);
+    assert!(rt; is_decoded && answer == DAMAGED && report.damaged == 1 && checked == marks);
     Ok(())
 }
 
 #[test]
 fn mends(rt: HostRuntime) -> Result<(), Fail> {
     let whole = file(rt.alloc(), TEN)?;
-    let mut files = file(rt.alloc(), ONE)?;
-    files.extend_from_slice(file(rt.alloc(), OTHER)?.as_slice())?;
+    let words = format!(in rt.alloc(); "{ONE} {OTHER}")?;
+    let files = file(rt.alloc(), words.as_str())?;
     let mut out = [BYTE; SIZE];
     let unwritten = ChoiceEntry {
         copy: 7,
@@ -114,11 +126,18 @@ fn mends(rt: HostRuntime) -> Result<(), Fail> {
         &mut choices,
         &mut report,
     );
-    assert!(rt; answer == SOUND && (report.intervals, report.damaged, report.size) == (10, 0, 176));
-    assert!(rt; out.as_slice() == whole.as_slice());
-    assert!(rt; (choices[0].copy, choices[1].copy, choices[2].copy) == (0, 1, 0));
+    let is_mended = answer == SOUND
+        && (report.intervals, report.damaged, report.size) == (10, 0, 176)
+        && (choices[0].copy, choices[1].copy, choices[2].copy) == (0, 1, 0)
+        && out.as_slice() == whole.as_slice();
+    assert!(rt; is_mended);
     Ok(())
 }
+
+const LAID_OUT: [u8; 29] = [
+    3, 2, 1, 255, 6, 5, 4, 255, 9, 8, 7, 255, 12, 11, 10, 255, 15, 14, 13, 255, 18, 17, 16, 255,
+    21, 20, 19, 255, BYTE,
+];
 
 /// Lays a line of seven pixels out as blue, green, red and 255: a vector stores the first ones.
 #[test]
@@ -127,14 +146,7 @@ fn lays_out(rt: HostRuntime) {
         1, 2, 3, 4, 5, 6, 7, 8, 9, 10, 11, 12, 13, 14, 15, 16, 17, 18, 19, 20, 21,
     ];
     let mut canvas = [BYTE; 29];
-    assert!(rt; lay_out(&line, 7, 3, &mut canvas, 29, 4) == OK);
-    assert!(rt;
-        canvas
-            == [
-                3, 2, 1, 255, 6, 5, 4, 255, 9, 8, 7, 255, 12, 11, 10, 255, 15, 14, 13, 255, 18, 17,
-                16, 255, 21, 20, 19, 255, BYTE,
-            ]
-    );
     let mut text = [BYTE; 4];
-    assert!(rt; build_text(&mut text) == 4 && &text == b"jri ");
+    let is_laid_out = lay_out(&line, 7, 3, &mut canvas, 29, 4) == OK && canvas == LAID_OUT;
+    assert!(rt; is_laid_out && build_text(&mut text) == 4 && &text == b"jri ");
 }

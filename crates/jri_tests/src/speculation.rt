@@ -4,15 +4,13 @@
 ghost use Rattle.std.specs.Prelude.{◌≤◌};
 ghost use Rattle.jr_base.specs.declared.limits.TheConstants.{MAX_WORKERS};
 
+use crate::decoding::outcome_of;
 use crate::gates::Calls;
 use jr_damage::{check_scan, check_scan_by};
-use jr_head::read_head;
 use jr_paint::{Tally, write_netpbm};
 use jr_scan::Scan;
 use jr_wall::{Gate, Piece, decode_all};
-use jri_engine::run;
-use std::alloc::{AllocError, Global};
-use std::process::Abort;
+use std::alloc::Global;
 use std::sync::atomic::{AtomicU64, Ordering};
 use std::sync::{Arc, Wait};
 use std::test::Fail;
@@ -20,6 +18,7 @@ use std::thread;
 use std::thread::Threads;
 use std::time::{Clock, Duration};
 use test_files::files::file;
+use test_files::scans::shared_scan;
 
 /// The file up to its data: 20 rows of 301 MCUs, 1404 MCUs in each interval but the last.
 const HEAD: &str = "S Q F:00A0:0968 D A2:00:0A I:057C C";
@@ -36,51 +35,53 @@ const FIRST: [u8; 6] = [0xA1, 0xA3, 0xA5, 0x9B, 0x9D, 0x9F];
 /// The bytes after it, for two AC coefficients of 512.
 const NEXT: [u8; 3] = [0x40, 0x14, 0x01];
 
-/// The last bytes of an MCU, with the end of the block.
-const LAST: [u8; 3] = [0x40, 0x14, 0x00];
-
 /// A first byte that no code begins.
 const NO_CODE: u8 = 0xE1;
 
 /// The MCU of the first interval that is damaged, if one is.
 const DAMAGED: u32 = 700;
 
-/// Writes an MCU, 94 bytes.
-fn put_mcu(bytes: &mut Vec<u8>, first: u8) -> Result<(), AllocError> {
-    bytes.push(first)?;
-    for _ in 0..30 {
-        bytes.extend_from_slice(&NEXT)?;
+/// Returns the bytes of an MCU, whose last one has the end of the block.
+fn mcu_of(first: u8) -> [u8; 94] {
+    let mut mcu = [first; 94];
+    for k in 0..92usize {
+        mcu[k + 1] = NEXT[k % 3];
     }
-    bytes.extend_from_slice(&LAST)?;
-    Ok(())
+    mcu[93] = 0;
+    mcu
+}
+
+/// Appends an MCU, after a restart marker if it is the first of another interval. Returns `false` if there is no memory for it.
+fn put_mcu(bytes: &mut Vec<u8>, mcu: u32, first: u8) -> bool {
+    if mcu > 0 && mcu % RESTART == 0 {
+        let marker = 0xD0 + ((mcu / RESTART).wrapping_sub(1) % 8) as u8;
+        if bytes.extend_from_slice(&[0xFF, marker]).is_err() {
+            return false;
+        }
+    }
+    bytes.extend_from_slice(&mcu_of(first)).is_ok()
 }
 
 /// Returns the file, with one MCU that does not decode if `damaged` is one.
 fn long_file(alloc: Global, damaged: Option<u32>) -> Result<Vec<u8>, Fail> {
     let mut bytes = file(alloc, HEAD)?;
     for mcu in 0..MCUS {
-        if mcu > 0 && mcu % RESTART == 0 {
-            let marker = ((mcu / RESTART).wrapping_sub(1) % 8) as u8;
-            bytes.extend_from_slice(&[0xFF, 0xD0 | marker])?;
+        let mut first = FIRST[mcu as usize % FIRST.len()];
+        if damaged == Some(mcu) {
+            first = NO_CODE;
         }
-        let first = if damaged == Some(mcu) {
-            NO_CODE
-        } else {
-            FIRST[mcu as usize % FIRST.len()]
-        };
-        put_mcu(&mut bytes, first)?;
+        if !put_mcu(&mut bytes, mcu, first) {
+            return Err(Fail::from("out of memory"));
+        }
     }
     bytes.extend_from_slice(&[0xFF, 0xD9])?;
     Ok(bytes)
 }
 
-/// Returns the scan of a file.
-fn scan_of(alloc: Global, bytes: &[u8]) -> Result<Arc<Scan>, Fail> {
-    if bytes.len() > 1_000_000 {
-        return Err(Fail::from("a file that is too long"));
-    }
-    let head = read_head(alloc, bytes)?;
-    Ok(Arc::new(alloc, Scan::cut(alloc, head, bytes)?)?)
+/// Returns the scan of the file.
+fn long_scan(alloc: Global, damaged: Option<u32>) -> Result<Arc<Scan>, Fail> {
+    let bytes = long_file(alloc, damaged)?;
+    shared_scan(alloc, bytes.as_slice())
 }
 
 /// Returns the time of a clock in nanoseconds.
@@ -133,44 +134,52 @@ impl<R: Clock> Gate for Hold<'_, R> {
     }
 }
 
-/// The image of a run, and the number of its sound and damaged intervals.
-#[derive(PartialEq, Drop)]
+/// The image of a run, the number of its sound and damaged intervals, and the shortest time from the end of a hold to the next
+/// interval.
+#[derive(Drop)]
 struct Run {
     image: Vec<u8>,
     sound: u32,
     damaged: u32,
+    shortest: u64,
 }
 
-/// Runs with a gate that holds each interval, and returns the shortest time from the end of a hold to the next interval.
-fn run_by<R: Threads + Wait + Clock + Sync + AllocGlobal + Abort>(
+impl Run {
+    /// Returns whether both have the same image and the same counts.
+    fn is_same(&self, other: &Run) -> bool {
+        self.sound == other.sound && self.damaged == other.damaged && self.image == other.image
+    }
+}
+
+/// Runs with a gate that holds each interval.
+fn run_by<R: Threads + Wait + Clock + Sync + AllocGlobal>(
     rt: &R,
     bytes: &[u8],
     workers: u32,
     millis: u64,
-) -> Result<(Run, u64), Fail>
+) -> Result<Run, Fail>
     requires some { 1 ≤ workers }
     requires few { workers ≤ MAX_WORKERS }
 {
     let gate = Hold::new(rt, millis);
-    let mut input = Tally::of(bytes);
-    let mut out = Tally::of(Vec::new(rt.alloc()));
-    let outcome = run(rt, rt.alloc(), &mut input, &mut out, workers, None, &gate);
-    let report = outcome.ok().ok_or("a run that failed")?;
-    assert!(rt;
-        gate.calls.are_first(INTERVALS, 0),
-        "a run with {workers} workers"
-    );
-    let run = Run {
+    let (outcome, out) = outcome_of(rt, bytes, Vec::new(rt.alloc()), workers, None, &gate);
+    let Ok(report) = outcome else {
+        return Err(Fail::from("a run that failed"));
+    };
+    if !gate.calls.are_first(INTERVALS, 0) {
+        return Err(Fail::from("calls of the gate"));
+    }
+    Ok(Run {
         image: out.into_inner(),
         sound: report.sound,
         damaged: report.damaged,
-    };
-    Ok((run, gate.shortest.load(Ordering::SeqCst)))
+        shortest: gate.shortest.load(Ordering::SeqCst),
+    })
 }
 
 /// Runs often and compares each run with `alone`, until one has skipped an interval's rows in less than half of `read`,
 /// the time in which they are read. Returns whether one has.
-fn has_taken_over<R: Threads + Wait + Clock + Sync + AllocGlobal + Abort>(
+fn has_taken_over<R: Threads + Wait + Clock + Sync + AllocGlobal>(
     rt: &R,
     bytes: &[u8],
     workers: u32,
@@ -181,13 +190,27 @@ fn has_taken_over<R: Threads + Wait + Clock + Sync + AllocGlobal + Abort>(
     requires few { workers ≤ MAX_WORKERS }
 {
     for _ in 0..MOST_RUNS {
-        let (run, shortest) = run_by(rt, bytes, workers, MILLIS)?;
-        assert!(rt; run == *alone, "a run with {workers} workers");
-        if shortest < read / 2 {
+        let run = run_by(rt, bytes, workers, MILLIS)?;
+        if !run.is_same(alone) {
+            return Err(Fail::from("another image"));
+        }
+        if run.shortest < read / 2 {
             return Ok(true);
         }
     }
     Ok(false)
+}
+
+/// Returns the shortest time in which two workers, of which each reads its rows in turn, read the rows between two intervals.
+fn time_to_read<R: Threads + Wait + Clock + Sync + AllocGlobal>(
+    rt: &R,
+    bytes: &[u8],
+) -> Result<u64, Fail> {
+    let mut read = u64::MAX;
+    for _ in 0..3 {
+        read = run_by(rt, bytes, 2, MILLIS)?.shortest.min(read);
+    }
+    Ok(read)
 }
 
 /// The time for which a gate holds an interval, in milliseconds.
@@ -200,24 +223,23 @@ const MOST_RUNS: u32 = 40;
 /// run at a time the test requires nothing of the time.
 #[test]
 fn rows_are_taken_over_from_speculative_reads(rt: HostRuntime) -> Result<(), Fail> {
-    let processors = thread::available_parallelism(&rt).map_or(1, |count| count.get());
+    let is_small = thread::available_parallelism(&rt).map_or(true, |count| count.get() < 3);
     for damaged in [None, Some(DAMAGED)] {
         let bytes = long_file(rt.alloc(), damaged)?;
-        let (alone, _) = run_by(&rt, bytes.as_slice(), 1, 0)?;
-        let mut read = u64::MAX;
-        for _ in 0..3 {
-            read = run_by(&rt, bytes.as_slice(), 2, MILLIS)?.1.min(read);
-        }
+        let alone = run_by(&rt, bytes.as_slice(), 1, 0)?;
+        let read = time_to_read(&rt, bytes.as_slice())?;
         for workers in [3, 4, 8] {
             let is_taken = has_taken_over(&rt, bytes.as_slice(), workers, &alone, read)?;
-            assert!(rt; is_taken || processors < 3, "{workers} workers");
+            if !is_taken && !is_small {
+                return Err(Fail::from(workers));
+            }
         }
     }
     Ok(())
 }
 
 /// Decodes the first intervals onto a board, and returns its text.
-fn decoded_by<R: Threads + Wait + Clock + Sync + AllocGlobal + Abort>(
+fn decoded_by<R: Threads + Wait + Clock + Sync + AllocGlobal>(
     rt: &R,
     scan: &Arc<Scan>,
     workers: u32,
@@ -229,12 +251,10 @@ fn decoded_by<R: Threads + Wait + Clock + Sync + AllocGlobal + Abort>(
     let gate = Hold::new(rt, 0);
     let shared = Arc::try_clone(scan)?;
     let board = decode_all(rt, rt.alloc(), shared, workers, Some(first), &gate)?;
-    assert!(rt;
-        gate.calls.are_first(first, first),
-        "{workers} workers at a board"
-    );
     let mut out = Tally::of(Vec::new(rt.alloc()));
-    assert!(rt; write_netpbm(&board, &mut out).is_ok());
+    if !gate.calls.are_first(first, first) || write_netpbm(&board, &mut out).is_err() {
+        return Err(Fail::from("calls of the gate, or no memory"));
+    }
     Ok(out.into_inner())
 }
 
@@ -243,32 +263,40 @@ const TIMES: u32 = 10;
 
 #[test]
 fn boards_are_those_of_one_worker(rt: HostRuntime) -> Result<(), Fail> {
-    let bytes = long_file(rt.alloc(), Some(DAMAGED))?;
-    let scan = scan_of(rt.alloc(), bytes.as_slice())?;
+    let scan = long_scan(rt.alloc(), Some(DAMAGED))?;
     for first in [1, INTERVALS] {
         let alone = decoded_by(&rt, &scan, 1, first)?;
-        for _ in 0..TIMES {
-            for workers in [3, 4, 8] {
-                let text = decoded_by(&rt, &scan, workers, first)?;
-                assert!(rt; text == alone, "{workers} workers, first {first}");
+        for turn in 0..3 * TIMES {
+            let workers = WORKERS[turn as usize % WORKERS.len()].clamp(1, 64);
+            if decoded_by(&rt, &scan, workers, first)? != alone {
+                return Err(Fail::from(workers));
             }
         }
     }
     Ok(())
 }
 
+/// Numbers of workers with which a decoding has the result of one.
+const WORKERS: [u32; 3] = [3, 4, 8];
+
+/// Returns whether each check of a scan has the result of one that calls no other worker, with such a number of damaged intervals.
+fn is_checked<R: Threads + Wait + Sync>(rt: &R, alloc: Global, scan: &Scan, damaged: u32) -> bool {
+    let alone = check_scan(scan);
+    let mut is_same = alone.damaged == damaged;
+    for _ in 0..TIMES {
+        for workers in [1, 3, 4, 8] {
+            is_same = is_same && check_scan_by(rt, alloc, scan, workers) == alone;
+        }
+    }
+    is_same
+}
+
 #[test]
 fn damage_is_that_of_one_worker(rt: HostRuntime) -> Result<(), Fail> {
     for (damaged, count) in [(None, 0), (Some(DAMAGED), 1)] {
-        let bytes = long_file(rt.alloc(), damaged)?;
-        let scan = scan_of(rt.alloc(), bytes.as_slice())?;
-        let alone = check_scan(&scan);
-        assert!(rt; alone.damaged == count);
-        for _ in 0..TIMES {
-            for workers in [1, 3, 4, 8] {
-                let verdict = check_scan_by(&rt, rt.alloc(), &scan, workers);
-                assert!(rt; verdict == alone, "{workers} workers");
-            }
+        let scan = long_scan(rt.alloc(), damaged)?;
+        if !is_checked(&rt, rt.alloc(), &scan, count) {
+            return Err(Fail::from(count));
         }
     }
     Ok(())

@@ -28,14 +28,14 @@ fn words_of(alloc: Global, line: &str) -> Result<Vec<String>, Fail> {
 fn asks_for_a_decoding(rt: HostRuntime) -> Result<(), Fail> {
     for (line, workers, first, is_resync) in &LINES {
         let words = words_of(rt.alloc(), line)?;
-        let request = decode_request(rt.alloc(), &words).ok();
-        let request = request.ok_or("words that are refused")?;
-        let found = (
-            request.asked.workers,
-            request.asked.first,
-            request.is_resync,
-        );
-        assert!(rt; found == (*workers, *first, *is_resync), "{line}");
+        let is_asked = decode_request(rt.alloc(), &words).is_ok_and(|request| {
+            request.asked.workers == *workers
+                && request.asked.first == *first
+                && request.is_resync == *is_resync
+        });
+        if !is_asked {
+            return Err(Fail::from(*line));
+        }
     }
     Ok(())
 }

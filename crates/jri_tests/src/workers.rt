@@ -6,10 +6,12 @@ ghost use Rattle.jr_base.specs.declared.limits.TheConstants.{MAX_WORKERS};
 use crate::decoding::outcome_of;
 use jr_crew::write_scan_by;
 use jr_paint::Tally;
+use jr_scan::Scan;
 use jr_wall::{Gate, Piece};
+use std::alloc::Global;
 use std::io::{Result as IoResult, Write};
-use std::sync::Wait;
 use std::sync::atomic::{AtomicU32, Ordering};
+use std::sync::{Arc, Wait};
 use std::test::Fail;
 use std::thread::Threads;
 use test_files::files::file;
@@ -87,16 +89,21 @@ fn meet<R: Threads + Wait + Sync + AllocGlobal>(
 /// 129 rows of eight MCUs, each an interval: more than a small image has.
 const ROWS: &str = "S Q F:0408:0040 D A I:0008 C 63 FF D0 63 E";
 
+/// Files, and the number of workers and of pieces of a run in which they meet.
+const MEETINGS: [(&str, u32, u32); 3] = [("GI 63 FF D0 63 E", 2, 2), (ROWS, 2, 0), (ROWS, 8, 0)];
+
 #[test]
 fn workers_decode_intervals_at_once(rt: HostRuntime) -> Result<(), Fail> {
-    assert!(rt; meet(&rt, "GI 63 FF D0 63 E", 2, 2)?);
-    assert!(rt; meet(&rt, ROWS, 2, 0)?);
-    assert!(rt; meet(&rt, ROWS, 8, 0)?);
+    for (words, workers, pieces) in &MEETINGS {
+        if !meet(&rt, words, (*workers).clamp(1, 64), *pieces)? {
+            return Err(Fail::from(*words));
+        }
+    }
     let scan = scan(rt.alloc(), ROWS)?;
     let gate = Meeting::new();
     let mut out = Tally::of(Vec::new(rt.alloc()));
-    assert!(rt; write_scan_by(&rt, rt.alloc(), &scan, 2, None, &gate, &mut out).is_ok());
-    assert!(rt; gate.is_met(0), "a crew of two");
+    let outcome = write_scan_by(&rt, rt.alloc(), &scan, 2, None, &gate, &mut out);
+    assert!(rt; outcome.is_ok() && gate.is_met(0));
     Ok(())
 }
 
@@ -140,16 +147,17 @@ impl<'g> Write for Held<'g> {
 /// 256 rows of 128 MCUs, of which an interval has one and a half.
 const LONG_ROWS: &str = "S Q F:0800:0400 D A I:00C0 C 63 FF D0 63 E";
 
-/// Returns the number of intervals that have passed when the first write ends, which waits for a number of them.
-fn seen<R: Threads + Wait + Sync + AllocGlobal>(
+/// Returns the number of intervals that have passed when the first write ends, which waits for a number of them; 0 if none is made.
+fn seen<R: Threads + Wait + Sync>(
     rt: &R,
+    alloc: Global,
+    scan: &Arc<Scan>,
     workers: u32,
     awaited: u32,
-) -> Result<Option<u32>, Fail>
+) -> u32
     requires some { 1 ≤ workers }
     requires few { workers ≤ MAX_WORKERS }
 {
-    let scan = scan(rt.alloc(), LONG_ROWS)?;
     let gate = Reached {
         passed: AtomicU32::new(0),
     };
@@ -158,19 +166,24 @@ fn seen<R: Threads + Wait + Sync + AllocGlobal>(
         awaited,
         seen: None,
     });
-    match write_scan_by(rt, rt.alloc(), &scan, workers, None, &gate, &mut out) {
-        Ok(_) => Ok(out.into_inner().seen),
-        Err(_) => Err(Fail::from("it is not written")),
+    match write_scan_by(rt, alloc, scan, workers, None, &gate, &mut out) {
+        Ok(_) => out.into_inner().seen.unwrap_or(0),
+        Err(_) => 0,
     }
 }
 
 #[test]
 fn others_read_on_while_the_first_lines_are_written(rt: HostRuntime) -> Result<(), Fail> {
-    let alone = seen(&rt, 1, 0)?.ok_or("one worker writes nothing")?;
+    let scan = scan(rt.alloc(), LONG_ROWS)?;
+    let alone = seen(&rt, rt.alloc(), &scan, 1, 0);
+    if alone == 0 {
+        return Err(Fail::from("one worker writes nothing"));
+    }
     for (workers, more) in [(2, 1), (3, 1), (8, 4)] {
         let awaited = alone.wrapping_add(more);
-        let reached = seen(&rt, workers, awaited)?;
-        assert!(rt; reached >= Some(awaited), "{workers} workers");
+        if seen(&rt, rt.alloc(), &scan, workers, awaited) < awaited {
+            return Err(Fail::from(workers));
+        }
     }
     Ok(())
 }

@@ -20,6 +20,7 @@
 //! | `cut:146` | of the bytes before it the first 146 |
 //! | `at:140:FF` | the byte 140 before it becomes FF |
 
+use crate::draft::Draft;
 use crate::error::NotationError;
 use std::alloc::Global;
 
@@ -78,13 +79,13 @@ pub const TWO_LONG: &str =
 pub const LONG_COLOURED: &str = "S Q F3:01E0:0240:22 D:00:03:06 A \
     C3 108*6000C06000C06000C06000C06000C05800B05800B05800B05800B05800B0 E";
 
-/// Parts with arguments: what precedes each argument, and what follows the last.
+/// Parts with arguments, each of which is a bar.
 const FORMS: [(&str, &str); 6] = [
     ("F", "FF C0 00 0B 08 | | 01 01 11 00"),
     ("F1", "FF C1 00 0B 08 | | 01 01 11 00"),
     ("F3", "FF C0 00 11 08 | | 03 01 | 00 02 11 00 03 11 00"),
-    ("D", "FF C4 00 16 00 00 03 14*00 | | "),
-    ("A2", "FF C4 00 15 10 01 01 14*00 | "),
+    ("D", "FF C4 00 16 00 00 03 14*00 | | |"),
+    ("A2", "FF C4 00 15 10 01 01 14*00 | |"),
     ("I", "FF DD 00 04 |"),
 ];
 
@@ -106,142 +107,101 @@ fn text_of<'a>(table: &[(&'a str, &'a str)], word: &str) -> Option<&'a str> {
     None
 }
 
-/// Appends the bytes that pairs of hexadecimal digits write.
-fn put_hex(bytes: &mut Vec<u8>, digits: &str) -> Result<(), NotationError> {
-    let mut high = None;
-    for c in digits.chars() {
-        let digit = c.to_digit(16).ok_or(NotationError::Malformed)? as u8;
-        high = match high {
-            None => Some(digit),
-            Some(before) => {
-                bytes.push(u8::wrapping_mul(before, 16).wrapping_add(digit))?;
-                None
-            }
-        };
-    }
-    Ok(())
-}
-
-/// Appends pairs of digits, or a number of times a pair.
-fn put_digits(bytes: &mut Vec<u8>, word: &str) -> Result<(), NotationError> {
-    match word.split_once('*') {
-        None => put_hex(bytes, word),
-        Some((times, digits)) => {
-            for _ in 0..times.parse::<u32>()? {
-                put_hex(bytes, digits)?;
-            }
-            Ok(())
-        }
-    }
-}
-
-fn put_all_digits(bytes: &mut Vec<u8>, words: &str) -> Result<(), NotationError> {
-    for word in words.split_whitespace() {
-        put_digits(bytes, word)?;
-    }
-    Ok(())
-}
-
-/// Appends a part with arguments: each fragment, and the argument after it.
-fn put_form(bytes: &mut Vec<u8>, fragments: &str, arguments: &str) -> Result<(), NotationError> {
+/// Appends digits, and for each bar among them the next argument.
+fn put_form(draft: &mut Draft, digits: &str, arguments: &str) {
     let mut values = arguments.split(':');
-    for fragment in fragments.split('|') {
-        put_all_digits(bytes, fragment)?;
-        if let Some(value) = values.next() {
-            put_hex(bytes, value)?;
+    for word in digits.split_whitespace() {
+        if word == "|" {
+            draft.put_hex(values.next().unwrap_or(""));
+        } else {
+            draft.put_digits(word);
         }
     }
-    Ok(())
 }
 
 /// Writes the given number of data units; those of each interval begin with other ones.
-fn put_units(bytes: &mut Vec<u8>, number: u32, units: u32) -> Result<(), NotationError> {
+fn put_units(draft: &mut Draft, number: u32, units: u32) {
     let first = number.wrapping_mul(3);
     for k in 0..units.wrapping_mul(3).div_ceil(2) {
-        let at = first.wrapping_add(k) as usize % UNITS.len();
-        bytes.push(UNITS[at])?;
+        draft.push(UNITS[first.wrapping_add(k) as usize % UNITS.len()]);
     }
-    Ok(())
-}
-
-/// Returns the number that hexadecimal digits write.
-fn next_number(digits: Option<&str>) -> Result<u32, NotationError> {
-    Ok(u32::from_str_radix(digits.ok_or(NotationError::Malformed)?, 16)?)
 }
 
 /// Appends the intervals of a scan, as `0005:000C:0006`: the maximum number of MCUs of each, the number of all MCUs,
 /// and the number of data units of each. Each interval has whole bytes.
-fn put_scan(bytes: &mut Vec<u8>, arguments: &str) -> Result<(), NotationError> {
-    let mut numbers = arguments.split(':');
-    let each = next_number(numbers.next())?;
-    let mut left = next_number(numbers.next())?;
-    let units = next_number(numbers.next())?;
+fn put_scan(draft: &mut Draft, arguments: &str) {
+    let Some((each, rest)) = arguments.split_once(':') else {
+        return draft.reject();
+    };
+    let Some((mcus, units)) = rest.split_once(':') else {
+        return draft.reject();
+    };
+    let each = draft.number(each, 16);
+    let mut left = draft.number(mcus, 16);
+    let units = draft.number(units, 16);
     for number in 0..left.div_ceil(each.max(1)) {
         if number > 0 {
-            let marker = (number.wrapping_sub(1) % 8) as u8;
-            bytes.extend_from_slice(&[0xFF, 0xD0 | marker])?;
+            draft.append(&[0xFF, 0xD0 + (number.wrapping_sub(1) % 8) as u8]);
         }
-        put_units(bytes, number, each.min(left).wrapping_mul(units))?;
+        put_units(draft, number, each.min(left).wrapping_mul(units));
         left = left.saturating_sub(each);
     }
-    Ok(())
 }
 
 /// Changes the byte at an offset, as `140:FF`.
-fn change(bytes: &mut Vec<u8>, arguments: &str) -> Result<(), NotationError> {
-    let (at, digits) = arguments.split_once(':').ok_or(NotationError::Malformed)?;
-    let value = u8::from_str_radix(digits, 16)?;
-    let byte = bytes
-        .get_mut(at.parse::<usize>()?)
-        .ok_or(NotationError::Malformed)?;
-    *byte = value;
-    Ok(())
+fn change(draft: &mut Draft, arguments: &str) {
+    let Some((at, value)) = arguments.split_once(':') else {
+        return draft.reject();
+    };
+    let at = draft.number(at, 10);
+    let value = draft.number(value, 16);
+    draft.change(at, (value % 256) as u8);
 }
 
 /// Appends a part with arguments, or changes the bytes before it.
-fn put_named(bytes: &mut Vec<u8>, name: &str, arguments: &str) -> Result<(), NotationError> {
+fn put_named(draft: &mut Draft, name: &str, arguments: &str) {
     match name {
         "cut" => {
-            bytes.truncate(arguments.parse::<usize>()?);
-            Ok(())
+            let length = draft.number(arguments, 10);
+            draft.truncate(length);
         }
-        "at" => change(bytes, arguments),
-        "M" => put_scan(bytes, arguments),
+        "at" => change(draft, arguments),
+        "M" => put_scan(draft, arguments),
         _ => match text_of(&FORMS, name) {
-            Some(fragments) => put_form(bytes, fragments, arguments),
-            None => Err(NotationError::Malformed),
+            Some(digits) => put_form(draft, digits, arguments),
+            None => draft.reject(),
         },
     }
 }
 
-fn put_part(bytes: &mut Vec<u8>, word: &str) -> Result<(), NotationError> {
-    if let Some(words) = text_of(&PARTS, word) {
-        return put_all_digits(bytes, words);
-    }
+/// Appends a part, or digits.
+fn put_part(draft: &mut Draft, word: &str) {
     match word.split_once(':') {
-        Some((name, arguments)) => put_named(bytes, name, arguments),
-        None => put_digits(bytes, word),
+        Some((name, arguments)) => put_named(draft, name, arguments),
+        None => match text_of(&PARTS, word) {
+            Some(digits) => put_form(draft, digits, ""),
+            None => draft.put_digits(word),
+        },
     }
 }
 
 /// Appends the bytes of a text; groups of parts are not among its words.
-pub fn put_parts(bytes: &mut Vec<u8>, words: &str) -> Result<(), NotationError> {
+fn put_parts(draft: &mut Draft, words: &str) {
     for word in words.split_whitespace() {
-        put_part(bytes, word)?;
+        put_part(draft, word);
     }
-    Ok(())
 }
 
 /// Returns the bytes of a file in the notation above.
 pub fn file(alloc: Global, words: &str) -> Result<Vec<u8>, NotationError> {
-    let mut bytes = Vec::new(alloc);
+    let mut draft = Draft::new(alloc);
     for word in words.split_whitespace() {
         match text_of(&GROUPS, word) {
-            Some(parts) => put_parts(&mut bytes, parts)?,
-            None => put_part(&mut bytes, word)?,
+            Some(parts) => put_parts(&mut draft, parts),
+            None => put_part(&mut draft, word),
         }
     }
-    Ok(bytes)
+    draft.finish()
 }
 
 /// Returns the first bytes of a file, at most `length`.

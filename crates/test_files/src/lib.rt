@@ -1,6 +1,7 @@
 //! Files for tests, in a short notation, their scans, images in a notation, and waiting.
 #![tactic(auto)]
 
+mod draft;
 pub mod error;
 pub mod files;
 pub mod pictures;

@@ -4,37 +4,45 @@
 //! Different lines are separated by `/`; `8x` before one writes it eight times. The samples of a colour are joined by
 //! commas: `16*229,77,128`.
 
+use crate::draft::Draft;
 use crate::error::NotationError;
 use std::alloc::{AllocError, Global};
 
-/// Appends a number of times the bytes of a pixel, as `16*229,77,128`.
-fn put_run(bytes: &mut Vec<u8>, word: &str) -> Result<(), NotationError> {
-    let (times, pixel) = word.split_once('*').ok_or(NotationError::Malformed)?;
-    for _ in 0..times.parse::<u32>()? {
-        for sample in pixel.split(',') {
-            bytes.push(sample.parse::<u8>()?)?;
-        }
+/// Appends the bytes of a pixel, as `229,77,128`.
+fn put_pixel(draft: &mut Draft, pixel: &str) {
+    for sample in pixel.split(',') {
+        let value = draft.number(sample, 10);
+        draft.push((value % 256) as u8);
     }
-    Ok(())
 }
 
-fn put_line(bytes: &mut Vec<u8>, line: &str) -> Result<(), NotationError> {
-    for word in line.split_whitespace() {
-        put_run(bytes, word)?;
+/// Appends a number of times the bytes of a pixel, as `16*229,77,128`.
+fn put_run(draft: &mut Draft, word: &str) {
+    match word.split_once('*') {
+        Some((times, pixel)) => {
+            for _ in 0..draft.number(times, 10) {
+                put_pixel(draft, pixel);
+            }
+        }
+        None => draft.reject(),
     }
-    Ok(())
+}
+
+fn put_line(draft: &mut Draft, line: &str) {
+    for word in line.split_whitespace() {
+        put_run(draft, word);
+    }
 }
 
 /// Writes a line, as often as `8x` before it says, otherwise the given number of times.
-fn put_lines(bytes: &mut Vec<u8>, line: &str, times: u32) -> Result<(), NotationError> {
+fn put_lines(draft: &mut Draft, line: &str, times: u32) {
     let (times, line) = match line.split_once('x') {
-        Some((digits, line)) => (digits.trim().parse::<u32>()?, line),
+        Some((digits, line)) => (draft.number(digits.trim(), 10), line),
         None => (times, line),
     };
     for _ in 0..times {
-        put_line(bytes, line)?;
+        put_line(draft, line);
     }
-    Ok(())
 }
 
 /// Returns the first lines of an image's Netpbm text.
@@ -42,27 +50,31 @@ pub fn header(alloc: Global, magic: &str, width: u32, height: u32) -> Result<Str
     format!(in alloc; "{magic}\n{width} {height}\n255\n")
 }
 
+/// Appends the first lines of an image, as `P5 16 8`, and returns the number of its lines.
+fn put_header(draft: &mut Draft, size: &str) -> u32 {
+    let Some((magic, size)) = size.split_once(' ') else {
+        draft.reject();
+        return 0;
+    };
+    for text in [magic, "\n", size, "\n255\n"] {
+        draft.append(text.as_bytes());
+    }
+    match size.split_once(' ') {
+        Some((_, height)) => draft.number(height, 10),
+        None => 0,
+    }
+}
+
 /// Returns the Netpbm text of an image in the notation above.
 pub fn picture(alloc: Global, words: &str) -> Result<Vec<u8>, NotationError> {
-    let (size, lines) = words.split_once(" : ").ok_or(NotationError::Malformed)?;
-    let mut parts = size.split_whitespace();
-    let magic = parts.next().ok_or(NotationError::Malformed)?;
-    let width = parts
-        .next()
-        .ok_or(NotationError::Malformed)?
-        .parse::<u32>()?;
-    let height = parts
-        .next()
-        .ok_or(NotationError::Malformed)?
-        .parse::<u32>()?;
-    let text = header(alloc, magic, width, height)?;
-    let mut bytes = text.as_bytes().to_vec(alloc)?;
-    if lines.contains('/') {
-        for line in lines.split('/') {
-            put_lines(&mut bytes, line, 1)?;
-        }
-    } else {
-        put_lines(&mut bytes, lines, height)?;
+    let Some((size, lines)) = words.trim().split_once(" : ") else {
+        return Err(NotationError::Malformed);
+    };
+    let mut draft = Draft::new(alloc);
+    let height = put_header(&mut draft, size);
+    let times = if lines.contains('/') { 1 } else { height };
+    for line in lines.split('/') {
+        put_lines(&mut draft, line, times);
     }
-    Ok(bytes)
+    draft.finish()
 }

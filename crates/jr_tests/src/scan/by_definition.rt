@@ -1,155 +1,132 @@
 //! A parser written from the definitions, bit by bit and byte by byte, to compare with the reader.
 
-use crate::plain::{number, value, word};
-use jr_scan::{Block, Interval, Scan, ScanEnd};
+use crate::plain::{PlainBits, PlainTable};
+use jr_scan::{Block, FrontBlocks, Scan, ScanEnd};
 use std::alloc::Global;
-use std::process::Abort;
 use std::test::Fail;
 use test_files::files::file;
 use test_files::scans::scan_of;
 
-/// A file up to its scan's data, the counts and symbols of its tables, and the order of an MCU's data units.
+/// A file up to its scan's data, its code tables, the components of an MCU's data units, and the number of MCUs of an interval.
 #[derive(Clone, Copy)]
-struct Picture<'a> {
-    words: &'a str,
-    dc: (&'a [u8], &'a [u8]),
-    ac: (&'a [u8], &'a [u8]),
-    order: &'a [usize],
-    /// MCUs of an interval.
-    mcus: usize,
+struct Picture {
+    words: &'static str,
+    dc: PlainTable,
+    ac: PlainTable,
+    order: &'static [usize],
+    mcus: u32,
 }
 
-/// Reads the block at a bit, its DC coefficient a difference, and returns it with the bit after it.
-fn block(picture: &Picture<'_>, bytes: &[u8], start: usize, z: &mut Block) -> Option<usize> {
-    *z = [0; 64];
-    let (size, long) = word(picture.dc.0, picture.dc.1, bytes, start)?;
-    if size > 11 {
-        return None;
-    }
-    let size = size as usize;
-    let mut at = start.checked_add(long)?;
-    z[0] = value(size, number(bytes, at, size)?);
-    at = at.checked_add(size)?;
-    let mut place: usize = 1;
-    for _ in 0..63u8 {
-        if place == 64 {
-            return Some(at);
-        }
-        let (symbol, long) = word(picture.ac.0, picture.ac.1, bytes, at)?;
-        at = at.checked_add(long)?;
-        let run = usize::from(symbol / 16);
-        let size = usize::from(symbol % 16);
-        if symbol == 0 {
-            return Some(at);
-        }
-        if symbol == 0xF0 {
-            place = place.checked_add(16)?;
-            if place > 64 {
-                return None;
-            }
-        } else {
-            place = place.checked_add(run)?;
-            if size == 0 || size > 10 || place > 63 {
-                return None;
-            }
-            z[place] = value(size, number(bytes, at, size)?);
-            at = at.checked_add(size)?;
-            place = place.checked_add(1)?;
-        }
-    }
-    if place == 64 { Some(at) } else { None }
-}
-
-/// Returns the data of the segments at the start, and the code of the marker that ends the scan; 0 if none does.
-fn segments(alloc: Global, bytes: &[u8], intervals: usize) -> Result<(Vec<Vec<u8>>, u8), Fail> {
-    let mut segments = Vec::new(alloc);
-    let mut segment = Vec::new(alloc);
-    let mut filled = false;
-    for byte in bytes {
-        if *byte == 0xFF {
-            filled = true;
-        } else if !filled {
-            segment.push(*byte)?;
-        } else if *byte == 0 {
-            segment.push(0xFF)?;
-            filled = false;
-        } else {
-            let k = segments.as_slice().len();
-            segments.push(segment)?;
-            segment = Vec::new(alloc);
-            filled = false;
-            let due = 0xD0 + (k % 8) as u8;
-            if *byte != due || k.checked_add(1) == Some(intervals) {
-                return Ok((segments, *byte));
-            }
-        }
-    }
-    segments.push(segment)?;
-    Ok((segments, 0))
-}
-
-/// The position of the reading of an interval: its bit, and the last DC coefficient of each component.
+/// The reading of an interval: its next bit, and the last DC coefficient of each component.
 #[derive(Clone, Copy)]
-struct Reading {
-    at: usize,
+struct Reading<'a> {
+    bits: PlainBits<'a>,
     last: [i32; 3],
 }
 
-/// Reads the next block of a component; returns `false` if there is none.
-fn read_block(
-    picture: &Picture<'_>,
-    bytes: &[u8],
-    component: usize,
-    reading: &mut Reading,
-    z: &mut Block,
-) -> bool {
-    let Some(end) = block(picture, bytes, reading.at, z) else {
-        return false;
-    };
-    let first = reading.last[component % 3].saturating_add(z[0]);
-    if !(-32768..=32767).contains(&first) {
-        return false;
+impl Reading<'_> {
+    /// Reads a DC coefficient, which is coded as its difference from the last one.
+    fn first(&mut self, dc: &PlainTable, component: usize) -> i32 {
+        let size = self.bits.word(dc);
+        let difference = self.bits.value(size);
+        let first = self.last[component % 3].saturating_add(difference);
+        self.last[component % 3] = first;
+        self.bits.has_failed |= size > 11 || !(-32768..=32767).contains(&first);
+        first
     }
-    reading.last[component % 3] = first;
-    reading.at = end;
-    z[0] = first;
-    true
-}
 
-/// Reads the blocks of the next MCU; returns `false` if one is missing.
-fn read_mcu(
-    picture: &Picture<'_>,
-    bytes: &[u8],
-    reading: &mut Reading,
-    blocks: &mut Vec<Block>,
-) -> Result<bool, Fail> {
-    let mut z = [0; 64];
-    for component in picture.order {
-        if !read_block(picture, bytes, *component, reading, &mut z) {
-            return Ok(false);
+    /// Reads the other coefficients of a block. Each but the last is coded with the zeros before it.
+    fn others(&mut self, ac: &PlainTable, z: &mut Block) {
+        let mut place = 1usize;
+        for _ in 1..64u8 {
+            let symbol = if place == 64 { 0 } else { self.bits.word(ac) };
+            if symbol == 0 {
+                return;
+            }
+            let (run, size) = (symbol / 16, symbol % 16);
+            place = place.wrapping_add(usize::from(run));
+            if place > 63 || size > 10 || size == 0 && run < 15 {
+                self.bits.has_failed = true;
+                return;
+            }
+            z[place] = self.bits.value(size);
+            place = place.wrapping_add(1);
         }
-        blocks.push(z)?;
     }
-    Ok(true)
+
+    /// Reads the blocks of an MCU, and returns whether they are the first ones of `blocks`, unless there is no such MCU.
+    fn is_mcu(&mut self, picture: &Picture, blocks: &[Block]) -> bool {
+        let mut is_same = true;
+        for (k, component) in picture.order.iter().enumerate() {
+            let mut z = [0; 64];
+            z[0] = self.first(&picture.dc, *component);
+            self.others(&picture.ac, &mut z);
+            is_same = is_same && blocks.get(k) == Some(&z);
+        }
+        is_same || self.bits.has_failed
+    }
 }
 
-/// Returns the blocks of the first whole MCUs, and whether these are all and fewer than eight bits are left.
-fn front(alloc: Global, picture: &Picture<'_>, bytes: &[u8]) -> Result<(Vec<Block>, bool), Fail> {
-    let mut whole = Vec::new(alloc);
-    let mut mcu = Vec::new(alloc);
-    let mut reading = Reading {
+/// Returns whether data are read so: the blocks of the first whole MCUs, and whether these are all and fewer than eight bits are left.
+fn is_front(picture: &Picture, bytes: &[u8], read: &FrontBlocks) -> bool {
+    let bits = PlainBits {
+        bytes,
         at: 0,
-        last: [0; 3],
+        has_failed: false,
     };
+    let mut reading = Reading { bits, last: [0; 3] };
+    let mut blocks = read.blocks();
+    let mut whole = 0u32;
     for _ in 0..picture.mcus {
-        if !read_mcu(picture, bytes, &mut reading, &mut mcu)? {
-            return Ok((whole, false));
+        if !reading.is_mcu(picture, blocks) {
+            return false;
         }
-        whole.extend_from_slice(&mcu)?;
-        mcu.clear();
+        if reading.bits.has_failed {
+            break;
+        }
+        whole = whole.wrapping_add(1);
+        blocks = blocks.get(picture.order.len()..).unwrap_or(&[]);
     }
-    let left = bytes.len().saturating_mul(8).saturating_sub(reading.at);
-    Ok((whole, left < 8))
+    let left = bytes.len().wrapping_mul(8).wrapping_sub(reading.bits.at);
+    let is_sound = !reading.bits.has_failed && left < 8;
+    read.mcus() == whole && blocks.is_empty() && read.is_sound() == is_sound
+}
+
+/// The bytes of a scan that are left, and the code of the marker that has ended it, 0 if none has.
+#[derive(Clone, Copy)]
+struct Rest<'a> {
+    bytes: &'a [u8],
+    end: u8,
+}
+
+impl Rest<'_> {
+    /// Takes the data of the next segment, after which the marker of this code is due. Returns `false` if there is no memory for them.
+    fn take_segment(&mut self, due: Option<u8>, data: &mut Vec<u8>) -> bool {
+        let bytes = self.bytes;
+        let mut has_fill = false;
+        self.bytes = &[];
+        data.clear();
+        for k in 0..bytes.len() {
+            let byte = bytes[k];
+            if byte == 0xFF {
+                has_fill = true;
+                continue;
+            }
+            if has_fill && byte > 0 {
+                if due == Some(byte) {
+                    self.bytes = &bytes[k + 1..];
+                } else {
+                    self.end = byte;
+                }
+                return true;
+            }
+            if data.push(if has_fill { 0xFF } else { byte }).is_err() {
+                return false;
+            }
+            has_fill = false;
+        }
+        true
+    }
 }
 
 /// Returns the code of the marker that ends a scan, 0 if none does; `None` for an extra restart marker.
@@ -158,127 +135,135 @@ fn code(ended: ScanEnd) -> Option<u8> {
         ScanEnd::EndOfFile => Some(0),
         ScanEnd::EndOfImage => Some(0xD9),
         ScanEnd::OtherMarker(code, _) => Some(code),
-        ScanEnd::OutOfStep { found, .. } => (found % 8).checked_add(0xD0),
+        ScanEnd::OutOfStep { found, .. } => Some(0xD0 + found % 8),
         ScanEnd::ExtraRestart(_) => None,
     }
 }
 
-/// Returns the next of a series of numbers that look random.
-fn random(state: u64) -> u64 {
-    state
-        .wrapping_mul(6364136223846793005)
-        .wrapping_add(1442695040888963407)
-}
-
-/// Bytes that often are FF, a restart marker or small.
-fn byte(state: u64) -> u8 {
-    let v = ((state >> 33) & 0xFF) as u8;
-    match (state >> 41) % 8 {
-        0 => 0xFF,
-        1 => 0xD0 + v % 4,
-        2 => 0,
-        3 => v % 16,
-        _ => v,
+/// Returns whether an interval has these data, and is read as the definitions say.
+fn is_interval(alloc: Global, picture: &Picture, scan: &Scan, number: u32, data: &[u8]) -> bool {
+    if number >= scan.intervals() {
+        return false;
     }
+    let Ok(interval) = scan.interval(number) else {
+        return false;
+    };
+    let Ok(read) = interval.read_front(alloc) else {
+        return false;
+    };
+    interval.bytes() == data && is_front(picture, data, &read)
 }
 
-/// At most eleven such bytes.
-fn bytes_of(alloc: Global, state: &mut u64) -> Result<Vec<u8>, Fail> {
-    let mut bytes = Vec::new(alloc);
-    *state = random(*state);
-    for _ in 0..(*state >> 40) % 12 {
-        *state = random(*state);
-        bytes.push(byte(*state))?;
-    }
-    Ok(bytes)
-}
-
-/// The interval has this data, and is read as the definitions say.
-fn check_interval(
-    rt: &impl Abort,
-    alloc: Global,
-    picture: &Picture<'_>,
-    interval: &Interval,
-    bytes: &[u8],
-) -> Result<(), Fail> {
-    assert!(rt; interval.bytes() == bytes);
-    let (blocks, is_sound) = front(alloc, picture, bytes)?;
-    let read = interval.read_front(alloc)?;
-    assert!(rt; read.blocks() == blocks.as_slice());
-    assert!(rt; read.is_sound() == is_sound);
-    assert!(rt; (read.mcus() as usize).checked_mul(picture.order.len()) == Some(blocks.len()));
-    Ok(())
-}
-
-/// The scan is cut into these segments, with this end, and its intervals are read so.
-fn check_scan(
-    rt: &impl Abort,
-    alloc: Global,
-    picture: &Picture<'_>,
-    scan: &Scan,
-    segments: &[Vec<u8>],
-    end: u8,
-) -> Result<(), Fail> {
-    if let Some(code) = code(scan.ended()) {
-        assert!(rt; code == end);
-    }
-    for i in 0..scan.intervals() {
-        let interval = scan.interval(i)?;
-        let segment = match segments.get(i as usize) {
-            Some(segment) => segment.as_slice(),
-            None => &[],
+/// Returns whether the scan of these bytes is cut as the definitions say, and its intervals are read so.
+fn is_scan(alloc: Global, picture: &Picture, scan: &Scan, bytes: &[u8]) -> bool {
+    let mut rest = Rest { bytes, end: 0 };
+    let mut data = Vec::new(alloc);
+    for number in 0..scan.intervals() {
+        let is_last = number.wrapping_add(1) == scan.intervals();
+        let due = if is_last {
+            None
+        } else {
+            Some(0xD0 + (number % 8) as u8)
         };
-        check_interval(rt, alloc, picture, &interval, segment)?;
+        if !rest.take_segment(due, &mut data) || !is_interval(alloc, picture, scan, number, &data) {
+            return false;
+        }
     }
-    Ok(())
+    code(scan.ended()).is_none_or(|code| code == rest.end)
 }
 
-/// The scan of a header and these bytes is cut as the definitions say, and its intervals are read so.
-fn check_bytes(
-    rt: &impl Abort,
-    alloc: Global,
-    picture: &Picture<'_>,
-    mut file: Vec<u8>,
-    bytes: &[u8],
-) -> Result<(), Fail> {
-    file.extend_from_slice(bytes)?;
-    let scan = scan_of(alloc, file.as_slice())?;
-    let (segments, end) = segments(alloc, bytes, scan.intervals() as usize)?;
-    check_scan(rt, alloc, picture, &scan, segments.as_slice(), end)
+/// A series of numbers that look random.
+#[derive(Clone, Copy)]
+struct Random {
+    state: u64,
 }
 
-/// Checks thousands of such scans after an image's header.
-fn check_picture(rt: &impl Abort, alloc: Global, picture: &Picture<'_>) -> Result<(), Fail> {
-    let head = file(alloc, picture.words)?;
-    let mut state: u64 = 7;
+impl Random {
+    /// Returns the next number, of 31 bits.
+    fn next(&mut self) -> u64 {
+        self.state = self
+            .state
+            .wrapping_mul(6364136223846793005)
+            .wrapping_add(1442695040888963407);
+        self.state >> 33
+    }
+
+    /// Returns a byte that often is FF, a restart marker or small.
+    fn byte(&mut self) -> u8 {
+        let number = self.next();
+        let v = (number & 0xFF) as u8;
+        match (number >> 8) % 8 {
+            0 => 0xFF,
+            1 => 0xD0 + v % 4,
+            2 => 0,
+            3 => v % 16,
+            _ => v,
+        }
+    }
+
+    /// Appends at most eleven such bytes. Returns `false` if there is no memory for them.
+    fn append_bytes(&mut self, bytes: &mut Vec<u8>) -> bool {
+        for _ in 0..(self.next() >> 7) % 12 {
+            if bytes.push(self.byte()).is_err() {
+                return false;
+            }
+        }
+        true
+    }
+}
+
+/// Checks thousands of scans of random bytes after an image's header.
+fn check_picture(alloc: Global, picture: &Picture) -> Result<(), Fail> {
+    let mut bytes = file(alloc, picture.words)?;
+    let length = bytes.len();
+    let mut random = Random { state: 7 };
     for _ in 0..4000u32 {
-        let bytes = bytes_of(alloc, &mut state)?;
-        check_bytes(rt, alloc, picture, head.clone()?, bytes.as_slice())?;
+        bytes.truncate(length);
+        let is_whole = random.append_bytes(&mut bytes);
+        let scan = scan_of(alloc, bytes.as_slice())?;
+        let data = bytes.get(length..).unwrap_or(&[]);
+        if !is_whole || !is_scan(alloc, picture, &scan, data) {
+            return Err(Fail::from(picture.words));
+        }
     }
     Ok(())
 }
 
-#[test]
-fn reads_one_component_as_the_definitions_say(rt: HostRuntime) -> Result<(), Fail> {
-    let picture = Picture {
+/// One component, and two MCUs in an interval; and three components.
+static PICTURES: [Picture; 2] = [
+    Picture {
         words: "S Q F:0008:0030 D:00:03:0B FF C4 00 17 10 01 01 01 01 12*00 00 F0 12 A1 I:0002 C",
-        dc: (&[0, 3], &[0, 3, 11]),
-        ac: (&[1, 1, 1, 1], &[0x00, 0xF0, 0x12, 0xA1]),
+        dc: PlainTable {
+            counts: &[0, 3],
+            symbols: &[0, 3, 11],
+        },
+        ac: PlainTable {
+            counts: &[1, 1, 1, 1],
+            symbols: &[0x00, 0xF0, 0x12, 0xA1],
+        },
         order: &[0],
         mcus: 2,
-    };
-    check_picture(&rt, rt.alloc(), &picture)
-}
-
-#[test]
-fn reads_three_components_as_the_definitions_say(rt: HostRuntime) -> Result<(), Fail> {
-    let picture = Picture {
+    },
+    Picture {
         words: "S Q F3:0008:0020:21 FF C4 00 17 00 00 02 01 01 12*00 00 02 0C 01 \
                 FF C4 00 17 10 01 01 01 01 12*00 00 F0 12 A1 I C3",
-        dc: (&[0, 2, 1, 1], &[0, 2, 12, 1]),
-        ac: (&[1, 1, 1, 1], &[0x00, 0xF0, 0x12, 0xA1]),
+        dc: PlainTable {
+            counts: &[0, 2, 1, 1],
+            symbols: &[0, 2, 12, 1],
+        },
+        ac: PlainTable {
+            counts: &[1, 1, 1, 1],
+            symbols: &[0x00, 0xF0, 0x12, 0xA1],
+        },
         order: &[0, 0, 1, 2],
         mcus: 1,
-    };
-    check_picture(&rt, rt.alloc(), &picture)
+    },
+];
+
+#[test]
+fn reads_as_the_definitions_say(rt: HostRuntime) -> Result<(), Fail> {
+    for picture in &PICTURES {
+        check_picture(rt.alloc(), picture)?;
+    }
+    Ok(())
 }

@@ -1,23 +1,9 @@
 //! The MCUs that speculative reads find.
 
-use jr_scan::{Guess, IntervalRef};
+use jr_scan::Guess;
 use std::alloc::Global;
 use std::test::Fail;
-use test_files::files::file;
-use test_files::scans::scan_of;
-
-/// Returns which MCU starts at a bit, of a speculative read from one bit up to another with space for the given number of MCUs.
-fn found_at(
-    alloc: Global,
-    interval: &IntervalRef<'_>,
-    (from, to): (u64, u64),
-    most: u32,
-    bit: u64,
-) -> Result<Option<usize>, Fail> {
-    let mut guess = Guess::open(alloc, interval, most)?;
-    guess.read(interval, from, to);
-    Ok(guess.find(bit))
-}
+use test_files::scans::scan;
 
 /// 4096 MCUs of three bits, but for the first, which has six; and 1024 of eighteen.
 const GREY: &str = "S Q F:0200:0200 D A C 60 1536*00";
@@ -39,15 +25,32 @@ const ROWS: [(&str, u64, u64, u32, u64, Option<usize>); 8] = [
     (COLOURED, 1801, 18000, 2000, 1800, None),
 ];
 
+/// Returns which MCU starts at a bit, of a speculative read from one bit up to another with space for the given number of MCUs.
+fn found_at(
+    alloc: Global,
+    words: &str,
+    (from, to): (u64, u64),
+    most: u32,
+    bit: u64,
+) -> Result<Option<usize>, Fail> {
+    let scan = scan(alloc, words)?;
+    if scan.intervals() != 1 {
+        return Err(Fail::from("not one interval"));
+    }
+    let interval = scan.interval_ref(0);
+    let Ok(mut guess) = Guess::open(alloc, &interval, most) else {
+        return Err(Fail::from("memory"));
+    };
+    guess.read(&interval, from, to);
+    Ok(guess.find(bit))
+}
+
 #[test]
 fn speculative_reads_find_mcus(rt: HostRuntime) -> Result<(), Fail> {
     for (words, from, to, most, bit, found) in &ROWS {
-        let bytes = file(rt.alloc(), words)?;
-        let scan = scan_of(rt.alloc(), bytes.as_slice())?;
-        assert!(rt; scan.intervals() == 1);
-        let interval = scan.interval_ref(0);
-        let seen = found_at(rt.alloc(), &interval, (*from, *to), *most, *bit)?;
-        assert!(rt; seen == *found, "{words} from {from}");
+        if found_at(rt.alloc(), words, (*from, *to), *most, *bit)? != *found {
+            return Err(Fail::from(*words));
+        }
     }
     Ok(())
 }

@@ -3,17 +3,15 @@
 ghost use Rattle.std.specs.Prelude.{◌≡◌};
 
 use crate::wall::shown::piece;
-use crate::wall::views::{Content, contents_now, contents_of, is_kept, watch_twice};
+use crate::wall::views::{Contents, View, contents_now, contents_of, is_kept, watch_twice};
 use jr_cells::{Cells, Sight};
 use jr_piece::Piece;
 use std::alloc::Global;
-use std::process::Abort;
 use std::sync::Arc;
 use std::test::Fail;
 use std::thread;
 use std::thread::Threads;
-use test_files::files::file;
-use test_files::scans::scan_of;
+use test_files::scans::scan;
 
 /// Ten restart intervals, each of one grey data unit.
 const RISING: &str =
@@ -30,11 +28,15 @@ const FALLING_GREYS: [u8; 10] = [160, 128, 142, 140, 138, 136, 120, 118, 116, 11
 
 /// Returns the pieces of a file, in the order of their numbers.
 fn pieces_of(alloc: Global, words: &str) -> Result<Vec<Arc<Piece>>, Fail> {
-    let bytes = file(alloc, words)?;
-    let scan = scan_of(alloc, bytes.as_slice())?;
+    let scan = scan(alloc, words)?;
     let mut pieces = Vec::new(alloc);
     for i in 0..scan.intervals() {
-        pieces.push(piece(alloc, &scan, i)?)?;
+        let Some(piece) = piece(alloc, &scan, i) else {
+            return Err(Fail::from("out of memory"));
+        };
+        if pieces.push(piece).is_err() {
+            return Err(Fail::from("out of memory"));
+        }
     }
     Ok(pieces)
 }
@@ -81,11 +83,13 @@ fn hang_twice<R: Threads + Sync>(
 }
 
 /// Returns whether each cell contains a piece of one of the two files.
-fn is_full(contents: &[Option<Content>; 10]) -> bool {
+fn is_full(contents: &Contents) -> bool {
     let (rising, falling) = (contents_of(&RISING_GREYS), contents_of(&FALLING_GREYS));
-    contents.iter().zip(rising.iter().zip(falling.iter())).all(|(found, (rising, falling))| found
-        == rising
-        || found == falling)
+    let mut is_full = true;
+    for i in 0..10usize {
+        is_full = is_full && (contents[i] == rising[i] || contents[i] == falling[i]);
+    }
+    is_full
 }
 
 #[test]
@@ -94,35 +98,52 @@ fn pieces_of_another_thread_are_found(rt: HostRuntime) -> Result<(), Fail> {
     let pieces = pieces_of(rt.alloc(), RISING)?;
     let shared = &cells;
     let (count, ()) = thread::join(&rt, move || hang_all(shared, pieces), || ());
-    assert!(rt; count == 10);
-    assert!(rt; contents_now(&cells)? == contents_of(&RISING_GREYS));
+    let contents = contents_now(&cells);
+    assert!(rt; count == 10 && contents.is_ok_and(|found| found == contents_of(&RISING_GREYS)));
     Ok(())
 }
 
-/// Two threads publish pieces of the same numbers, while two viewers look.
-fn hang_and_watch<R: Threads + Abort + Sync>(rt: &R, alloc: Global) -> Result<(), Fail> {
-    let cells = Cells::open(alloc, 10)?;
-    let (rising, mut falling) = (pieces_of(alloc, RISING)?, pieces_of(alloc, FALLING)?);
-    falling.reverse();
-    let shared = &cells;
+/// Returns whether two viewers saw what the cells contain at last, which is a piece of one of the two files in each.
+fn saw_last(cells: &Cells, one: &View, two: &View) -> bool {
+    match contents_now(cells) {
+        Ok(last) => is_full(&last) && is_kept(one, &last) && is_kept(two, &last),
+        Err(_) => false,
+    }
+}
+
+/// Two threads publish pieces of the same numbers, while two viewers look. Returns whether the viewers saw what there is.
+fn hang_and_watch<R: Threads + Sync>(
+    rt: &R,
+    cells: &Cells,
+    rising: Vec<Arc<Piece>>,
+    falling: Vec<Arc<Piece>>,
+) -> bool {
     let ((one, two), count) = thread::join(
         rt,
-        || watch_twice(rt, shared),
-        move || hang_twice(rt, shared, rising, falling),
+        || watch_twice(rt, cells),
+        move || hang_twice(rt, cells, rising, falling),
     );
-    assert!(rt; count == 10);
-    let (mut one, mut two) = (one?, two?);
-    let last = contents_now(&cells)?;
-    assert!(rt; is_full(&last));
-    assert!(rt; is_kept(&one, &last) && is_kept(&two, &last));
+    let Ok(mut one) = one else {
+        return false;
+    };
+    let Ok(mut two) = two else {
+        return false;
+    };
+    let is_right = count == 10 && saw_last(cells, &one, &two);
     cells.agree(&mut one.sight, &mut two.sight);
-    Ok(())
+    is_right
 }
 
 #[test]
 fn viewers_agree_while_two_threads_hang(rt: HostRuntime) -> Result<(), Fail> {
-    for _ in 0..20u32 {
-        hang_and_watch(&rt, rt.alloc())?;
+    for turn in 0..20u32 {
+        let cells = Cells::open(rt.alloc(), 10)?;
+        let rising = pieces_of(rt.alloc(), RISING)?;
+        let mut falling = pieces_of(rt.alloc(), FALLING)?;
+        falling.reverse();
+        if !hang_and_watch(&rt, &cells, rising, falling) {
+            return Err(Fail::from(turn));
+        }
     }
     Ok(())
 }

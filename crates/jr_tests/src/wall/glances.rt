@@ -1,8 +1,8 @@
 //! What glances at a board see while and after workers fill it.
 
-use crate::wall::shown::{decode, glimpse, letters_in_cells, look, open};
+use crate::wall::shown::{are_in_cells, glimpse, look, open};
 use jr_scan::Scan;
-use jr_wall::{Board, Glimpse, Mark, OpenGate};
+use jr_wall::{Board, Glimpse, Mark, OpenGate, decode_all};
 use std::sync::{Mutex, Wait};
 use std::test::Fail;
 use std::thread;
@@ -37,29 +37,39 @@ fn view<R: Wait>(rt: &R, scan: &Scan, board: &Mutex<Board>) -> bool {
 
 #[test]
 fn sees_marks_grow_beside_two_workers(rt: HostRuntime) -> Result<(), Fail> {
-    let alloc = rt.alloc();
-    let scan = scan(alloc, TEN)?;
-    let (decoding, seats) = open(alloc, &scan, 2, None)?;
+    let scan = scan(rt.alloc(), TEN)?;
+    let (decoding, seats) = open(rt.alloc(), &scan, 2, None)?;
     let is_right = decoding.run(&rt, seats, &OpenGate, |decoding| {
         view(&rt, &scan, decoding.board())
     });
-    assert!(rt; is_right && view(&rt, &scan, decoding.board()));
-    assert!(rt; letters_in_cells(alloc, decoding.cells())?.as_str() == "ssssssssss");
-    assert!(rt; decoding.finish()?.sound() == 10);
+    let is_kept = is_right
+        && view(&rt, &scan, decoding.board())
+        && are_in_cells(decoding.cells(), "ssssssssss");
+    let board = decoding.finish();
+    assert!(rt; is_kept && board.is_ok_and(|board| board.sound() == 10));
     Ok(())
 }
 
-/// None of a board of another scan of the same size, but of one that is equal.
-#[test]
-fn sees_nothing_of_another_scan(rt: HostRuntime) -> Result<(), Fail> {
-    let alloc = rt.alloc();
-    let board = decode(&rt, &scan(alloc, TEN)?, 2, None)?;
+/// Returns whether glances see nothing of a scan's board with another scan of the same size, but what it shows with an equal one.
+fn sees_equal<R: Wait>(rt: &R, board: Board, other: &Scan, equal: &Scan) -> bool {
     let looked = look(&board, 0, 0, 0);
     let board = Mutex::new(board);
-    let (other, equal) = (scan(alloc, MIXED)?, scan(alloc, TEN)?);
-    assert!(rt; glimpse(&rt, &board, &other, 0, 0, 0).is_none());
-    let seen = glimpse(&rt, &board, &equal, 0, 0, 0).ok_or("of an equal scan")?;
-    assert!(rt; looked == Some(seen));
-    assert!(rt; seen.mark == Mark::Sound && seen.sample == 136 && seen.sound == 10);
+    match glimpse(rt, &board, equal, 0, 0, 0) {
+        Some(seen) => {
+            seen.mark == Mark::Sound
+                && seen.sample == 136
+                && seen.sound == 10
+                && looked == Some(seen)
+                && glimpse(rt, &board, other, 0, 0, 0).is_none()
+        }
+        None => false,
+    }
+}
+
+#[test]
+fn sees_nothing_of_another_scan(rt: HostRuntime) -> Result<(), Fail> {
+    let (equal, other) = (scan(rt.alloc(), TEN)?, scan(rt.alloc(), MIXED)?);
+    let board = decode_all(&rt, rt.alloc(), scan(rt.alloc(), TEN)?, 2, None, &OpenGate)?;
+    assert!(rt; sees_equal(&rt, board, &other, &equal));
     Ok(())
 }

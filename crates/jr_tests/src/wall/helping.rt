@@ -52,16 +52,18 @@ impl Gate for Held {
 
 #[test]
 fn others_decode_strips_of_a_worker_that_is_held(rt: HostRuntime) -> Result<(), Fail> {
+    let scan = scan(rt.alloc(), TWO_LONG)?;
     for workers in [2, 3, 8] {
-        let scan = scan(rt.alloc(), TWO_LONG)?;
-        let (decoding, seats) = open(rt.alloc(), &scan, workers, None)?;
         let gate = Held {
             seen: AtomicU32::new(0),
             vain: AtomicU32::new(0),
         };
+        let (decoding, seats) = open(rt.alloc(), &scan, workers, None)?;
         let is_seen = decoding.run(&rt, seats, &gate, |decoding| gate.watch(decoding));
-        assert!(rt; is_seen && gate.vain.load(Ordering::SeqCst) == 0);
-        assert!(rt; decoding.finish()?.sound() == 2);
+        let is_sound = decoding.finish().is_ok_and(|board| board.sound() == 2);
+        if !is_seen || !is_sound || gate.vain.load(Ordering::SeqCst) > 0 {
+            return Err(Fail::from(workers));
+        }
     }
     Ok(())
 }

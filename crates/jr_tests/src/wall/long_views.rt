@@ -1,11 +1,11 @@
 //! The strips of long intervals that workers make.
 
-ghost use Rattle.std.specs.Prelude.{◌≡◌};
+ghost use Rattle.std.specs.Prelude.{◌≡◌, ◌≤◌};
 
 use crate::wall::shown::open;
-use jr_code::Memory;
+use jr_scan::Scan;
 use jr_wall::{Decoding, OpenGate, Seat, StripCells};
-use std::sync::Wait;
+use std::sync::{Arc, Wait};
 use std::test::Fail;
 use std::thread;
 use std::thread::Threads;
@@ -19,22 +19,26 @@ const CUT: &str = "S Q F:0108:0100 D A C 30*618618618618618618596596596596596596
 const COLOURED_CUT: &str = "S Q F3:01E0:0240:22 D:00:03:06 A \
     C3 60*6000C06000C06000C06000C06000C05800B05800B05800B05800B05800B0 E";
 
-/// Returns the number of MCUs that a viewer finds in the strips of an interval.
-fn mcus_in(strips: &StripCells) -> Result<u32, Memory> {
-    let mut sight = strips.sight()?;
+/// Returns the number of MCUs that a viewer finds in the strips of an interval; 0 if it has none.
+fn mcus_of(decoding: &Decoding, number: u32) -> u32 {
+    match decoding.strips(number) {
+        Some(strips) => mcus_in(strips),
+        None => 0,
+    }
+}
+
+/// Returns the number of MCUs that a viewer finds in strips.
+fn mcus_in(strips: &StripCells) -> u32 {
+    let Ok(mut sight) = strips.sight() else {
+        return 0;
+    };
     let mut found = 0u32;
     for place in 0..strips.count() {
         if let Some(strip) = strips.look(place, &mut sight) {
             found = found.saturating_add(strip.mcus());
         }
     }
-    Ok(found)
-}
-
-/// Returns the number of MCUs in the strips of an interval.
-fn mcus_of(decoding: &Decoding, number: u32) -> Result<u32, Fail> {
-    let strips = decoding.strips(number).ok_or("a long interval")?;
-    Ok(mcus_in(strips)?)
+    found
 }
 
 /// States that two threads of the caller's own work at the seats of a decoding.
@@ -60,14 +64,29 @@ const STRIPS: [(&str, u32); 4] = [
     (COLOURED_CUT, 600),
 ];
 
+/// Returns whether workers leave these MCUs in the strips of a scan's one interval.
+fn leave<R: Threads + Wait + Sync + AllocGlobal>(
+    rt: &R,
+    scan: &Arc<Scan>,
+    workers: u32,
+    mcus: u32,
+) -> Result<bool, Fail>
+    requires some { 1 ≤ workers }
+    requires few { workers ≤ 64 }
+{
+    let (decoding, seats) = open(rt.alloc(), scan, workers, None)?;
+    decoding.run(rt, seats, &OpenGate, |_| {});
+    Ok(mcus_of(&decoding, 0) == mcus)
+}
+
 #[test]
 fn workers_leave_strips(rt: HostRuntime) -> Result<(), Fail> {
     for (words, mcus) in &STRIPS {
+        let scan = scan(rt.alloc(), words)?;
         for workers in [1, 2, 4] {
-            let scan = scan(rt.alloc(), words)?;
-            let (decoding, seats) = open(rt.alloc(), &scan, workers, None)?;
-            decoding.run(&rt, seats, &OpenGate, |_| {});
-            assert!(rt; mcus_of(&decoding, 0)? == *mcus, "{workers} workers");
+            if !leave(&rt, &scan, workers, *mcus)? {
+                return Err(Fail::from(*words));
+            }
         }
     }
     Ok(())
@@ -80,10 +99,9 @@ fn own_threads_fill_the_cells_of_strips(rt: HostRuntime) -> Result<(), Fail> {
         return Err(Fail::from("two seats"));
     };
     work_twice(&rt, &decoding, one, two);
-    for number in [0, 1] {
-        assert!(rt; mcus_of(&decoding, number)? == 1056);
-    }
-    assert!(rt; decoding.finish()?.sound() == 2);
+    let is_filled = mcus_of(&decoding, 0) == 1056 && mcus_of(&decoding, 1) == 1056;
+    let board = decoding.finish();
+    assert!(rt; is_filled && board.is_ok_and(|board| board.sound() == 2));
     Ok(())
 }
 
@@ -91,7 +109,9 @@ fn own_threads_fill_the_cells_of_strips(rt: HostRuntime) -> Result<(), Fail> {
 fn a_short_interval_has_no_strips(rt: HostRuntime) -> Result<(), Fail> {
     let (decoding, _seats) = Decoding::open(rt.alloc(), scan(rt.alloc(), TEN)?, 1, None)?;
     for number in 0..11 {
-        assert!(rt; decoding.strips(number).is_none());
+        if decoding.strips(number).is_some() {
+            return Err(Fail::from(number));
+        }
     }
     Ok(())
 }

@@ -7,34 +7,23 @@ ghost use Rattle.jr_paint.specs.Geometry.{samples_across, samples_down};
 use jr_head::Head;
 use jr_paint::Samples;
 use jr_scan::Scan;
-use jr_wall::{Board, Cells, Decoding, Glimpse, Mark, OpenGate, Piece, Seat, decode_all, glance};
+use jr_wall::{Board, Cells, Decoding, Glimpse, Mark, Piece, Seat, glance};
 use std::alloc::Global;
 use std::sync::{Arc, Mutex, Wait};
 use std::test::Fail;
-use std::thread::Threads;
 
-/// Returns the piece of an interval.
-pub(crate) fn piece(alloc: Global, scan: &Scan, number: u32) -> Result<Arc<Piece>, Fail> {
+/// Returns the piece of an interval; `None` if there is no such interval, or no memory for it.
+pub(crate) fn piece(alloc: Global, scan: &Scan, number: u32) -> Option<Arc<Piece>> {
     if number >= scan.intervals() {
-        return Err(Fail::from("no such interval"));
+        return None;
     }
-    let interval = scan.interval(number)?;
-    let piece = Piece::make(alloc, interval).ok().ok_or("no memory")?;
-    Ok(Arc::new(alloc, piece)?)
-}
-
-/// Returns the board of a scan's first intervals, or of all, decoded with the given number of workers.
-pub(crate) fn decode<R: Threads + Wait + Sync + AllocGlobal>(
-    rt: &R,
-    scan: &Arc<Scan>,
-    workers: u32,
-    first: Option<u32>,
-) -> Result<Board, Fail>
-    requires some { 1 ≤ workers }
-    requires few { workers ≤ 64 }
-{
-    let shared = Arc::try_clone(scan)?;
-    Ok(decode_all(rt, rt.alloc(), shared, workers, first, &OpenGate)?)
+    let Ok(interval) = scan.interval(number) else {
+        return None;
+    };
+    match Piece::make(alloc, interval) {
+        Ok(piece) => Arc::new(alloc, piece).ok(),
+        Err(_) => None,
+    }
 }
 
 /// Returns a decoding of a scan's first intervals, or of all, and its seats for the given number of workers.
@@ -52,46 +41,41 @@ pub(crate) fn open(
     Ok(Decoding::open(alloc, shared, workers, first)?)
 }
 
-/// Returns the marks of a board of this scan: a letter for each interval.
-fn marks_of(alloc: Global, scan: &Scan, board: &Board) -> Result<String, Fail> {
-    let mut letters = String::new(alloc);
-    if !board.is_of(scan) {
-        return Err(Fail::from("a board of another scan"));
+/// Returns whether a board of this scan has these marks: a letter for each interval.
+pub(crate) fn has_marks(scan: &Scan, board: &Board, letters: &str) -> bool {
+    if !board.is_of(scan) || scan.intervals() as usize != letters.len() {
+        return false;
     }
     for i in 0..scan.intervals() {
-        letters.push(match board.mark(i) {
-            Mark::Blank => '-',
-            Mark::Sound => 's',
-            Mark::Damaged => 'd',
-        })?;
+        let letter = match board.mark(i) {
+            Mark::Blank => b'-',
+            Mark::Sound => b's',
+            Mark::Damaged => b'd',
+        };
+        if letters.as_bytes().get(i as usize) != Some(&letter) {
+            return false;
+        }
     }
-    Ok(letters)
+    true
 }
 
-/// Returns whether a board of this scan has these marks.
-pub(crate) fn has_marks(
-    alloc: Global,
-    scan: &Scan,
-    board: &Board,
-    letters: &str,
-) -> Result<bool, Fail> {
-    let marks = marks_of(alloc, scan, board)?;
-    Ok(marks.as_str() == letters)
-}
-
-/// Returns what a new sight finds in cells: a letter for each, as those of marks, `?` for a piece of another number.
-pub(crate) fn letters_in_cells(alloc: Global, cells: &Cells) -> Result<String, Fail> {
-    let mut letters = String::new(alloc);
-    let mut sight = cells.sight()?;
+/// Returns whether a new sight finds these pieces in cells: a letter for each, as those of marks.
+pub(crate) fn are_in_cells(cells: &Cells, letters: &str) -> bool {
+    let Ok(mut sight) = cells.sight() else {
+        return false;
+    };
     for i in 0..cells.count() {
-        letters.push(match cells.look(i, &mut sight) {
-            None => '-',
-            Some(piece) if piece.number() != i => '?',
-            Some(piece) if piece.is_sound() => 's',
-            Some(_) => 'd',
-        })?;
+        let letter = match cells.look(i, &mut sight) {
+            None => b'-',
+            Some(piece) if piece.number() != i => b'?',
+            Some(piece) if piece.is_sound() => b's',
+            Some(_) => b'd',
+        };
+        if letters.as_bytes().get(i as usize) != Some(&letter) {
+            return false;
+        }
     }
-    Ok(letters)
+    cells.count() as usize == letters.len()
 }
 
 /// Returns whether component c has a sample in column x and line y.

@@ -7,39 +7,55 @@ use jr_wall::{Cells, Piece, Sight};
 use std::thread;
 use std::thread::Threads;
 
-/// The content of a piece of one data unit: its number, whether it is sound, and the samples.
-pub(crate) type Content = (u32, bool, [u8; 64]);
+/// What ten cells contain: 0 nothing, 1 a piece that is damaged or not of one grey, and otherwise 256 times one more than the
+/// number of the piece, and its grey.
+pub(crate) type Contents = [u32; 10];
 
-/// The contents of the pieces of ten sound intervals, each of one grey.
-pub(crate) fn contents_of(greys: &[u8; 10]) -> [Option<Content>; 10] {
-    let mut contents = [None; 10];
+fn content(number: u32, grey: u8) -> u32 {
+    number
+        .wrapping_add(1)
+        .wrapping_mul(256)
+        .wrapping_add(u32::from(grey))
+}
+
+/// Returns the contents of the pieces of ten sound intervals, each of one grey.
+pub(crate) fn contents_of(greys: &[u8; 10]) -> Contents {
+    let mut contents = [0; 10];
     for i in 0..10usize {
-        contents[i] = Some((i as u32, true, [greys[i]; 64]));
+        contents[i] = content(i as u32, greys[i]);
     }
     contents
 }
 
-fn content_of(piece: &Piece) -> Option<Content> {
-    let samples = piece.block(0)?;
-    Some((piece.number(), piece.is_sound(), *samples))
+fn content_of(piece: &Piece) -> u32 {
+    let Some(samples) = piece.block(0) else {
+        return 1;
+    };
+    if !piece.is_sound() || *samples != [samples[0]; 64] {
+        return 1;
+    }
+    content(piece.number(), samples[0])
 }
 
-/// Returns what the cell of a number contains; `None` also if there is no such cell.
-fn look(cells: &Cells, number: u32, sight: &mut Sight) -> Option<Content>
+/// Returns what the cell of a number contains; 0 also if there is no such cell.
+fn look(cells: &Cells, number: u32, sight: &mut Sight) -> u32
     requires { sight.old.cells ≡ cells.now }
     ensures { sight.new.cells ≡ sight.old.cells }
 {
     if number >= cells.count() {
-        return None;
+        return 0;
     }
-    content_of(cells.look(number, sight)?)
+    match cells.look(number, sight) {
+        Some(piece) => content_of(piece),
+        None => 0,
+    }
 }
 
 /// What a viewer saw: the content of each cell at its last look, and whether each content stayed the same.
 #[derive(Drop)]
 pub(crate) struct View {
     pub sight: Sight,
-    pub contents: [Option<Content>; 10],
+    pub contents: Contents,
     pub is_steady: bool,
 }
 
@@ -49,7 +65,7 @@ fn blank_view(cells: &Cells) -> Result<View, Memory>
 {
     Ok(View {
         sight: cells.sight()?,
-        contents: [None; 10],
+        contents: [0; 10],
         is_steady: true,
     })
 }
@@ -62,7 +78,7 @@ fn look_over(cells: &Cells, view: &mut View)
     for i in 0..10u32 {
         let now = look(cells, i, &mut view.sight);
         let before = view.contents[i as usize];
-        if before.is_some() && now != before {
+        if before > 0 && now != before {
             view.is_steady = false;
         }
         view.contents[i as usize] = now;
@@ -70,10 +86,14 @@ fn look_over(cells: &Cells, view: &mut View)
 }
 
 /// Returns the contents of the cells for a thread that has not looked before.
-pub(crate) fn contents_now(cells: &Cells) -> Result<[Option<Content>; 10], Memory> {
-    let mut view = blank_view(cells)?;
-    look_over(cells, &mut view);
-    Ok(view.contents)
+pub(crate) fn contents_now(cells: &Cells) -> Result<Contents, Memory> {
+    match blank_view(cells) {
+        Ok(mut view) => {
+            look_over(cells, &mut view);
+            Ok(view.contents)
+        }
+        Err(refused) => Err(refused),
+    }
 }
 
 /// Looks into each cell a hundred times.
@@ -106,11 +126,10 @@ pub(crate) fn watch_twice<R: Threads + Sync>(
 }
 
 /// Returns whether the viewer saw each piece at every look after the first that found it, and each as it is last.
-pub(crate) fn is_kept(view: &View, last: &[Option<Content>; 10]) -> bool {
-    view.is_steady
-        && view
-            .contents
-            .iter()
-            .zip(last.iter())
-            .all(|(before, last)| before.is_none() || before == last)
+pub(crate) fn is_kept(view: &View, last: &Contents) -> bool {
+    let mut is_kept = view.is_steady;
+    for i in 0..10usize {
+        is_kept = is_kept && (view.contents[i] == 0 || view.contents[i] == last[i]);
+    }
+    is_kept
 }

@@ -5,7 +5,6 @@ use jr_scan::Scan;
 use jr_view::{Screen, View, watch};
 use jr_wall::{Gate, Piece, Strip, decode_alone};
 use std::alloc::Global;
-use std::process::Abort;
 use std::sync::atomic::{AtomicU32, Ordering};
 use std::sync::{Arc, Wait};
 use std::test::Fail;
@@ -15,18 +14,24 @@ use test_files::files::{LONG, MIXED, TEN, TWO_LONG};
 use test_files::scans::scan;
 use test_files::waiting::has_come;
 
-/// Returns the text of an image.
-fn text_of<S: Samples>(alloc: Global, picture: &S) -> Result<Vec<u8>, Fail> {
+/// Returns the text of an image; `None` if there is no memory for it.
+fn text_of<S: Samples>(alloc: Global, picture: &S) -> Option<Vec<u8>> {
     let mut text = Tally::of(Vec::new(alloc));
-    write_netpbm(picture, &mut text).ok().ok_or("no memory")?;
-    Ok(text.into_inner())
+    if write_netpbm(picture, &mut text).is_err() {
+        return None;
+    }
+    Some(text.into_inner())
 }
 
 /// Returns whether a view shows what a board of all intervals does, and all rows of MCUs.
-fn shows_all(alloc: Global, view: &View, scan: &Arc<Scan>) -> Result<bool, Fail> {
-    let board = decode_alone(alloc, scan, None)?;
-    let is_same = text_of(alloc, view)?.as_slice() == text_of(alloc, &board)?.as_slice();
-    Ok(is_same && view.rows() == view.mcu_rows())
+fn shows_all(alloc: Global, view: &View, scan: &Arc<Scan>) -> bool {
+    let Ok(board) = decode_alone(alloc, scan, None) else {
+        return false;
+    };
+    let Some(text) = text_of(alloc, &board) else {
+        return false;
+    };
+    view.rows() == view.mcu_rows() && text_of(alloc, view).is_some_and(|shown| shown == text)
 }
 
 /// What was reported to a screen, for a gate that waits for it.
@@ -73,20 +78,16 @@ struct Told<'a> {
     is_lazy: bool,
 }
 
-impl<'a> Told<'a> {
-    fn of(
-        alloc: Global,
-        scan: &Arc<Scan>,
-        counts: &'a Counts,
-        is_lazy: bool,
-    ) -> Result<Told<'a>, Fail> {
-        Ok(Told {
-            view: View::of(alloc, scan)?,
-            counts,
-            pieces: 0,
-            is_late: false,
-            is_lazy,
-        })
+impl Told<'_> {
+    /// Returns whether each piece was reported, with all that was awaited, and it was asked at least twice.
+    fn is_right(&self, pieces: u32, awaited: &Awaited) -> bool {
+        let asked = Counts::of(&self.counts.asked);
+        let is_held = awaited.mcus > 0;
+        self.pieces == pieces
+            && self.view.has_seen(0)
+            && (asked == 2 || asked > 2 && !self.is_lazy)
+            && (!is_held || Counts::of(&self.counts.mcus) == awaited.mcus && !self.is_late)
+            && Counts::of(&self.counts.vain) == 0
     }
 }
 
@@ -142,66 +143,73 @@ impl<'a> Gate for Held<'a> {
     }
 }
 
-/// Returns the number of intervals that are blank after a decoding that is watched.
-fn blank_behind<R: Threads + Wait + Clock + Sync + AllocGlobal>(
-    rt: &R,
-    scan: &Arc<Scan>,
-    gate: &Held<'_>,
-    told: &mut Told<'_>,
-) -> Result<u32, Fail> {
-    let decoding = watch(rt, rt.alloc(), Arc::try_clone(scan)?, 2, gate, told)?;
-    Ok(decoding.finish()?.blank())
-}
-
-/// Watches a file, and checks that each piece was reported to the screen, that it shows all, and that it was asked at least twice.
-fn check_told<R: Threads + Wait + Clock + Sync + AllocGlobal + Abort>(
+/// Watches a file, and returns whether each piece was reported to the screen, it shows all, and it was asked at least twice.
+fn is_told<R: Threads + Wait + Clock + Sync + AllocGlobal>(
     rt: &R,
     words: &str,
     is_lazy: bool,
-    awaited: Awaited,
-) -> Result<(), Fail> {
+    awaited: &Awaited,
+) -> Result<bool, Fail> {
     let scan = scan(rt.alloc(), words)?;
     let counts = Counts::new();
     let gate = Held {
         counts: &counts,
-        awaited,
+        awaited: *awaited,
     };
-    let mut told = Told::of(rt.alloc(), &scan, &counts, is_lazy)?;
-    assert!(rt; blank_behind(rt, &scan, &gate, &mut told)? == 0);
-    assert!(rt; told.pieces == scan.intervals() && told.view.has_seen(0));
-    assert!(rt; shows_all(rt.alloc(), &told.view, &scan)?);
-    let asked = Counts::of(&counts.asked);
-    assert!(rt; asked == 2 || asked > 2 && !is_lazy);
-    let is_held = awaited.mcus > 0;
-    assert!(rt; !is_held || Counts::of(&counts.mcus) == awaited.mcus && !told.is_late);
-    assert!(rt; Counts::of(&counts.vain) == 0);
-    Ok(())
+    let mut told = Told {
+        view: View::of(rt.alloc(), &scan)?,
+        counts: &counts,
+        pieces: 0,
+        is_late: false,
+        is_lazy,
+    };
+    let decoding = watch(rt, rt.alloc(), Arc::try_clone(&scan)?, 2, &gate, &mut told)?;
+    Ok(
+        decoding.finish().is_ok_and(|board| board.blank() == 0)
+            && told.is_right(scan.intervals(), awaited)
+            && shows_all(rt.alloc(), &told.view, &scan),
+    )
 }
 
-#[test]
-fn tells_of_each_piece_with_and_without_strips(rt: HostRuntime) -> Result<(), Fail> {
-    for words in [TEN, MIXED, LONG, TWO_LONG] {
-        check_told(&rt, words, false, NOTHING)?;
-    }
-    for words in [TEN, LONG] {
-        check_told(&rt, words, true, NOTHING)?;
-    }
-    Ok(())
-}
+const TWICE: Awaited = Awaited {
+    claims: 0,
+    mcus: 0,
+    asked: 1,
+};
+
+const STRIPS: Awaited = Awaited {
+    claims: 0,
+    mcus: 1056,
+    asked: 1,
+};
+
+const TWO_WORKERS: Awaited = Awaited {
+    claims: 2,
+    mcus: 0,
+    asked: 0,
+};
+
+/// Files, whether the screen is done at its first look, and what a gate waits for.
+const FILES: [(&str, bool, Awaited); 9] = [
+    (TEN, false, NOTHING),
+    (MIXED, false, NOTHING),
+    (LONG, false, NOTHING),
+    (TWO_LONG, false, NOTHING),
+    (TEN, true, NOTHING),
+    (LONG, true, NOTHING),
+    (LONG, false, STRIPS),
+    (TEN, false, TWICE),
+    (MIXED, false, TWO_WORKERS),
+];
 
 #[test]
-fn tells_what_is_there_while_workers_are_held(rt: HostRuntime) -> Result<(), Fail> {
-    let strips = Awaited {
-        claims: 0,
-        mcus: 1056,
-        asked: 1,
-    };
-    check_told(&rt, LONG, false, strips)?;
-    let asked = Awaited { mcus: 0, ..strips };
-    check_told(&rt, TEN, false, asked)?;
-    let two_workers = Awaited {
-        claims: 2,
-        ..NOTHING
-    };
-    check_told(&rt, MIXED, false, two_workers)
+fn tells_of_each_piece_and_of_what_is_there_while_workers_are_held(
+    rt: HostRuntime,
+) -> Result<(), Fail> {
+    for (words, is_lazy, awaited) in &FILES {
+        if !is_told(&rt, words, *is_lazy, awaited)? {
+            return Err(Fail::from(*words));
+        }
+    }
+    Ok(())
 }
