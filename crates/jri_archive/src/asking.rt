@@ -27,9 +27,9 @@ enum Rule {
 }
 
 /// The name of an argument, the name of its value if it is not a flag, its help, and its rule.
-type Word = (&'static str, &'static [&'static str], &'static str, Rule);
+type ArgumentRow = (&'static str, &'static [&'static str], &'static str, Rule);
 
-static WORDS: [Word; 10] = [
+static ARGUMENTS: [ArgumentRow; 10] = [
     (
         "map",
         &["WHICH"],
@@ -93,8 +93,8 @@ const DAMAGED_ALONE: &str = "damaged";
 const ALL: &str = "all";
 
 /// Returns an argument.
-fn argument<'a>(alloc: Global, word: &Word) -> Result<Arg<'a>, AllocError> {
-    let (name, values, help, rule) = *word;
+fn argument<'a>(alloc: Global, row: &ArgumentRow) -> Result<Arg<'a>, AllocError> {
+    let (name, values, help, rule) = *row;
     let action = if values.is_empty() {
         ArgAction::SetTrue
     } else {
@@ -154,8 +154,8 @@ The statuses 1 and 3 of jri mean other things.";
 /// Returns all arguments, in the order of the help.
 fn arguments<'a>(alloc: Global) -> Result<Vec<Arg<'a>>, AllocError> {
     let mut arguments = Vec::new(alloc);
-    for word in &WORDS {
-        arguments.push(argument(alloc, word)?)?;
+    for row in &ARGUMENTS {
+        arguments.push(argument(alloc, row)?)?;
     }
     arguments.push(files_argument(alloc)?)?;
     Ok(arguments)
@@ -221,7 +221,7 @@ const STATE_INPUT: &str = "error: the STATE of --state cannot be standard input\
 const STATE_NAME: &str = "error: the name of the STATE of --state is not UTF-8\n";
 
 /// Returns whether standard input is both a file and the list of names.
-fn is_read_twice(matches: &ArgMatches<'_>) -> bool {
+fn is_input_read_twice(matches: &ArgMatches<'_>) -> bool {
     if matches.get_str("files0-from") != Some("-") {
         return false;
     }
@@ -238,7 +238,7 @@ fn error_of(matches: &ArgMatches<'_>) -> Option<&'static str> {
         Some(name) if is_no_text(name) => return Some(STATE_NAME),
         _ => {}
     }
-    is_read_twice(matches).then_some(READ_TWICE)
+    is_input_read_twice(matches).then_some(READ_TWICE)
 }
 
 /// Returns what a line reports.

@@ -8,7 +8,7 @@ use crate::answers::LineForm;
 use crate::count_lines::append_counts;
 use crate::counts::{CheckEnd, CheckReport, FileCounts, FileState};
 use crate::lines::append_outcome;
-use crate::map::{TellError, write_breaks, write_line, write_map_in};
+use crate::map::{TellError, write_breaks, write_line, write_map};
 use crate::names::NamesError;
 use crate::one_check::OneCheck;
 use crate::outcome::Outcome;
@@ -81,7 +81,7 @@ fn write_lines<O: Write>(
     if let Some(bytes) = &file.bytes
         && let Some(checked) = file.outcome.checked()
     {
-        return write_map_in(line, out, name, bytes.as_slice(), checked, form);
+        return write_map(line, out, name, bytes.as_slice(), checked, form);
     }
     Ok(())
 }

@@ -223,12 +223,3 @@ pub(crate) fn append_outcome(
     write_outcome(line, outcome, is_json)?;
     line.push_str(in_form(("\n", "}\n"), is_json))
 }
-
-/// Appends the line of a file as text, with its end.
-pub fn append_file_line(
-    line: &mut String,
-    name: &[u8],
-    outcome: &Outcome,
-) -> Result<(), AllocError> {
-    append_outcome(line, name, outcome, false)
-}

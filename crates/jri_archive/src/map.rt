@@ -15,7 +15,7 @@ use jr_damage::{
 use jr_head::Head;
 use jr_mend::Break;
 use jr_scan::IntervalRef;
-use std::alloc::{AllocError, Global};
+use std::alloc::AllocError;
 use std::io::{Error, Write};
 
 /// Why a line is not written.
@@ -132,8 +132,9 @@ fn damaged_run(file: &[u8], span: CodedSpan, interval: IntervalRef<'_>) -> Optio
     Some(DamagedRun::of(damaged, decodable_to))
 }
 
-/// Writes the lines of a map: as `write_map`, and if the form asks for it one for each sound interval.
-pub(crate) fn write_map_in<'a, O: Write>(
+/// Writes a line for each damaged interval, and one for consecutive ones without bytes; if the form asks for them also one for
+/// each sound interval; and a line for the first doubtful MCU of each interval, damaged or not. Each is one write.
+pub(crate) fn write_map<'a, O: Write>(
     line: &'a mut String,
     out: &'a mut O,
     name: &'a [u8],
@@ -168,26 +169,4 @@ pub(crate) fn write_map_in<'a, O: Write>(
         }
     }
     lines.write_run()
-}
-
-/// Writes a line for each damaged interval, and one for consecutive ones without bytes; and a line for the first doubtful MCU of
-/// each interval, damaged or not. Each is one write.
-pub fn write_map<O: Write>(
-    alloc: Global,
-    out: &mut O,
-    name: &[u8],
-    file: &[u8],
-    checked: &Checked,
-    is_json: bool,
-) -> Result<(), TellError>
-    requires { IsFileScan file.now checked.now.scan }
-{
-    let form = LineForm {
-        has_map: true,
-        has_sound: false,
-        is_json,
-        is_quiet: false,
-    };
-    let mut line = String::new(alloc);
-    write_map_in(&mut line, out, name, file, checked, form)
 }

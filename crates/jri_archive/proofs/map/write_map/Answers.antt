@@ -3,7 +3,7 @@ use Rattle.jr_head.specs.HeadValue.{HeadValue}
 use Rattle.jr_scan.specs.IntervalValue.{IntervalValue}
 use Rattle.jr_damage.specs.Coded.{IsSpelledAt, IsNextAt}
 use Rattle.jr_damage.proofs.NextSegments.{first_begins}
-use Rattle.jri_archive.proofs.map.write_map_in.Goals as goal
+use Rattle.jri_archive.proofs.map.write_map.Goals as goal
 
 pub loop-i-init : goal.loop-i-init
 loop-i-init g c =
