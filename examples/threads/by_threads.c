@@ -1,6 +1,8 @@
 /*
- * Thread 0 skips the rows of MCUs and adds the position of each part as soon as it knows it; the others, and thread 0 in the end,
- * take the parts and decode them. A part's buffer is its own lines alone, so no two calls share memory but the file.
+ * Thread 0 adds the parts; the others, and thread 0 in the end, take them and decode them. Where restart markers divide the file
+ * into many intervals a part is some lines, which jri_decode_lines finds by the markers. In other files thread 0 skips the rows of
+ * MCUs, and adds the position of each part as soon as it knows it. A part's buffer is its own lines alone, so no two calls share
+ * memory but the file.
  */
 #define _POSIX_C_SOURCE 200809L
 
@@ -58,6 +60,7 @@ struct decoding {
     uint8_t *pixels;
     size_t line_size;
     uint32_t height, rows;
+    uint32_t lines; /* the number of lines of a part; 0 if parts begin at positions */
     pthread_mutex_t lock;
     pthread_cond_t changed;
     struct part *parts;
@@ -123,13 +126,33 @@ static void add_parts(struct decoding *d) {
     add_part(d, NULL);
 }
 
+/* Adds all parts of a file whose parts are lines. */
+static void add_line_parts(struct decoding *d) {
+    struct part part = {{0}, 0, 0};
+    for (; part.first < d->height; part.first += d->lines) {
+        uint32_t left = d->height - part.first;
+        part.lines = d->lines < left ? d->lines : left;
+        add_part(d, &part);
+    }
+    add_part(d, NULL);
+}
+
+static uint32_t decode_part(struct decoding *d, struct part *part) {
+    uint8_t *pixels = d->pixels + part->first * d->line_size;
+    size_t size = part->lines * d->line_size;
+    if (d->lines) {
+        struct jri_report report;
+        uint32_t status = jri_decode_lines(d->file, d->length, JRI_AS_IS, part->first, part->lines, pixels, size, &report);
+        return status == JRI_DAMAGED ? JRI_OK : status;
+    }
+    struct jri_rows report;
+    return jri_decode_rows(d->file, d->length, JRI_COMPLETE, &part->position, d->rows, pixels, size, &report);
+}
+
 static void decode_parts(struct decoding *d) {
     struct part part;
     while (take_part(d, &part)) {
-        struct jri_rows report;
-        uint8_t *pixels = d->pixels + part.first * d->line_size;
-        uint32_t status = jri_decode_rows(d->file, d->length, JRI_COMPLETE, &part.position, d->rows, pixels,
-                                          part.lines * d->line_size, &report);
+        uint32_t status = decode_part(d, &part);
         if (status != JRI_OK)
             fail(d, status);
     }
@@ -137,15 +160,30 @@ static void decode_parts(struct decoding *d) {
 
 static void work(void *argument, unsigned number) {
     struct decoding *d = argument;
-    if (number == 0)
+    if (number == 0 && d->lines)
+        add_line_parts(d);
+    else if (number == 0)
         add_parts(d);
     decode_parts(d);
+}
+
+/*
+ * Returns the number of lines of a part if each of two parts a thread has eight intervals or more, otherwise 0. A call reads at
+ * most one of them in vain, but all bytes of the file to find its own: so parts are few. 96 lines are whole rows of MCUs, which
+ * have 8, 16, 24 or 32.
+ */
+static uint32_t lines_of_part(const struct jri_header *header, unsigned threads) {
+    if (threads < 2 || header->intervals / 16 < threads)
+        return 0;
+    uint32_t lines = header->height / (2 * threads) + 1;
+    return (lines + 95) / 96 * 96;
 }
 
 uint32_t decode_by_threads(const uint8_t *file, size_t length, const struct jri_header *header, uint8_t *pixels, unsigned threads,
                            uint32_t rows) {
     struct decoding d = {.file = file, .length = length, .pixels = pixels, .height = header->height, .rows = rows ? rows : 1};
     d.line_size = header->pixels / header->height;
+    d.lines = lines_of_part(header, threads);
     d.capacity = header->height / 8 + 1; /* a row of MCUs has 8 lines or more */
     d.parts = malloc(d.capacity * sizeof *d.parts);
     if (!d.parts)
