@@ -168,9 +168,8 @@ static void work(void *argument, unsigned number) {
 }
 
 /*
- * Returns the number of lines of a part if each of two parts a thread has eight intervals or more, otherwise 0. A call reads at
- * most one of them in vain, but all bytes of the file to find its own: so parts are few. 96 lines are whole rows of MCUs, which
- * have 8, 16, 24 or 32.
+ * Returns the number of lines of a part if each of two parts a thread has eight intervals or more, otherwise 0. Parts are few,
+ * since each call reads the whole file to find its intervals. 96 lines are whole rows of MCUs, which have 8, 16, 24 or 32.
  */
 static uint32_t lines_of_part(const struct jri_header *header, unsigned threads) {
     if (threads < 2 || header->intervals / 16 < threads)
