@@ -218,7 +218,7 @@ impl<'a, S: OneFirstIntervals> Crew<'a, S> {
     /// Brings a buffer for a speculative read of at most `most` MCUs. If allocation fails there are fewer speculative
     /// reads.
     fn bring_guess<R: Wait>(&self, rt: &R, most: u32) {
-        if let Ok(room) = ScanGuess::open(self.alloc, self.part.scan(), most) {
+        if let Ok(room) = ScanGuess::open(self.alloc, self.part.scan(), most, true) {
             self.queue.lock(rt).guesses.bring(room);
         }
     }

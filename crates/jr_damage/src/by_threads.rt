@@ -101,7 +101,7 @@ fn check_as<R: Threads + Wait + Sync, S: OneScan + Send>(
 
 /// Does what `check_scan` does, with at most `workers` threads if the scan is large: the calling one reads it, the
 /// others read ahead speculatively. They allocate for four speculative reads and one more for each of them, each of
-/// some 400 KB: the blocks of 3072 data units at most, and where their MCUs start. If allocation fails they make fewer.
+/// 32 bytes for each of at most 3072 MCUs: where it starts and ends. If allocation fails they make fewer.
 pub fn check_scan_by<R: Threads + Wait + Sync>(
     rt: &R,
     alloc: Global,

@@ -121,7 +121,7 @@ impl<'a, S: OneScan> SharedScan<'a, S> {
             let Some(most) = lacking else {
                 return;
             };
-            let Ok(room) = ScanGuess::open(alloc, self.scan, most) else {
+            let Ok(room) = ScanGuess::open(alloc, self.scan, most, false) else {
                 return;
             };
             let mut guessing = self.guessing.lock(rt);

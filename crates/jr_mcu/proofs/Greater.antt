@@ -6,7 +6,7 @@ use mir.Val.{SFits, to_z, of_z}
 use Rattle.std.proofs.lemmas.Int.{ints, to_z-of_z}
 use Rattle.std.specs.List.{All}
 use Rattle.std.proofs.lemmas.List.Elements.{All-from_get_or}
-use Rattle.jr_mcu.specs.Shift.{AreGreater, IsShifted, IsSmall}
+use Rattle.jr_mcu.specs.Shift.{AreGreater, IsShifted, IsInMcuRange, IsSmall}
 
 -- three sums
 pub three_sums : (a b : List ℤ) (x y z : ℤ) → x ≡ get_or a 0 (pos 0) +ℤ get_or b 0 (pos 0) → y ≡ get_or a 1 (pos 0) +ℤ get_or b 1 (pos 0) → z ≡ get_or a 2 (pos 0) +ℤ get_or b 2 (pos 0) → AreGreater b a (x ∷ y ∷ z ∷ [])
@@ -35,8 +35,8 @@ pub shifted_by : (block : List ℤ) (y : List ℤ) (by v : ℤ) → 0 < length b
 shifted_by [] y by v some is sum = absurd (omega (arith, some))
 shifted_by (first ∷ others) y by v some is sum = record { first = first; others = others; was = refl; is = is ∙ ap (λ (z : ℤ). z ∷ others) sum }
 
--- the sum of two small numbers, after its casts
-pub small_sum : (a b r : ℤ) → IsSmall a → IsSmall b → SFits w16 a → r ≡ to_z w16 (of_z w16 a) → to_z w16 (of_z w16 (to_z w32 (of_z w32 (to_z w32 (of_z w32 r) +ℤ to_z w32 (of_z w32 b))))) ≡ a +ℤ b
+-- the sum of a number in the range of an MCU and a small one, after its casts
+pub small_sum : (a b r : ℤ) → IsInMcuRange a → IsSmall b → SFits w16 a → r ≡ to_z w16 (of_z w16 a) → to_z w16 (of_z w16 (to_z w32 (of_z w32 (to_z w32 (of_z w32 r) +ℤ to_z w32 (of_z w32 b))))) ≡ a +ℤ b
 small_sum a b r small_a small_b fits is =
     let low_a = small_a.0 in
     let high_a = small_a.1 in

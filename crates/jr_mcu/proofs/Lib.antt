@@ -12,3 +12,4 @@ pub mod FirstWords
 pub mod FirstBlocks
 pub mod LongMcus
 pub mod Greater
+pub mod McuRange

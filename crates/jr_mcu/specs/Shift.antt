@@ -29,9 +29,14 @@ pub record AreShifted (h : HeadValue) (by : List ℤ) (zs ys : List (List ℤ)) 
 abbrev pub HaveFirstInRange : List (List ℤ) → Type 0
 HaveFirstInRange zs = (n : ℕ) → n < length zs → IsInDcRange (slice_index_or (block_of zs n) 0 (pos 0))
 
--- half of what sixteen bits hold: two such numbers have a sum that sixteen bits hold
-abbrev pub IsSmall : ℤ → Type 0
-IsSmall z = (neg_ℤ (pos 16384) ≤ℤ z) × (z ≤ℤ pos 16383)
+-- the range of a DC coefficient of one MCU whose predictions are 0: an MCU has ten data units or fewer (B.2.3), each
+-- with a difference of at most 2047 (F.1.2.1)
+abbrev pub IsInMcuRange : ℤ → Type 0
+IsInMcuRange z = (neg_ℤ (pos 20470) ≤ℤ z) × (z ≤ℤ pos 20470)
 
-abbrev pub HaveSmallFirst : List (List ℤ) → Type 0
-HaveSmallFirst zs = (n : ℕ) → n < length zs → IsSmall (slice_index_or (block_of zs n) 0 (pos 0))
+abbrev pub HaveFirstInMcuRange : List (List ℤ) → Type 0
+HaveFirstInMcuRange zs = (n : ℕ) → n < length zs → IsInMcuRange (slice_index_or (block_of zs n) 0 (pos 0))
+
+-- sixteen bits hold the sum of such a number and a number in the range of an MCU
+abbrev pub IsSmall : ℤ → Type 0
+IsSmall z = (neg_ℤ (pos 12297) ≤ℤ z) × (z ≤ℤ pos 12297)

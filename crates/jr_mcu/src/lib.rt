@@ -1,11 +1,11 @@
-//! The blocks of one MCU (T.81, Annex F): read, skipped, or read before the predictions are known.
+//! The blocks of one MCU (T.81, Annex F), read or skipped, and shifted by predictions that are known later.
 #![tactic(auto)]
 
 mod block;
 mod block_sink;
 mod mcu;
-mod unpredicted;
+mod shifting;
 
 pub use block_sink::{BlockSink, Kept, Skipped};
 pub use mcu::read_mcu;
-pub use unpredicted::{all_small, put_shifted, read_unpredicted, sums};
+pub use shifting::{all_small, put_shifted, sums};

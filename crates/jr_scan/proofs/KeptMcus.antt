@@ -4,11 +4,9 @@ use Rattle.std.specs.Prelude.{ℤ, pos, ◌+ℤ◌}
 use Rattle.std.specs.List.{All}
 use Rattle.std.proofs.lemmas.Bool.{cases_lt}
 use Rattle.std.proofs.lemmas.Int.{ints}
-use Rattle.std.proofs.lemmas.List.{get_or_append_left, drop-take, length-take-le}
-use Rattle.std.proofs.lemmas.Slice.{take-put_mid_below, between-put_mid}
+use Rattle.std.proofs.lemmas.List.{get_or_append_left, drop-take, take-take, length-take-le}
 use Rattle.std.proofs.Math.Nat.{mul-le-mul_right}
-use Rattle.std.proofs.Math.Seq.{get_or-append_seam}
-use borrow.Rule.Slice.PartMut.{put_mid, post_of}
+use Rattle.std.proofs.Math.Seq.{drop-append_seam, get_or-append_seam}
 use Rattle.jr_code.specs.Bits.{bits}
 use Rattle.jr_head.specs.Geometry.{order_of, IsLawful}
 use Rattle.jr_scan.specs.declared.guessed.Guessed.{Guessed}
@@ -19,9 +17,9 @@ use Rattle.jr_head.specs.HeadValue.{HeadValue}
 use Rattle.jr_mcu.specs.Block.{IsInDcRange}
 use Rattle.jr_mcu.specs.Mcus.{component, block_of, prediction, no_predictions, predicted, TakesMcu}
 use Rattle.jr_scan.specs.Run.{left_at, run_from, IsRun, place_with}
-use Rattle.jr_mcu.proofs.Greater.{three_all}
-use Rattle.jr_mcu.specs.Shift.{of_component, AreGreater, IsShifted, AreShifted, HaveFirstInRange, IsSmall, HaveSmallFirst}
-use Rattle.jr_scan.specs.Guess.{unpredicted, IsGuessed, GuessValue, blocks_at, IsGuessOf, AreLastBits}
+use Rattle.jr_mcu.proofs.McuRange.{firsts_in_mcu_range, predicted_in_mcu_range}
+use Rattle.jr_mcu.specs.Shift.{of_component, AreGreater, IsShifted, AreShifted, HaveFirstInRange, IsInMcuRange, IsSmall}
+use Rattle.jr_scan.specs.Guess.{unpredicted, IsGuessed, GuessValue, KeepsBlocks, blocks_at, IsMcuOf, IsGuessOf, TakesNext, AreLastBits}
 use Rattle.jr_scan.proofs.InRange.{run_in_range}
 use Rattle.jr_scan.proofs.Runs.{component_low, three_places}
 use Rattle.jr_scan.proofs.Shifts.{predicted_shifted, run_shifted}
@@ -35,66 +33,61 @@ with_blocks g blocks = record { number = g.number; mcus = g.mcus; blocks = block
 
 -- without an MCU it is a speculative read of any interval of its number
 pub none_yet : (i : IntervalValue) (n : ℕ) (blocks : List (List ℤ)) → n ≡ i.number → IsGuessOf i (guess_of n [] blocks)
-none_yet i n blocks is = record { number = is; room = omega arith; each = λ k d lt. absurd (omega (arith, lt)) }
+none_yet i n blocks is = record { number = is; room = λ keeps. omega arith; each = λ k d lt. absurd (omega (arith, lt)) }
 
--- blocks after those of the MCUs mean nothing
-at_below : (m per k : ℕ) (xs ys : List (List ℤ)) → k < m → m * per + per ≤ length xs → take per (drop (k * per) (put_mid (m * per) (m * per + per - m * per) xs ys)) ≡ take per (drop (k * per) xs)
-at_below m per k xs ys lt room =
+-- the blocks of an MCU are the same if those up to its end are
+same_at : (k m per : ℕ) (xs ys : List (List ℤ)) → k < m → take (m * per) ys ≡ take (m * per) xs → take per (drop (k * per) ys) ≡ take per (drop (k * per) xs)
+same_at k m per xs ys lt same =
     let le : suc k * per ≤ m * per = mul-le-mul_right {m = suc k} {n = m} per (omega (arith, lt)) in
     let next : suc k * per ≡ k * per + per = omega arith in
-    let e = take-put_mid_below (m * per) (m * per + per - m * per) xs ys (k * per + per) (omega (arith, le, next)) (omega (arith, room)) in
-    sym (drop-take (k * per) per (put_mid (m * per) (m * per + per - m * per) xs ys)) ∙ ap (drop (k * per)) e ∙ drop-take (k * per) per xs
-
-at_here : (m per : ℕ) (xs ys : List (List ℤ)) → m * per + per ≤ length xs → length ys ≡ per → take per (drop (m * per) (put_mid (m * per) (m * per + per - m * per) xs ys)) ≡ ys
-at_here m per xs ys room long =
-    let n : m * per + per - m * per ≡ per = omega arith in
-    ap (λ (k : ℕ). take k (drop (m * per) (put_mid (m * per) (m * per + per - m * per) xs ys))) (sym n) ∙ between-put_mid (m * per) (m * per + per - m * per) xs ys (m * per + per) (omega (arith, room)) (omega (arith, long))
-
-put_long : (m per : ℕ) (xs ys : List (List ℤ)) → m * per + per ≤ length xs → length ys ≡ per → length (put_mid (m * per) (m * per + per - m * per) xs ys) ≡ length xs
-put_long m per xs ys room long =
-    let a = m * per in
-    let k = m * per + per - m * per in
-    omega (arith, length-append (take a xs) (ys ++ post_of a k xs), length-append ys (post_of a k xs), length-take-le a xs (omega (arith, room)), length-drop (a + k) xs, length-drop k (drop a xs), length-drop a xs, long, room)
+    let within : k * per + per ≤ m * per = omega (arith, le, next) in
+    let e : take (k * per + per) ys ≡ take (k * per + per) xs = sym (take-take (k * per + per) (m * per) ys within) ∙ ap (take (k * per + per)) same ∙ take-take (k * per + per) (m * per) xs within in
+    sym (drop-take (k * per) per ys) ∙ ap (drop (k * per)) e ∙ drop-take (k * per) per xs
 
 -- blocks that are written after the MCUs change none of these
-pub kept_before : (i : IntervalValue) (g : GuessValue) (xs ys : List (List ℤ)) (m per : ℕ) → IsGuessOf i g → xs ≡ g.blocks → m ≡ length g.mcus → per ≡ length (order_of i.head) → m * per + per ≤ length xs → length ys ≡ per
-    → IsGuessOf i (with_blocks g (put_mid (m * per) (m * per + per - m * per) xs ys))
-kept_before i g xs ys m per is same count size room long =
-    let new = put_mid (m * per) (m * per + per - m * per) xs ys in
-    let here : m * per ≡ length g.mcus * length (order_of i.head) = ap (λ (n : ℕ). n * per) count ∙ ap (λ (n : ℕ). length g.mcus * n) size in
-    record {
-      number = is.number;
-      room = omega (arith, put_long m per xs ys room long, room, here);
-      each = λ k d lt.
-          let e0 : take per (drop (k * per) new) ≡ take per (drop (k * per) xs) = at_below m per k xs ys (omega (arith, lt, count)) room in
-          let e1 = subst (λ (n : ℕ). take n (drop (k * n) new) ≡ take n (drop (k * n) xs)) size e0 in
-          let e2 : blocks_at i (with_blocks g new) k ≡ blocks_at i g k = e1 ∙ ap (λ (bs : List (List ℤ)). take (length (order_of i.head)) (drop (k * length (order_of i.head)) bs)) same in
-          subst (IsGuessed i (get_or g.mcus k d)) (sym e2) (is.each k d lt);
-    }
+pub kept_before : (i : IntervalValue) (g : GuessValue) (new : List (List ℤ)) (m per : ℕ) → IsGuessOf i g → m ≡ length g.mcus → per ≡ length (order_of i.head) → length new ≡ length g.blocks → take (m * per) new ≡ take (m * per) g.blocks
+    → IsGuessOf i (with_blocks g new)
+kept_before i g new m per is count size long same = record {
+  number = is.number;
+  room = λ keeps. omega (arith, is.room (omega (arith, keeps, long)), long);
+  each = λ k d lt.
+      let e = is.each k d lt in
+      record {
+        zs = e.zs;
+        is = e.is;
+        kept = λ keeps.
+            let at : take per (drop (k * per) new) ≡ take per (drop (k * per) g.blocks) = same_at k m per g.blocks new (omega (arith, lt, count)) same in
+            subst (λ (n : ℕ). take n (drop (k * n) new) ≡ take n (drop (k * n) g.blocks)) size at ∙ e.kept (omega (arith, keeps, long));
+      };
+}
+
+-- the blocks of an MCU that was appended
+pub kept_here : (m per : ℕ) (xs ys zs : List (List ℤ)) → m * per ≤ length xs → length zs ≡ per → take (m * per + per) ys ≡ take (m * per) xs ++ zs → take per (drop (m * per) ys) ≡ zs
+kept_here m per xs ys zs room long is =
+    let first : length (take (m * per) xs) ≡ m * per = length-take-le (m * per) xs room in
+    sym (drop-take (m * per) per ys) ∙ ap (drop (m * per)) is ∙ ap (λ (n : ℕ). drop n (take (m * per) xs ++ zs)) (sym first) ∙ drop-append_seam (take (m * per) xs) zs
 
 -- one more MCU is appended
-pub kept_more : (i : IntervalValue) (g : GuessValue) (xs ys : List (List ℤ)) (m per : ℕ) (mcu : Guessed) → IsGuessOf i g → xs ≡ g.blocks → m ≡ length g.mcus → per ≡ length (order_of i.head) → m * per + per ≤ length xs → length ys ≡ per
-    → IsGuessed i mcu ys → IsGuessOf i (guess_of g.number (g.mcus ++ mcu ∷ []) (put_mid (m * per) (m * per + per - m * per) xs ys))
-kept_more i g xs ys m per mcu is same count size room long next =
-    let new = put_mid (m * per) (m * per + per - m * per) xs ys in
-    let before = kept_before i g xs ys m per is same count size room long in
-    let units = length (order_of i.head) in
-    let more : length (g.mcus ++ mcu ∷ []) ≡ m + 1 = omega (arith, length-append g.mcus (mcu ∷ []), count) in
-    let all : length (g.mcus ++ mcu ∷ []) * units ≡ m * per + per = ap (λ (n : ℕ). n * units) more ∙ ap (λ (n : ℕ). (m + 1) * n) (sym size) ∙ omega arith in
+pub kept_more : (i : IntervalValue) (g : GuessValue) (mcu : Guessed) (ps : List ℤ) (old new : List Bool) → IsGuessOf i g → (t : TakesNext i g ps old new) → IsGuessed i mcu t.zs → IsGuessOf i (guess_of g.number (g.mcus ++ mcu ∷ []) g.blocks)
+kept_more i g mcu ps old new is t next =
+    let m = length g.mcus in
+    let more : length (g.mcus ++ mcu ∷ []) ≡ m + 1 = length-append g.mcus (mcu ∷ []) in
     record {
       number = is.number;
-      room = omega (arith, put_long m per xs ys room long, room, all);
+      room = λ keeps. subst (λ (n : ℕ). n * length (order_of i.head) ≤ length g.blocks) (sym more) (t.room keeps);
       each = λ k d lt. elim (cases_lt k m) [
         | inl l ↦
-            let e : get_or g.mcus k d ≡ get_or (g.mcus ++ mcu ∷ []) k d = sym (get_or_append_left g.mcus (mcu ∷ []) d k (omega (arith, l, count))) in
-            subst (λ (x : Guessed). IsGuessed i x (blocks_at i (with_blocks g new) k)) e (before.each k d (omega (arith, l, count)))
-        | inr g' ↦
-            let at : m ≡ k = omega (arith, lt, more, g') in
-            let e : mcu ≡ get_or (g.mcus ++ mcu ∷ []) m d = sym (ap (λ (n : ℕ). get_or (g.mcus ++ mcu ∷ []) n d) count ∙ get_or-append_seam g.mcus mcu [] d) in
-            let b0 : ys ≡ take per (drop (m * per) new) = sym (at_here m per xs ys room long) in
-            let b = subst (λ (n : ℕ). ys ≡ take n (drop (m * n) new)) size b0 in
-            let here = subst (IsGuessed i (get_or (g.mcus ++ mcu ∷ []) m d)) b (subst (λ (x : Guessed). IsGuessed i x ys) e next) in
-            subst (λ (n : ℕ). IsGuessed i (get_or (g.mcus ++ mcu ∷ []) n d) (take units (drop (n * units) new))) at here
+            let e : get_or g.mcus k d ≡ get_or (g.mcus ++ mcu ∷ []) k d = sym (get_or_append_left g.mcus (mcu ∷ []) d k l) in
+            let was = is.each k d l in
+            record { zs = was.zs; is = subst (λ (x : Guessed). IsGuessed i x was.zs) e was.is; kept = was.kept }
+        | inr r ↦
+            let at : m ≡ k = omega (arith, lt, more, r) in
+            let e : mcu ≡ get_or (g.mcus ++ mcu ∷ []) m d = sym (get_or-append_seam g.mcus mcu [] d) in
+            record {
+              zs = t.zs;
+              is = subst (λ (n : ℕ). IsGuessed i (get_or (g.mcus ++ mcu ∷ []) n d) t.zs) at (subst (λ (x : Guessed). IsGuessed i x t.zs) e next);
+              kept = λ keeps. subst (λ (n : ℕ). blocks_at i g n ≡ t.zs) at (t.kept keeps);
+            }
       ];
     }
 
@@ -110,11 +103,11 @@ last_behind i zs old new is t = left_behind i (unpredicted (8 * length i.bytes -
 
 -- an MCU that is read is one of a speculative read
 pub guessed : (i : IntervalValue) (mcu : Guessed) (zs : List (List ℤ)) (old new : List Bool) → AreLastBits i old → mcu.from ≡ 8 * length i.bytes - length old → mcu.to.bit ≡ 8 * length i.bytes - length new
-    → TakesMcu i.head no_predictions zs old new → mcu.to.predictions ≡ predicted i.head no_predictions zs → HaveSmallFirst zs → IsGuessed i mcu zs
-guessed i mcu zs old new is from to t last small = record {
+    → length (order_of i.head) ≤ 10 → TakesMcu i.head no_predictions zs old new → mcu.to.predictions ≡ predicted i.head no_predictions zs → IsGuessed i mcu zs
+guessed i mcu zs old new is from to few t last = record {
   within = omega (arith, to);
   run = subst (λ (n : ℕ). IsRun (run_from i (unpredicted n) 1) zs mcu.to AllRead) (sym from) (one_mcu i (unpredicted (8 * length i.bytes - length old)) mcu.to zs new (omega arith) (taken_last i zs old new is t) to last);
-  small = small;
+  firsts = firsts_in_mcu_range i.head zs t.taken few t.mcu;
 }
 
 -- the bits starting at a given bit
@@ -127,30 +120,8 @@ pub either : (P : List Guessed → Type 0) (b : Bool) (xs ys : List Guessed) →
 either P true xs ys p q = p
 either P false xs ys p q = q
 
-chosen : (P : ℤ → Type 0) (b : Bool) (x y : ℤ) → P x → P y → P (cond b x y)
-chosen P true x y p q = p
-chosen P false x y p q = q
-
--- a predicate that the DC coefficients and the initial predictions satisfy, the later predictions satisfy
-prediction_has : (P : ℤ → Type 0) (h : HeadValue) (start : List ℤ) (zs : List (List ℤ)) (c n : ℕ) → ((c : ℕ) → P (get_or start c (pos 0))) → ((m : ℕ) → m < length zs → P (get_or (block_of zs m) 0 (pos 0))) → n ≤ length zs
-    → P (prediction h start zs c n)
-prediction_has P h start zs c zero first each le = first c
-prediction_has P h start zs c (suc m) first each le = chosen P (eqb (component h m) c) _ _ (each m (omega arith)) (prediction_has P h start zs c m first each (omega arith))
-
-none_small : (c : ℕ) → IsSmall (get_or no_predictions c (pos 0))
-none_small zero = (omega (arith, ints), omega (arith, ints))
-none_small (suc zero) = (omega (arith, ints), omega (arith, ints))
-none_small (suc (suc zero)) = (omega (arith, ints), omega (arith, ints))
-none_small (suc (suc (suc c))) = (omega (arith, ints), omega (arith, ints))
-
--- the predictions after an MCU with small DC coefficients
-predicted_small : (h : HeadValue) (zs : List (List ℤ)) → HaveSmallFirst zs → All IsSmall (predicted h no_predictions zs)
-predicted_small h zs small =
-    let at : (c : ℕ) → IsSmall (prediction h no_predictions zs c (length zs)) = λ c. prediction_has IsSmall h no_predictions zs c (length zs) none_small small (omega arith) in
-    three_all IsSmall _ _ _ (at 0) (at 1) (at 2)
-
-pub behind_small : (i : IntervalValue) (mcu : Guessed) (zs : List (List ℤ)) → IsGuessed i mcu zs → All IsSmall mcu.to.predictions
-behind_small i mcu zs is = subst (All IsSmall) (sym is.run.predictions) (predicted_small i.head zs is.small)
+pub behind_in_range : (i : IntervalValue) (mcu : Guessed) (zs : List (List ℤ)) → IsGuessed i mcu zs → All IsInMcuRange mcu.to.predictions
+behind_in_range i mcu zs is = subst (All IsInMcuRange) (sym is.run.predictions) (predicted_in_mcu_range i.head zs is.firsts)
 
 -- the predictions are greater than zeros by themselves
 from_none : (q : List ℤ) → AreGreater q no_predictions q
@@ -159,7 +130,7 @@ from_none q (suc zero) lt = omega (arith, ints)
 from_none q (suc (suc zero)) lt = omega (arith, ints)
 from_none q (suc (suc (suc c))) lt = absurd (omega arith)
 
-small_shifted : (d : ℤ) (z y : List ℤ) → IsSmall d → IsSmall (get_or z 0 (pos 0)) → IsShifted d z y → IsInDcRange (get_or y 0 (pos 0))
+small_shifted : (d : ℤ) (z y : List ℤ) → IsSmall d → IsInMcuRange (get_or z 0 (pos 0)) → IsShifted d z y → IsInDcRange (get_or y 0 (pos 0))
 small_shifted d z y small first s =
     let is : get_or y 0 (pos 0) ≡ s.first +ℤ d = ap (λ (x : List ℤ). get_or x 0 (pos 0)) s.is in
     let was : get_or z 0 (pos 0) ≡ s.first = ap (λ (x : List ℤ). get_or x 0 (pos 0)) s.was in
@@ -183,7 +154,7 @@ pub taken_over : (i : IntervalValue) (mcu : Guessed) (p to : Place) (zs ys : Lis
 taken_over i mcu p to zs ys lawful is from three small bit three' sums s =
     let q = p.predictions in
     let low = component_low i.head lawful in
-    let range : HaveFirstInRange ys = λ n lt. small_shifted (of_component q (component i.head n)) (block_of zs n) (block_of ys n) (at_component q (component i.head n) three small (low n)) (is.small n (omega (arith, lt, s.count))) (s.each n (omega (arith, lt, s.count))) in
+    let range : HaveFirstInRange ys = λ n lt. small_shifted (of_component q (component i.head n)) (block_of zs n) (block_of ys n) (at_component q (component i.head n) three small (low n)) (is.firsts n (omega (arith, lt, s.count))) (s.each n (omega (arith, lt, s.count))) in
     let run = run_shifted i (unpredicted mcu.from) mcu.to 1 q q zs ys low (from_none q) s range is.run in
     let behind : AreGreater q (predicted i.head no_predictions zs) (predicted i.head q ys) = predicted_shifted i.head q no_predictions q zs ys (from_none q) s in
     let last : predicted i.head q ys ≡ to.predictions = same_three (predicted i.head q ys) to.predictions refl three' (λ c lt. behind c lt ∙ ap (λ (ps : List ℤ). of_component ps c +ℤ of_component q c) (sym is.run.predictions) ∙ sym (sums c lt)) in
@@ -192,12 +163,12 @@ taken_over i mcu p to zs ys lawful is from three small bit three' sums s =
     subst (λ (ps : List ℤ). IsRun (run_from i p 1) ys (record { bit = to.bit; predictions = ps }) AllRead) last run2
 
 -- the blocks reach to the end of MCU k
-pub mcu_within : (i : IntervalValue) (g : GuessValue) (k per : ℕ) → IsGuessOf i g → k < length g.mcus → per ≡ length (order_of i.head) → k * per + per ≤ length g.blocks
-mcu_within i g k per is lt size =
+pub mcu_within : (i : IntervalValue) (g : GuessValue) (k per : ℕ) → KeepsBlocks g → IsGuessOf i g → k < length g.mcus → per ≡ length (order_of i.head) → k * per + per ≤ length g.blocks
+mcu_within i g k per keeps is lt size =
     let le : suc k * per ≤ length g.mcus * per = mul-le-mul_right {m = suc k} {n = length g.mcus} per (omega (arith, lt)) in
     let next : suc k * per ≡ k * per + per = omega arith in
     let all : length g.mcus * per ≡ length g.mcus * length (order_of i.head) = ap (λ (n : ℕ). length g.mcus * n) size in
-    omega (arith, le, next, all, is.room)
+    omega (arith, le, next, all, is.room keeps)
 
 -- the blocks of MCU k, as a borrowed slice
 pub lent : (i : IntervalValue) (g : GuessValue) (xs : List (List ℤ)) (k per : ℕ) → per ≡ length (order_of i.head) → xs ≡ g.blocks → take (k * per + per - k * per) (drop (k * per) xs) ≡ blocks_at i g k
@@ -208,8 +179,8 @@ lent i g xs k per size same =
 any_mcu : Guessed
 any_mcu = record { from = 0; to = record { bit = 0; predictions = [] } }
 
-pub some_guessed : (i : IntervalValue) (g : GuessValue) (k : ℕ) → IsGuessOf i g → k < length g.mcus → (mcu : Guessed) × IsGuessed i mcu (blocks_at i g k)
-some_guessed i g k is lt = (get_or g.mcus k any_mcu, is.each k any_mcu lt)
+pub some_guessed : (i : IntervalValue) (g : GuessValue) (k : ℕ) → KeepsBlocks g → IsGuessOf i g → k < length g.mcus → (mcu : Guessed) × IsGuessed i mcu (blocks_at i g k)
+some_guessed i g k keeps is lt = let e = is.each k any_mcu lt in (get_or g.mcus k any_mcu, subst (IsGuessed i (get_or g.mcus k any_mcu)) (sym (e.kept keeps)) e.is)
 
 -- a block has a DC coefficient
 pub some_first : (i : IntervalValue) (mcu : Guessed) (zs : List (List ℤ)) → IsGuessed i mcu zs → (n : ℕ) → n < length zs → 0 < length (get_or zs n [])

@@ -1,13 +1,13 @@
 -- MCUs of an interval that are read before it is known that one starts where they start.
-use Rattle.std.specs.Prelude.{◌≡◌, ℕ, ◌-◌, ◌*◌, ◌<◌, ◌≤◌, Bool, List, length, take, drop, ℤ, slice_index_or}
+use Rattle.std.specs.Prelude.{◌≡◌, ℕ, ◌+◌, ◌-◌, ◌*◌, ◌<◌, ◌≤◌, Bool, List, length, take, drop, ℤ, slice_index_or}
 use Rattle.jr_code.specs.Bits.{bits}
 use Rattle.jr_head.specs.Geometry.{order_of}
 use Rattle.jr_scan.specs.declared.guessed.Guessed.{Guessed}
 use Rattle.jr_scan.specs.declared.place.Place.{Place}
 use Rattle.jr_scan.specs.declared.place.RunEnd.TheVariants.{AllRead}
 use Rattle.jr_scan.specs.IntervalValue.{IntervalValue}
-use Rattle.jr_mcu.specs.Mcus.{no_predictions}
-use Rattle.jr_mcu.specs.Shift.{HaveSmallFirst}
+use Rattle.jr_mcu.specs.Mcus.{TakesMcu, no_predictions, predicted}
+use Rattle.jr_mcu.specs.Shift.{HaveFirstInMcuRange}
 use Rattle.jr_scan.specs.Run.{run_from, IsRun}
 
 -- a bit, where each component is predicted to be 0
@@ -18,23 +18,41 @@ unpredicted bit = record { bit = bit; predictions = no_predictions }
 pub record IsGuessed (i : IntervalValue) (mcu : Guessed) (zs : List (List ℤ)) : Type 0 where
   pub within : mcu.to.bit ≤ 8 * length i.bytes
   pub run : IsRun (run_from i (unpredicted mcu.from) 1) zs mcu.to AllRead
-  pub small : HaveSmallFirst zs
+  pub firsts : HaveFirstInMcuRange zs
 
--- the number of an interval, MCUs of it, and the blocks of each, after which others may follow that mean nothing
+-- the number of an interval, MCUs of it, and the blocks of each, after which others may follow that mean nothing; no
+-- blocks at all if none are kept
 pub record GuessValue : Type 0 where
   pub number : ℕ
   pub mcus : List Guessed
   pub blocks : List (List ℤ)
 
+abbrev pub KeepsBlocks : GuessValue → Type 0
+KeepsBlocks g = 0 < length g.blocks
+
 -- the blocks of MCU k
 abbrev pub blocks_at : IntervalValue → GuessValue → ℕ → List (List ℤ)
 blocks_at i g k = let per = length (order_of i.head) in take per (drop (k * per) g.blocks)
 
+-- MCU k is one of the interval, with the blocks that are kept, if any are
+pub record IsMcuOf (i : IntervalValue) (g : GuessValue) (k : ℕ) (mcu : Guessed) : Type 0 where
+  pub zs : List (List ℤ)
+  pub is : IsGuessed i mcu zs
+  pub kept : KeepsBlocks g → blocks_at i g k ≡ zs
+
 -- a speculative read of this interval: each of its MCUs is one of the interval, whatever bit it starts at
 pub record IsGuessOf (i : IntervalValue) (g : GuessValue) : Type 0 where
   pub number : g.number ≡ i.number
-  pub room : length g.mcus * length (order_of i.head) ≤ length g.blocks
-  pub each : (k : ℕ) (d : Guessed) → k < length g.mcus → IsGuessed i (slice_index_or g.mcus k d) (blocks_at i g k)
+  pub room : KeepsBlocks g → length g.mcus * length (order_of i.head) ≤ length g.blocks
+  pub each : (k : ℕ) (d : Guessed) → k < length g.mcus → IsMcuOf i g k (slice_index_or g.mcus k d)
+
+-- old is the bits of the next MCU, read with predictions of 0, followed by new; its blocks are kept, if any are
+pub record TakesNext (i : IntervalValue) (g : GuessValue) (predictions : List ℤ) (old new : List Bool) : Type 0 where
+  pub zs : List (List ℤ)
+  pub taken : TakesMcu i.head no_predictions zs old new
+  pub predicted_are : predictions ≡ predicted i.head no_predictions zs
+  pub room : KeepsBlocks g → (length g.mcus + 1) * length (order_of i.head) ≤ length g.blocks
+  pub kept : KeepsBlocks g → blocks_at i g (length g.mcus) ≡ zs
 
 -- bits with which an interval's bits end
 abbrev pub AreLastBits : IntervalValue → List Bool → Type 0

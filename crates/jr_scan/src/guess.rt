@@ -5,10 +5,9 @@ ghost use Rattle.std.specs.List.{All};
 ghost use Rattle.jr_head.specs.Geometry.{IsLawful, order_of};
 ghost use Rattle.jr_head.specs.HeadValue.{HeadValue};
 ghost use Rattle.jr_mcu.specs.Block.{IsInDcRange};
-ghost use Rattle.jr_mcu.specs.Mcus.{no_predictions, predicted, TakesMcu};
 ghost use Rattle.jr_scan.specs.Run.{run_from, IsRun};
-ghost use Rattle.jr_mcu.specs.Shift.{AreGreater, IsShifted, AreShifted, IsSmall, HaveSmallFirst};
-ghost use Rattle.jr_scan.specs.Guess.{AreLastBits, IsGuessOf, blocks_at};
+ghost use Rattle.jr_mcu.specs.Shift.{AreShifted, IsSmall};
+ghost use Rattle.jr_scan.specs.Guess.{AreLastBits, IsGuessOf, KeepsBlocks, TakesNext, blocks_at};
 ghost use Rattle.jr_scan.specs.IntervalValue.{IntervalValue};
 ghost use Rattle.jr_scan.specs.declared.place.RunEnd.TheVariants.{AllRead};
 
@@ -18,7 +17,7 @@ use crate::mcu_reader::bits_from;
 use crate::place::Place;
 use jr_base::Coefficients;
 use jr_code::{Bits, Memory};
-use jr_mcu::{all_small, put_shifted, read_unpredicted, sums};
+use jr_mcu::{Kept, Skipped, all_small, put_shifted, read_mcu, sums};
 use std::alloc::Global;
 use std::marker::Model;
 
@@ -35,8 +34,10 @@ fn most_starts(from: u64, to: u64) -> u64 {
 pub struct Guess {
     /// The number of its interval.
     number: u32,
+    /// Maximum number of its MCUs.
+    most: usize,
     mcus: Vec<Guessed>,
-    /// Those of its MCUs, and space for further ones.
+    /// Those of its MCUs, and space for further ones; empty if no blocks are kept.
     blocks: Vec<Coefficients>,
 }
 
@@ -49,15 +50,26 @@ impl Model for Guess {
 }
 
 impl Guess {
-    /// Allocates a buffer for a speculative read of at most `most` MCUs of an interval.
-    pub fn open(alloc: Global, interval: &IntervalRef<'_>, most: u32) -> Result<Guess, Memory>
+    /// Allocates a buffer for a speculative read of at most `most` MCUs of an interval. If their blocks are not kept, a
+    /// reader can skip the MCUs, but not read them.
+    pub fn open(
+        alloc: Global,
+        interval: &IntervalRef<'_>,
+        most: u32,
+        keeps_blocks: bool,
+    ) -> Result<Guess, Memory>
         ensures { IfOk result (IsGuessOf interval.now) }
     {
-        let units = most as usize * interval.head().order().len();
+        let units = if keeps_blocks {
+            most as usize * interval.head().order().len()
+        } else {
+            0
+        };
         let mcus = Vec::with_capacity(alloc, most as usize)?;
         let blocks = vec![in alloc; Coefficients::zeros(); units]?;
         Ok(Guess {
             number: interval.number(),
+            most: most as usize,
             mcus,
             blocks,
         })
@@ -105,9 +117,8 @@ impl Guess {
         if from > all {
             return to;
         }
-        let room = self.blocks.len() / interval.head().order().len();
         let mut left = bits_from(bytes, from);
-        for _ in self.mcus.len()..room {
+        for _ in self.mcus.len()..self.most {
             let next = all - left.left();
             if next >= to {
                 return to;
@@ -119,23 +130,42 @@ impl Guess {
         to
     }
 
-    /// Reads the next MCU after the others, if it fits. If it is none, the bits stay.
+    /// Reads or skips the blocks of the next MCU after the others, with predictions of 0. Returns the predictions after
+    /// it; `None` if no whole one follows, or if it does not fit.
+    fn take_mcu(&mut self, interval: &IntervalRef<'_>, bits: &mut Bits<'_>) -> Option<[i32; 3]>
+        requires { IsGuessOf interval.now self.old }
+        ensures of { IsGuessOf interval.now self.new }
+        ensures mcus { self.new.mcus ≡ self.old.mcus }
+        ensures taken { IfSome result (λ ps. TakesNext interval.now self.new ps bits.old bits.new) }
+        ensures none { IfNone result (bits.new ≡ bits.old) }
+    {
+        let head = interval.head();
+        let per_mcu = head.order().len();
+        let mut predictions = [0; 3];
+        if self.blocks.is_empty() {
+            read_mcu::<Skipped>(head, bits, &mut predictions, 0, &mut [])?;
+            return Some(predictions);
+        }
+        let start = self.mcus.len() * per_mcu;
+        if start + per_mcu > self.blocks.len() {
+            return None;
+        }
+        read_mcu::<Kept>(head, bits, &mut predictions, start, &mut self.blocks)?;
+        Some(predictions)
+    }
+
+    /// Takes the next MCU after the others, if it fits. If it is none, the bits stay.
     fn keep(&mut self, interval: &IntervalRef<'_>, bits: &mut Bits<'_>) -> Option<()>
         requires of { IsGuessOf interval.now self.old }
         requires bits { AreLastBits interval.now bits.old }
         ensures of { IsGuessOf interval.now self.new }
         ensures bits { AreLastBits interval.now bits.new }
     {
-        let head = interval.head();
-        let per_mcu = head.order().len();
+        // By its contract an interval's header is valid, and an MCU has at most ten data units.
+        let _few = interval.head().order();
         let all = 8 * interval.bytes().len() as u64;
         let from = all - bits.left();
-        let start = self.mcus.len() * per_mcu;
-        let end = start + per_mcu;
-        if end > self.blocks.len() {
-            return None;
-        }
-        let predictions = read_unpredicted(head, bits, &mut self.blocks[start..end])?;
+        let predictions = self.take_mcu(interval, bits)?;
         let to = Place {
             bit: all - bits.left(),
             predictions,
@@ -170,8 +200,8 @@ impl Guess {
     pub(crate) fn pass(&self, interval: &IntervalRef<'_>, k: usize, place: &Place) -> Option<Place>
         requires of { IsGuessOf interval.now self.now }
         ensures lawful { IsLawful interval.now.head }
-        ensures some { IfSome result (λ to. (zs : List (List ℤ)) → AreShifted interval.now.head place.now.predictions (blocks_at interval.now self.now k) zs → IsRun (run_from interval.now place.now 1) zs to AllRead) }
-        ensures shifted { OnSome result ((zs : List (List ℤ)) × AreShifted interval.now.head place.now.predictions (blocks_at interval.now self.now k) zs) }
+        ensures run { IfSome result (λ to. (zs : List (List ℤ)) × IsRun (run_from interval.now place.now 1) zs to AllRead) }
+        ensures shifted { IfSome result (λ to. KeepsBlocks self.now → (zs : List (List ℤ)) → AreShifted interval.now.head place.now.predictions (blocks_at interval.now self.now k) zs → IsRun (run_from interval.now place.now 1) zs to AllRead) }
         ensures kept { OnSome result (k < length self.now.mcus) }
         ensures small { OnSome result (All IsSmall place.now.predictions) }
         ensures within { IfSome result (λ to. to.bit ≤ 8 * length interval.now.bytes) }
@@ -192,7 +222,7 @@ impl Guess {
         })
     }
 
-    /// Does what `pass` does, and copies the MCU's blocks.
+    /// Does what `pass` does, and copies the MCU's blocks; `None` also if no blocks are kept.
     #[inline(always)]
     pub(crate) fn put(
         &self,
@@ -207,6 +237,9 @@ impl Guess {
         ensures within { IfSome result (λ to. to.bit ≤ 8 * length interval.now.bytes) }
         ensures in_range { IfSome result (λ to. All IsInDcRange to.predictions) }
     {
+        if self.blocks.is_empty() {
+            return None;
+        }
         let to = self.pass(interval, k, place)?;
         let head = interval.head();
         let per_mcu = head.order().len();

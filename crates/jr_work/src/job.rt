@@ -133,7 +133,7 @@ impl<S: OneScan> Job<S> {
     {
         let lacking = self.progress.lock(rt).lacks_guess();
         if let Some(most) = lacking
-            && let Ok(room) = ScanGuess::open(alloc, scan, most)
+            && let Ok(room) = ScanGuess::open(alloc, scan, most, true)
         {
             self.progress.lock(rt).bring_guess(room);
             self.has_read.notify_one();

@@ -31,13 +31,19 @@ impl<S: OneScan> Model for ScanGuess<S> {
 }
 
 impl<S: OneScan> ScanGuess<S> {
-    /// Allocates a buffer for a speculative read of at most `most` MCUs.
-    pub fn open(alloc: Global, scan: &Scan, most: u32) -> Result<ScanGuess<S>, Memory>
+    /// Allocates a buffer for a speculative read of at most `most` MCUs. If their blocks are not kept, a reader can skip
+    /// the MCUs, but not read them.
+    pub fn open(
+        alloc: Global,
+        scan: &Scan,
+        most: u32,
+        keeps_blocks: bool,
+    ) -> Result<ScanGuess<S>, Memory>
         requires { S.scan ≡ Some scan.now }
     {
         // By its contract a scan has an interval.
         let _some = scan.intervals();
-        let Ok(guess) = Guess::open(alloc, &scan.interval_ref(0), most) else {
+        let Ok(guess) = Guess::open(alloc, &scan.interval_ref(0), most, keeps_blocks) else {
             return Err(Memory);
         };
         let Ok(guess) = Arc::new(alloc, guess) else {

@@ -71,7 +71,7 @@ fn count_interval(alloc: Global, scan: &Scan, number: u32, counts: &mut GuessCou
     let windows = windows_of(scan, number);
     let bits = 8 * scan.interval_ref(number).bytes().len() as u64;
     let mut reader = McuReader::over(scan.interval_ref(number));
-    let mut guess = Guess::open(alloc, &scan.interval_ref(number), MOST_MCUS).ok()?;
+    let mut guess = Guess::open(alloc, &scan.interval_ref(number), MOST_MCUS, false).ok()?;
     pass_by(&mut reader, &guess, window_start(bits, 1, windows), counts);
     for k in 1..windows {
         let from = window_start(bits, k, windows);

@@ -31,6 +31,7 @@ fn found_at(
     words: &str,
     (from, to): (u64, u64),
     most: u32,
+    keeps_blocks: bool,
     bit: u64,
 ) -> Result<Option<usize>, Fail> {
     let scan = scan(alloc, words)?;
@@ -38,7 +39,7 @@ fn found_at(
         return Err(Fail::from("not one interval"));
     }
     let interval = scan.interval_ref(0);
-    let Ok(mut guess) = Guess::open(alloc, &interval, most) else {
+    let Ok(mut guess) = Guess::open(alloc, &interval, most, keeps_blocks) else {
         return Err(Fail::from("memory"));
     };
     guess.read(&interval, from, to);
@@ -48,7 +49,10 @@ fn found_at(
 #[test]
 fn speculative_reads_find_mcus(rt: HostRuntime) -> Result<(), Fail> {
     for (words, from, to, most, bit, found) in &ROWS {
-        if found_at(rt.alloc(), words, (*from, *to), *most, *bit)? != *found {
+        let alloc = rt.alloc();
+        let kept = found_at(alloc, words, (*from, *to), *most, true, *bit)?;
+        let skipped = found_at(alloc, words, (*from, *to), *most, false, *bit)?;
+        if kept != *found || skipped != *found {
             return Err(Fail::from(*words));
         }
     }

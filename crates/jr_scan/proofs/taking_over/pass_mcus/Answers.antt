@@ -14,10 +14,9 @@ pub loop-k-preserved : goal.loop-k-preserved
 loop-k-preserved c =
     let i = c.args.interval.now in
     let before = c.loop-k.invariant.run in
-    let ys = c.in-Some.ensures.shifted in
-    let next = c.in-Some.ensures.some ys.0 ys.1 in
+    let ys = c.in-Some.ensures.run in
     record {
-      run = (before.0 ++ ys.0, runs_meet i c.args.place.now c.loop-k.place c.in-Some.to c.loop-k.k 1 before.0 ys.0 AllRead (component_low i.head c.in-Some.ensures.lawful) before.1 next);
+      run = (before.0 ++ ys.0, runs_meet i c.args.place.now c.loop-k.place c.in-Some.to c.loop-k.k 1 before.0 ys.0 AllRead (component_low i.head c.in-Some.ensures.lawful) before.1 ys.1);
       within = c.in-Some.ensures.within;
       in_range = c.in-Some.ensures.in_range;
     }

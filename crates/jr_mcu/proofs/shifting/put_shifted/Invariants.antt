@@ -1,7 +1,7 @@
 use Rattle.std.proofs.Common.{◌≡◌, ◌<◌, ℕ, length}
 use Rattle.jr_mcu.specs.Mcus.{block_of, component}
 use Rattle.jr_mcu.specs.Shift.{of_component, IsShifted}
-use Rattle.jr_mcu.proofs.unpredicted.put_shifted.Given as goal
+use Rattle.jr_mcu.proofs.shifting.put_shifted.Given as goal
 
 abbrev pub invariant-loop-k : goal.invariant-loop-k
 invariant-loop-k l = record {

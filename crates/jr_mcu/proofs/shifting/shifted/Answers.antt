@@ -2,7 +2,7 @@ use Rattle.std.proofs.Common.{rules, ◌≡◌, ℤ, pos, List, get_or, set, ref
 use Rattle.std.specs.Prelude.{◌+ℤ◌}
 use mir.Val.{SFits, to_z, of_z}
 use Rattle.jr_mcu.proofs.Greater.{shifted_by, small_sum}
-use Rattle.jr_mcu.proofs.unpredicted.shifted.Goals as goal
+use Rattle.jr_mcu.proofs.shifting.shifted.Goals as goal
 
 pub returns : goal.returns
 returns c =

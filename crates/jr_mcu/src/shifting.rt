@@ -1,24 +1,24 @@
-//! The blocks of one MCU, read before the predictions are known, and shifted by them (T.81, F.1.1.5.1).
+//! The blocks of one MCU that was read with predictions of 0, shifted by its predictions (T.81, F.1.1.5.1).
 
-ghost use Rattle.std.specs.Prelude.{◌≡◌, ◌<◌, ℕ, ℤ, pos, List, [], length, slice_index_or, ◌+ℤ◌, IfSome, IfNone, IsTrue, OnSome};
+ghost use Rattle.std.specs.Prelude.{◌≡◌, ◌<◌, ℕ, pos, [], length, slice_index_or, ◌+ℤ◌, IfSome, IsTrue, OnSome};
 ghost use Rattle.std.specs.List.{All};
 ghost use Rattle.jr_head.specs.Geometry.{IsLawful, order_of};
 ghost use Rattle.jr_mcu.specs.Block.{IsInDcRange};
-ghost use Rattle.jr_mcu.specs.Mcus.{no_predictions, predicted, TakesMcu};
-ghost use Rattle.jr_mcu.specs.Shift.{AreGreater, IsShifted, AreShifted, IsSmall, HaveSmallFirst};
+ghost use Rattle.jr_mcu.specs.Shift.{AreGreater, IsShifted, AreShifted, IsInMcuRange, HaveFirstInMcuRange, IsSmall};
 
-use crate::block_sink::Kept;
-use crate::mcu::read_mcu;
 use jr_base::Coefficients;
-use jr_code::Bits;
 use jr_head::Head;
 
-/// Returns whether a number is so small that sixteen bits hold the sum of two.
+/// Maximum distance from 0 of a small prediction.
+const MAX_SMALL: i32 = 12297;
+
+/// Returns whether a number is so small that sixteen bits hold its sum with a DC coefficient of an MCU that was read with
+/// predictions of 0.
 #[inline(always)]
 fn is_small(value: i32) -> bool
     ensures { IsTrue result → IsSmall value }
 {
-    -16384 <= value && value <= 16383
+    -MAX_SMALL <= value && value <= MAX_SMALL
 }
 
 /// Returns whether the predictions are small.
@@ -29,10 +29,10 @@ pub fn all_small(predictions: &[i32; 3]) -> bool
     is_small(predictions[0]) && is_small(predictions[1]) && is_small(predictions[2])
 }
 
-/// Returns the sum of two small numbers.
+/// Returns the sum of a number in the range of an MCU and a small one.
 #[inline(always)]
 fn sum(a: i32, b: i32) -> i32
-    requires a { IsSmall a }
+    requires a { IsInMcuRange a }
     requires b { IsSmall b }
     ensures value { result ≡ a +ℤ b }
     ensures in_range { IsInDcRange result }
@@ -40,10 +40,11 @@ fn sum(a: i32, b: i32) -> i32
     a + b
 }
 
-/// Returns the sums of small predictions, component by component.
+/// Returns the sums of the predictions after an MCU that was read with predictions of 0 and of small predictions,
+/// component by component.
 #[inline(always)]
 pub fn sums(a: &[i32; 3], b: &[i32; 3]) -> [i32; 3]
-    requires a { All IsSmall a.now }
+    requires a { All IsInMcuRange a.now }
     requires b { All IsSmall b.now }
     ensures sums { AreGreater b.now a.now result }
     ensures in_range { All IsInDcRange result }
@@ -51,46 +52,11 @@ pub fn sums(a: &[i32; 3], b: &[i32; 3]) -> [i32; 3]
     [sum(a[0], b[0]), sum(a[1], b[1]), sum(a[2], b[2])]
 }
 
-/// Returns whether the DC coefficients of these blocks are small.
-fn are_small(blocks: &[Coefficients]) -> bool
-    ensures { IsTrue result → HaveSmallFirst blocks.now }
-{
-    for k in 0..blocks.len() {
-        if !is_small(i32::from(blocks[k].first())) {
-            return false;
-        }
-    }
-    true
-}
-
-/// Reads the blocks of one MCU with each component predicted to be 0, and returns the predictions after it. `None` if
-/// no whole MCU follows, or if a DC coefficient is not small.
-pub fn read_unpredicted(
-    head: &Head,
-    bits: &mut Bits<'_>,
-    blocks: &mut [Coefficients],
-) -> Option<[i32; 3]>
-    requires lawful { IsLawful head.now }
-    requires room { length blocks.old ≡ length (order_of head.now) }
-    ensures some { IfSome result (λ ps. TakesMcu head.now no_predictions blocks.new bits.old bits.new × (ps ≡ predicted head.now no_predictions blocks.new)) }
-    ensures small { OnSome result (HaveSmallFirst blocks.new) }
-    ensures none { IfNone result (bits.new ≡ bits.old) }
-{
-    let mut left = bits.fork();
-    let mut predictions = [0; 3];
-    read_mcu::<Kept>(head, &mut left, &mut predictions, 0, blocks)?;
-    if !are_small(blocks) {
-        return None;
-    }
-    *bits = left;
-    Some(predictions)
-}
-
 /// Returns a block whose DC coefficient is greater by `by`.
 #[inline(always)]
 fn shifted(block: &Coefficients, by: i32) -> Option<Coefficients>
     requires some { 0 < length block.now }
-    requires first { IsSmall (slice_index_or block.now 0 (pos 0)) }
+    requires first { IsInMcuRange (slice_index_or block.now 0 (pos 0)) }
     requires by { IsSmall by }
     ensures { IfSome result (λ y. IsShifted by block.now y) }
 {
@@ -111,7 +77,7 @@ pub fn put_shifted(
     requires count { length blocks.now ≡ length (order_of head.now) }
     requires room { length others.old ≡ length (order_of head.now) }
     requires some { (k : ℕ) → k < length blocks.now → 0 < length (slice_index_or blocks.now k []) }
-    requires small { HaveSmallFirst blocks.now }
+    requires small { HaveFirstInMcuRange blocks.now }
     requires by { All IsSmall by.now }
     ensures { OnSome result (AreShifted head.now by.now blocks.now others.new) }
 {

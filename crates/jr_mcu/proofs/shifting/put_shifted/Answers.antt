@@ -4,9 +4,9 @@ use Rattle.std.proofs.lemmas.Int.{to_z-of_z}
 use Rattle.std.proofs.lemmas.List.{get_or_default, get_or-set_same, get_or-set_other, length-set}
 use Rattle.jr_head.specs.Geometry.{order_of}
 use Rattle.jr_mcu.specs.Mcus.{component, block_of}
-use Rattle.jr_mcu.specs.Shift.{of_component, IsShifted, IsSmall}
+use Rattle.jr_mcu.specs.Shift.{of_component, IsShifted, IsInMcuRange, IsSmall}
 use Rattle.jr_mcu.proofs.InMcu.{component_in}
-use Rattle.jr_mcu.proofs.unpredicted.put_shifted.Goals as goal
+use Rattle.jr_mcu.proofs.shifting.put_shifted.Goals as goal
 
 pub shifted-requires-clause-first : goal.shifted-requires-clause-first
 shifted-requires-clause-first c =
@@ -15,7 +15,7 @@ shifted-requires-clause-first c =
     let z = c.index-blocks-k.result in
     let lt : k < length blocks = search (rules, arith, c.loop-k-test.true, ap (λ (o : List ℕ). length o) c.order-order.ensures.value, c.requires.count) in
     let is : z ≡ get_or blocks k [] = c.index-blocks-k.is ∙ get_or_default blocks k z [] lt in
-    subst (λ (x : List ℤ). IsSmall (get_or x 0 (pos 0))) (sym is) (c.requires.small k lt)
+    subst (λ (x : List ℤ). IsInMcuRange (get_or x 0 (pos 0))) (sym is) (c.requires.small k lt)
 
 pub loop-k-preserved : goal.loop-k-preserved
 loop-k-preserved c =

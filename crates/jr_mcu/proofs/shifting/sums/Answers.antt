@@ -1,7 +1,7 @@
 use Rattle.std.proofs.Common.{rules, pos}
 use Rattle.jr_mcu.specs.Block.{IsInDcRange}
 use Rattle.jr_mcu.proofs.Greater.{three_sums, three_all}
-use Rattle.jr_mcu.proofs.unpredicted.sums.Goals as goal
+use Rattle.jr_mcu.proofs.shifting.sums.Goals as goal
 
 pub sum-requires-3-clause-a : goal.sum-requires-3-clause-a
 sum-requires-3-clause-a c = let third = c.requires.a 2 (pos 0) (search rules) in search (rules, third)

@@ -2,8 +2,8 @@ use Rattle.std.proofs.Common.{rules, ◌≡◌, length, get_or}
 use Rattle.std.specs.Prelude.{pos}
 use Rattle.jr_mcu.specs.Shift.{IsSmall}
 use Rattle.jr_mcu.proofs.Greater.{three_within}
-use Rattle.jr_mcu.proofs.unpredicted.all_small.Goals as goal
-use Rattle.jr_mcu.proofs.unpredicted.all_small.Goals.{then-is_small, else-is_small}
+use Rattle.jr_mcu.proofs.shifting.all_small.Goals as goal
+use Rattle.jr_mcu.proofs.shifting.all_small.Goals.{then-is_small, else-is_small}
 
 pub returns-then-is_small-2 : goal.returns-then-is_small-2
 returns-then-is_small-2 c last =
