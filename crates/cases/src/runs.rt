@@ -6,7 +6,7 @@ ghost use Rattle.jr_base.specs.declared.limits.TheConstants.{MAX_WORKERS};
 use crate::case::Case;
 use crate::differences::Differences;
 use jr_paint::Tally;
-use jr_wall::OpenGate;
+use jr_wall::{Gate, OpenGate, Piece};
 use jri_engine::{Fault, Report, finish, run};
 use std::alloc::Global;
 use std::io::{Read, Result as IoResult};
@@ -57,21 +57,31 @@ impl Read for SlowInput<'_> {
     }
 }
 
+/// A gate that holds no call, but reports that it may: several workers decode each small image of several intervals.
+struct HoldingGate;
+
+impl Gate for HoldingGate {
+    fn pass(&self, _number: u32) {}
+
+    fn made(&self, _piece: &Piece) {}
+}
+
 /// Returns the image of a file that a number of workers write, and the run's outcome. The input returns at most `count` bytes
 /// a call.
-fn written_by<R: Threads + Wait + Sync>(
+fn written_by<R: Threads + Wait + Sync, G: Gate + Sync>(
     rt: &R,
     alloc: Global,
     input: SlowInput<'_>,
     workers: u32,
     first: Option<u32>,
+    gate: &G,
 ) -> (Vec<u8>, Result<Report, Fault>)
     requires some { 1 ≤ workers }
     requires few { workers ≤ MAX_WORKERS }
 {
     let mut input = Tally::of(input);
     let mut text = Tally::of(Vec::new(alloc));
-    let outcome = run(rt, alloc, &mut input, &mut text, workers, first, &OpenGate);
+    let outcome = run(rt, alloc, &mut input, &mut text, workers, first, gate);
     (text.into_inner(), outcome)
 }
 
@@ -83,14 +93,15 @@ pub(crate) fn written<R: Threads + Wait + Sync>(
     first: Option<u32>,
 ) -> (Vec<u8>, Result<Report, Fault>) {
     let count = usize::MAX;
-    written_by(rt, alloc, SlowInput { rest, count }, 1, first)
+    written_by(rt, alloc, SlowInput { rest, count }, 1, first, &OpenGate)
 }
 
 /// Runs a case with this number of workers. The input returns at most `count` bytes a call.
-fn check_run<R: Threads + Wait + Sync>(
+fn check_run<R: Threads + Wait + Sync, G: Gate + Sync>(
     rt: &R,
     case: &Case<'_>,
     workers: u32,
+    gate: &G,
     count: usize,
     path: &str,
     out: &mut Differences,
@@ -100,15 +111,17 @@ fn check_run<R: Threads + Wait + Sync>(
 {
     let (rest, first) = (case.bytes, case.row.first);
     let input = SlowInput { rest, count };
-    let (text, outcome) = written_by(rt, case.alloc, input, workers, first);
+    let (text, outcome) = written_by(rt, case.alloc, input, workers, first, gate);
     compare_written(case, path, text.as_slice(), outcome, out);
 }
 
-/// Runs a case with 1, 2, 4 and 64 workers, once with an input that returns some bytes a call.
+/// Runs a case with 1, 2, 4 and 64 workers, with gates that may hold a call and with open ones, once with an input that returns
+/// some bytes a call.
 pub(crate) fn check_runs<R: Threads + Wait + Sync>(rt: &R, case: &Case<'_>, out: &mut Differences) {
     let all = usize::MAX;
-    check_run(rt, case, 1, all, "run with 1 worker", out);
-    check_run(rt, case, 2, 4099, "run with 2 workers", out);
-    check_run(rt, case, 4, all, "run with 4 workers", out);
-    check_run(rt, case, 64, all, "run with 64 workers", out);
+    let gate = &HoldingGate;
+    check_run(rt, case, 1, gate, all, "run with 1 worker", out);
+    check_run(rt, case, 2, gate, 4099, "run with 2 workers", out);
+    check_run(rt, case, 4, &OpenGate, all, "run with 4 workers", out);
+    check_run(rt, case, 64, gate, all, "run with 64 workers", out);
 }

@@ -9,6 +9,11 @@ pub trait Gate {
 
     /// Called with the piece of an interval once it is made, before it is posted.
     fn made(&self, piece: &Piece);
+
+    /// Returns whether a call may wait for that of another interval.
+    fn may_hold(&self) -> bool {
+        true
+    }
 }
 
 /// A gate that does nothing.
@@ -18,4 +23,8 @@ impl Gate for OpenGate {
     fn pass(&self, _number: u32) {}
 
     fn made(&self, _piece: &Piece) {}
+
+    fn may_hold(&self) -> bool {
+        false
+    }
 }

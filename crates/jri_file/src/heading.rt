@@ -34,10 +34,10 @@ pub fn read_file_head<R: Read>(alloc: Global, input: &mut Tally<R>) -> Result<He
     ensures unfailed { result ≢ Err Fault.Read → has_failed input.new ≡ false }
 {
     let mut bytes = Vec::new(alloc);
-    read_more(input, &mut bytes, PART, MAX_FIRST)?;
+    read_more(alloc, input, &mut bytes, PART, MAX_FIRST)?;
     if let Ok(head) = read_head(alloc, &bytes) {
         return Ok(head);
     }
-    read_more(input, &mut bytes, TOO_MANY, TOO_MANY)?;
+    read_more(alloc, input, &mut bytes, TOO_MANY, TOO_MANY)?;
     head_of_bytes(alloc, &bytes)
 }

@@ -81,13 +81,13 @@ pub fn read_scan<R: Read>(alloc: Global, input: &mut Tally<R>) -> Result<Arc<Sca
     ensures unfailed { result ≢ Err Fault.Read → has_failed input.new ≡ false }
 {
     let mut bytes = Vec::new(alloc);
-    read_more(input, &mut bytes, PART, MAX_FIRST)?;
+    read_more(alloc, input, &mut bytes, PART, MAX_FIRST)?;
     if bytes.len() < PART {
         return scan_of_bytes(alloc, bytes);
     }
     if let Ok(head) = read_head(alloc, &bytes) {
         return cut_while_read(alloc, input, head, bytes);
     }
-    read_more(input, &mut bytes, TOO_MANY, TOO_MANY)?;
+    read_more(alloc, input, &mut bytes, TOO_MANY, TOO_MANY)?;
     scan_of_bytes(alloc, bytes)
 }

@@ -23,7 +23,7 @@ pub fn read_file<R: Read>(alloc: Global, input: &mut Tally<R>) -> Result<(Vec<u8
     ensures unfailed { result ≢ Err Fault.Read → has_failed input.new ≡ false }
 {
     let mut bytes = Vec::new(alloc);
-    read_more(input, &mut bytes, TOO_MANY, TOO_MANY)?;
+    read_more(alloc, input, &mut bytes, TOO_MANY, TOO_MANY)?;
     match head_of_bytes(alloc, &bytes) {
         Ok(head) => Ok((bytes, head)),
         Err(fault) => Err(fault),

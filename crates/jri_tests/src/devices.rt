@@ -3,7 +3,7 @@
 ghost use Rattle.std.specs.Prelude.{◌≤◌};
 ghost use Rattle.jr_base.specs.declared.limits.TheConstants.{MAX_WORKERS};
 
-use crate::decoding::outcome_of;
+use crate::decoding::{HoldingGate, outcome_of};
 use jr_base::limits::MAX_WORKERS;
 use jr_head::Refusal;
 use jr_paint::Tally;
@@ -127,7 +127,7 @@ fn written<R: Threads + Wait + Sync + AllocGlobal>(
     requires few { workers ≤ MAX_WORKERS }
 {
     let input = Device::new(rt.alloc(), bytes, 1);
-    let (outcome, out) = outcome_of(rt, input, out, workers, None, &OpenGate);
+    let (outcome, out) = outcome_of(rt, input, out, workers, None, &HoldingGate);
     (outcome.err(), out.into_inner())
 }
 

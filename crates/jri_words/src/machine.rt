@@ -38,7 +38,11 @@ fn held_stream(rt: &HostRuntime) -> Option<File> {
 
 /// Takes the numbers of all standard streams that are closed, so that no file that the program opens gets one of them.
 pub fn hold_streams(rt: &HostRuntime) -> [Option<File>; 3] {
-    [held_stream(rt), held_stream(rt), held_stream(rt)]
+    let first = held_stream(rt);
+    if first.is_none() {
+        return [None, None, None];
+    }
+    [first, held_stream(rt), held_stream(rt)]
 }
 
 /// Returns the arguments after the program's name.

@@ -1,4 +1,4 @@
-use Rattle.std.proofs.Common.{rules, arith, subst, sym, ap, le_trans, ◌≡◌, ℕ, ◌*◌, ◌<◌, ◌≤◌, ◌^◌, ◌∙◌, length}
+use Rattle.std.proofs.Common.{rules, arith, subst, sym, ap, ◌≡◌, ℕ, ◌*◌, ◌<◌, ◌≤◌, ◌^◌, ◌∙◌, length}
 use Rattle.std.specs.Prelude.{is_err}
 use Rattle.jr_head.specs.HeadValue.{HeadValue}
 use Rattle.jr_head.specs.Geometry.{IsLawful, vertical_max}
@@ -86,7 +86,7 @@ write_rows-requires-clause-pixels g c =
 pub write_rows-requires-clause-header : goal.write_rows-requires-clause-header
 write_rows-requires-clause-header g c =
     let pixels = c.in-Ok-vec.pixels in
-    fits _ c.room_for.result pixels.len (length pixels.items) (le_trans (omega arith) c.room_for.ensures.batch) c.in-Ok-vec.ensures.len pixels.ok.0
+    fits _ c.room_for.result pixels.len (length pixels.items) c.room_for.ensures.header c.in-Ok-vec.ensures.len pixels.ok.0
 
 pub counts_of-requires-clause-few : goal.counts_of-requires-clause-few
 counts_of-requires-clause-few g c =

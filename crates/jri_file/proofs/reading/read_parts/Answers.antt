@@ -1,8 +1,8 @@
-use Rattle.std.proofs.Common.{◌≡◌, ℕ, ◌+◌, ◌≤◌, List, ◌++◌, length, vec_len, take, true, length-take, sym, subst, arith}
+use Rattle.std.proofs.Common.{◌≡◌, ℕ, ◌+◌, ◌≤◌, List, ◌++◌, length, vec_len, take, true, length-append, length-take, sym, subst, rules, arith}
 use Rattle.std.proofs.KnownBytes.{Consumes-trans}
 use Rattle.std.specs.Result.{is_ok}
 use Rattle.std.specs.Io.KnownBytes.{Consumes, prepend_known}
-use Rattle.jri_file.proofs.reading.read_more.Goals as goal
+use Rattle.jri_file.proofs.reading.read_parts.Goals as goal
 
 pub parts-preserved : goal.parts-preserved
 parts-preserved g c =
@@ -18,6 +18,7 @@ parts-preserved g c =
     let left = g.R.Read.remaining c.read_part.new.input.inner in
     record {
       within = omega (arith, long, told.within.1, few);
+      space = search (rules, arith, length-append);
       unfailed = told.unfailed;
       read = subst (λ (l : List ℕ). Consumes first left l) (sym items) (Consumes-trans first (g.R.Read.remaining c.parts.input.inner) left old more c.parts.invariant.read told.read.0);
     }
