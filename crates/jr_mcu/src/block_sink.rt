@@ -57,6 +57,7 @@ pub struct Skipped;
 impl BlockSink for Skipped {
     ghost keeps = { false };
 
+    #[inline(always)]
     fn take(
         dc: &WordBook,
         ac: &CodeBook,
