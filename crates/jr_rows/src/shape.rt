@@ -105,8 +105,8 @@ pub fn bytes_of_row(head: &Head) -> usize
     shape.deep as usize * shape.line
 }
 
-/// Returns the size in bytes of the buffer that an image is written from: that of a write, or of the header and all lines if they
-/// need less; at least that of a row of MCUs.
+/// Returns the size in bytes of the buffer that an image is written from: that of a write, or of the header and all
+/// lines if they need less, but at least that of a row of MCUs.
 pub fn room_for(head: &Head) -> usize
     ensures value { result ≡ max (min BATCH (HEADER_ROOM + head.now.height * line_size head.now)) (8 * vertical_max head.now * line_size head.now) }
     ensures lines { 8 * vertical_max head.now * line_size head.now ≤ result }

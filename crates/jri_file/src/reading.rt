@@ -86,8 +86,8 @@ fn read_parts<R: Read>(
 /// Appends more of the input to the bytes, to its end or until there are `enough`, and never more than `limit`. Any error ends it,
 /// also an interrupted call.
 ///
-/// A read has space for `PART` bytes while the bytes are as far from `limit`: a pipe of packets drops what has no space. That
-/// space is on the heap, where what is allocated later uses it again.
+/// A read has space for `PART` bytes while the bytes are as far from `limit`: a pipe of packets drops what has no space.
+/// That space is on the heap, where what is allocated later uses it again.
 pub(crate) fn read_more<R: Read>(
     alloc: Global,
     input: &mut Tally<R>,
@@ -110,8 +110,8 @@ pub(crate) fn read_more<R: Read>(
 }
 
 /// Cuts the scan of a file of which `before` bytes have come, while the others are read: to the file's end, or until
-/// they are one more than a file may have. Returns the number of bytes that have come. A function of its own, so that only
-/// a large file uses the stack for a part.
+/// they are one more than a file may have. Returns the number of bytes that have come. A function of its own, so that
+/// only a large file uses the stack for a part.
 #[inline(never)]
 pub(crate) fn cut_on<R: Read>(
     input: &mut Tally<R>,
