@@ -1,4 +1,5 @@
 pub mod Blocks
+pub mod Fill
 pub mod Numbers
 pub mod Tally
 pub mod Zigzag

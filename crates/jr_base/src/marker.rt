@@ -1,4 +1,7 @@
-//! The codes of markers (T.81, B.1.1.3 and table B.1).
+//! The codes of markers (T.81, B.1.1.3 and table B.1), and the bytes before a code.
+
+ghost use Rattle.std.specs.Prelude.{◌≡◌, ◌≢◌, ◌<◌, ◌≤◌, length, take, replicate, slice_index};
+ghost use Rattle.jr_base.specs.Fill.{fill_count};
 
 /// Each marker begins with this byte; more of them before its code are fill bytes (B.1.1.2).
 pub const PREFIX: u8 = 0xFF;
@@ -65,3 +68,13 @@ pub const APP15: u8 = 0xEF;
 
 /// Comment.
 pub const COM: u8 = 0xFE;
+
+/// Returns the number of FF bytes at the start: before a code, those of its marker (T.81, B.1.1.2).
+pub fn fill_count(bytes: &[u8]) -> usize
+    ensures value { result ≡ fill_count bytes.now }
+    ensures within { result ≤ length bytes.now }
+    ensures full { take result bytes.now ≡ replicate result PREFIX }
+    ensures next { result < length bytes.now → slice_index bytes.now result ≢ PREFIX }
+{
+    bytes.iter().take_while(|byte| **byte == PREFIX).count()
+}

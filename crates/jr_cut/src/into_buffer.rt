@@ -5,8 +5,8 @@ ghost use Rattle.std.specs.Vec.{vec_capacity};
 ghost use Rattle.jr_base.specs.declared.marker.TheConstants.{PREFIX};
 ghost use Rattle.jr_cut.specs.Cut.{IsRaw, IsStop};
 
-use crate::front::{fill_count, plain_count};
-use jr_base::marker::PREFIX;
+use crate::front::plain_count;
+use jr_base::marker::{PREFIX, fill_count};
 
 /// Numbers of bytes that are read, and of the bytes of data that they spell.
 #[derive(Clone, Copy)]

@@ -15,7 +15,7 @@ mod unstuff;
 
 pub use breaks::Break;
 pub use coded_segments::{CodedSegments, SegmentsToEnd, cut, cut_to_end};
-pub use front::{fill_count, plain_count, segment_length};
+pub use front::{segment_length, spelled_length};
 pub use into_buffer::{Spelled, unstuff_into, unstuff_segment};
 pub use laws::{each_scan_has_a_cut, one_cut};
 pub use partial_cut::PartialCut;

@@ -7,12 +7,12 @@ ghost use Rattle.jr_cut.specs.ImageEnd.{HasCutToRest, IsImageEndOf};
 ghost use Rattle.jr_cut.specs.Spans.{segment_data, IsSpanOf};
 
 use crate::coded_segments::CodedSegments;
-use crate::front::fill_count;
 use crate::partial_segments::PartialSegments;
 use crate::scan_end::ScanEnd;
 use crate::span::Span;
 use crate::unstuff::Unstuffing;
 use jr_base::Memory;
+use jr_base::marker::fill_count;
 use std::alloc::Global;
 use std::marker::Model;
 

@@ -5,9 +5,9 @@ ghost use Rattle.jr_base.specs.declared.marker.TheConstants.{PREFIX};
 ghost use Rattle.jr_cut.specs.Cut.{IsStop};
 ghost use Rattle.jr_cut.specs.Spans.{Unstuffs};
 
-use crate::front::{fill_count, plain_count};
+use crate::front::plain_count;
 use jr_base::Memory;
-use jr_base::marker::PREFIX;
+use jr_base::marker::{PREFIX, fill_count};
 use std::alloc::Global;
 use std::marker::Model;
 

@@ -8,8 +8,8 @@ ghost use Rattle.jr_mend.specs.Reading.{IsFollowing};
 ghost use Rattle.jr_mend.specs.Resync.{EndsResync, IsMeaning, max_missing};
 
 use crate::pace::Pace;
-use jr_base::marker::{EOI, RST0, RST7};
-use jr_cut::{ScanEnd, fill_count};
+use jr_base::marker::{EOI, RST0, RST7, fill_count};
+use jr_cut::ScanEnd;
 
 /// A marker after the bytes of an interval.
 #[derive(Clone, Copy)]

@@ -6,7 +6,8 @@ ghost use Rattle.jr_cut.specs.Cut.{IsCut};
 ghost use Rattle.jr_head.specs.Heads.{HeadOf};
 ghost use Rattle.jr_mend.specs.Reading.{IsFileInStep};
 
-use jr_cut::{ScanEnd, Stop, fill_count, segment_length, stop_at};
+use jr_base::marker::fill_count;
+use jr_cut::{ScanEnd, Stop, segment_length, stop_at};
 use jr_head::Head;
 
 /// Returns whether the bytes of a scan are at most `intervals` segments with the restart markers that are due, and EOI.

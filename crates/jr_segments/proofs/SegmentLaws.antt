@@ -10,7 +10,8 @@ use Rattle.jr_segments.specs.declared.refusal.Refusal.{Refusal}
 use Rattle.jr_segments.specs.declared.refusal.Refusal.TheVariants.{EndsEarly, ExpectedMarker, BadLength}
 use Rattle.jr_segments.specs.Bytes.{byte, word}
 use Rattle.jr_segments.specs.Tests.{◌when◌, first_fault}
-use Rattle.jr_segments.specs.Segments.{segment_bytes, segment_at, behind_segment, fill_count, at_code, marker_tests, code_tests, length_tests, framing_tests}
+use Rattle.jr_base.specs.Fill.{fill_count}
+use Rattle.jr_segments.specs.Segments.{segment_bytes, segment_at, behind_segment, at_code, marker_tests, code_tests, length_tests, framing_tests}
 use Rattle.jr_segments.proofs.TestLaws.{passes_parts}
 
 abbrev pub IsBytes : List ℕ → Type 0

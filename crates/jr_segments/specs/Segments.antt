@@ -1,7 +1,8 @@
 -- Marker segments (T.81, B.1.1), and the tests of their framing.
-use Rattle.std.specs.Prelude.{ℕ, suc, ◌+◌, ◌-◌, ◌==◌, Bool, not, ◌||◌, ◌&&◌, nat_lt, nat_le, List, [], ◌∷◌, ◌++◌, length, take_while, take, drop, replicate, Option, is_some}
+use Rattle.std.specs.Prelude.{ℕ, suc, ◌+◌, ◌-◌, ◌==◌, Bool, not, ◌||◌, ◌&&◌, nat_lt, nat_le, List, [], ◌∷◌, ◌++◌, length, take, drop, replicate, Option, is_some}
 use Rattle.std.specs.List.{list_any}
 use Rattle.byteorder.specs.Endian.{big_bytes}
+use Rattle.jr_base.specs.Fill.{fill_count}
 use Rattle.jr_base.specs.declared.marker.TheConstants.{APP0, APP15, COM, DHT, DQT, DRI, PREFIX, SOF0, SOF1, SOF10, SOF11, SOF13, SOF14, SOF15, SOF2, SOF3, SOF5, SOF6, SOF7, SOF9, SOS}
 use Rattle.jr_segments.specs.declared.refusal.Refusal.TheVariants.{EndsEarly, ExpectedMarker, UnexpectedMarker, NotBaseline, BadLength, SecondFrame, NoFrame}
 use Rattle.jr_segments.specs.Bytes.{byte, word}
@@ -39,10 +40,6 @@ frame_in segments = last_where (λ i. is_frame i.code) segments
 
 abbrev pub has_frame : List Segment → Bool
 has_frame segments = is_some (frame_in segments)
-
--- the number of FF bytes at the start
-abbrev pub fill_count : List ℕ → ℕ
-fill_count bytes = length (take_while (λ b. b == PREFIX) bytes)
 
 -- the bytes starting at the code
 abbrev pub at_code : List ℕ → List ℕ

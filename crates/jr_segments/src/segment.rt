@@ -6,22 +6,15 @@ ghost use Rattle.std.specs.Prelude.{◌≡◌, ◌≢◌, ◌<◌, ◌≤◌, �
 ghost use Rattle.jr_segments.specs.Bytes.{byte, word};
 ghost use Rattle.jr_segments.specs.Tests.{Obeys};
 ghost use Rattle.jr_segments.specs.Marker.{code_of};
-ghost use Rattle.jr_segments.specs.Segments.{fill_count, at_code, marker_tests, code_tests, length_tests, framing_tests, segment_at, behind_segment};
+ghost use Rattle.jr_segments.specs.Segments.{at_code, marker_tests, code_tests, length_tests, framing_tests, segment_at, behind_segment};
 
 use crate::marker::Marker;
 use crate::refusal::Refusal;
 use byteorder::{BigEndian, ByteOrder};
 use jr_base::marker::{
-    APP0, APP15, COM, DHT, DQT, DRI, PREFIX, SOF0, SOF1, SOF2, SOF3, SOF5, SOF7, SOF9, SOF11,
-    SOF13, SOF15, SOS,
+    APP0, APP15, COM, DHT, DQT, DRI, SOF0, SOF1, SOF2, SOF3, SOF5, SOF7, SOF9, SOF11, SOF13, SOF15,
+    SOS, fill_count,
 };
-
-/// Returns the number of FF bytes at the start.
-fn fill_count(bytes: &[u8]) -> usize
-    ensures { result ≡ fill_count bytes.now }
-{
-    bytes.iter().take_while(|b| **b == PREFIX).count()
-}
 
 /// Returns the code of the marker that comes first, and the bytes after it.
 ///
