@@ -143,15 +143,15 @@ pub fn bytes_of_line(head: &Head) -> usize
     }
 }
 
-/// Returns the size in bytes of the first `painted` lines and `more` after them, of `count` lines.
-fn bytes_to(painted: u32, more: u32, count: u32, line: usize) -> usize
-    requires within { painted + more ≤ count }
-    requires few { count < 65536 }
+/// Returns the size in bytes of `lines` lines, of `all`.
+pub fn bytes_to(lines: u32, all: u32, line: usize) -> usize
+    requires within { lines ≤ all }
+    requires few { all < 65536 }
     requires short { line ≤ 196605 }
-    ensures end { result ≡ painted * line + more * line }
-    ensures within { result ≤ count * line }
+    ensures value { result ≡ lines * line }
+    ensures within { result ≤ all * line }
 {
-    (painted + more) as usize * line
+    lines as usize * line
 }
 
 /// Paints the pixels of `count` lines starting at line y, a line after the other, of one byte or three each. Samples
@@ -167,7 +167,7 @@ pub fn paint_lines<S: Samples>(samples: &S, y: u32, count: u32, room: &mut [u8],
     let mut filled = 0;
     'lines: while painted < count {
         let more = lines_at_once(samples.head(), y + painted).min(count - painted);
-        let end = bytes_to(painted, more, count, line);
+        let end = bytes_to(painted + more, count, line);
         fill_lines(samples, y + painted, more, room, &mut pixels[filled..end]);
         filled = end;
         painted += more;

@@ -1,24 +1,23 @@
 -- Runs of an interval that follow one another, and the prefixes that they are.
-use Rattle.std.proofs.Common.{◌≡◌, ℕ, zero, suc, ◌+◌, ◌-◌, ◌*◌, ◌^◌, ◌<◌, ◌≤◌, min, inl, inr, Option, Some, None, List, [], ◌++◌, length, take, drop, length-append, refl, sym, ap, subst, ◌∙◌, arith}
+use Rattle.std.proofs.Common.{◌≡◌, ℕ, zero, suc, ◌+◌, ◌-◌, ◌*◌, ◌<◌, ◌≤◌, min, inl, inr, Option, Some, None, List, [], ◌++◌, length, take, drop, refl, sym, ap, subst, ◌∙◌, arith}
 use Rattle.std.specs.Prelude.{◌↔◌, ℤ}
 use Rattle.std.specs.List.{All}
 use Rattle.std.proofs.lemmas.Bool.{cases_lt}
 use Rattle.std.proofs.Math.Seq.{drop-append_seam, take-append_seam}
-use Rattle.jr_code.specs.Bits.{bits}
 use Rattle.jr_head.specs.Geometry.{order_of, IsLawful}
 use Rattle.jr_scan.specs.declared.place.Place.{Place}
 use Rattle.jr_scan.specs.declared.place.RunEnd.{RunEnd}
 use Rattle.jr_scan.specs.declared.place.RunEnd.TheVariants.{AllRead, NoMcu}
 use Rattle.jr_mcu.specs.Block.{IsInDcRange}
 use Rattle.jr_scan.specs.IntervalValue.{IntervalValue}
-use Rattle.jr_scan.specs.Mcus.{HasNoDecoding, Decodes, Front, LongestFront, HasLongestFront}
+use Rattle.jr_scan.specs.Mcus.{Decodes, Front, LongestFront}
 use Rattle.jr_mcu.specs.Mcus.{no_predictions}
-use Rattle.jr_scan.specs.Run.{RunOf, start_of_interval, whole_run, run_from, left_at, HasNoMcu, IsRun, RunRead, IsSoundRun}
+use Rattle.jr_scan.specs.Run.{RunOf, start_of_interval, run_from, HasNoMcu, IsRun, RunRead, IsSoundRun}
 use Rattle.jr_scan.specs.McuReader.{McuReaderValue, HasRead, HasEnded}
 use Rattle.jr_mcu.proofs.McuLaws.{no_blocks}
-use Rattle.jr_scan.proofs.McuReaders.{front_of_run, left_is, no_room, run_of_front}
-use Rattle.jr_piece.specs.StripValue.{ReadingValue}
-use Rattle.jr_piece.specs.Strips.{AreBlocks, CanReadFrom, FirstMcus, IsNext, IsReading, ReadsOn}
+use Rattle.jr_scan.proofs.McuReaders.{front_of_run, run_of_front}
+use Rattle.jr_piece.specs.Cursors.{IsPlaceAfter, TakesMcus}
+use Rattle.jr_piece.specs.Strips.{AreBlocks, CanReadFrom, FirstMcus, IsNext}
 use Rattle.jr_piece.proofs.Strips.{ShorterFront}
 
 -- a list begins with the slice that was written over its first elements
@@ -45,20 +44,6 @@ module _ (r r' : McuReaderValue) (j i : IntervalValue) (from : Place) (m n : ℕ
 
   pub passed_part : (n < m → HasEnded r') → FirstMcus (run_from i from m) n ys
   passed_part ended = record { to = r'.place; run = passed_place; none = λ lt. none_follows (ended lt) lt }
-
-  -- if fewer than `most` are read, none follows: one more had space, or the bits can code no more
-  pub read_part : (most : ℕ) → IsLawful i.head → from.bit ≤ 8 * length i.bytes → (n < most → HasEnded r') → ((k : ℕ) (zs : List (List ℤ)) (to : Place) → IsRun (run_from i from k) zs to AllRead → k ≤ m → k ≤ most) → FirstMcus (run_from i from m) n ys
-  read_part most lawful at ended enough = record {
-    to = r'.place;
-    run = passed_place;
-    none = λ lt. elim (cases_lt n most) [
-      | inl l ↦ none_follows (ended l) lt
-      | inr g ↦
-          let p = passed_place in
-          let within : r'.place.bit ≤ 8 * length i.bytes = omega (arith, at, p.bit, ap length p.spelled, length-append p.taken (left_at i r'.place), left_is i from) in
-          no_room i from r'.place n m most ys lawful within p enough g lt
-    ];
-  }
 
 abbrev pub OneRun : Type 0
 OneRun = (r : RunOf) (a b : RunRead r) → IsLawful r.interval.head → (a.blocks ≡ b.blocks) × (a.to ≡ b.to) × (a.end ≡ b.end)
@@ -104,7 +89,7 @@ stuck one shorter i k zs to lawful r none few = record { front = front_of_run i 
     ]
 
 -- all MCUs are the longest prefix
-whole : (i : IntervalValue) (k : ℕ) (zs : List (List ℤ)) → Front i k zs → k ≡ i.mcus → LongestFront i k zs
+pub whole : (i : IntervalValue) (k : ℕ) (zs : List (List ℤ)) → Front i k zs → k ≡ i.mcus → LongestFront i k zs
 whole i k zs f e = record { front = f; longest = λ j ys g. omega (arith, g.at_most, e) }
 
 -- nothing is read at the start
@@ -114,16 +99,18 @@ start_in_range (suc zero) d lt = (omega arith, omega arith)
 start_in_range (suc (suc zero)) d lt = (omega arith, omega arith)
 start_in_range (suc (suc (suc k))) d lt = absurd (omega arith)
 
-pub at_start : (i : IntervalValue) → IsReading (record { interval = i; first = 0; next = Some start_of_interval })
+pub at_start : (i : IntervalValue) → IsPlaceAfter i 0 (Some start_of_interval)
 at_start i = record {
-  blocks = [];
-  front = record { at_most = omega arith; taken = []; rest = bits i.bytes; mcus = (omega arith, no_blocks i.head no_predictions); spelled = refl };
-  next = λ p e. let f : start_of_interval ≡ p = cc in subst (IsNext i 0 []) f (record {
-    run = record { count = 0; few = omega arith; taken = []; mcus = (omega arith, no_blocks i.head no_predictions); spelled = refl; bit = refl; predictions = refl; ends = refl };
-    can = (omega arith, start_in_range);
-  });
-  longest = λ e. let z : Some start_of_interval ≡ None = e in cc;
-  short = λ e. let z : Some start_of_interval ≡ None = e in cc;
+  few = omega arith;
+  next = λ p e.
+      let same : start_of_interval ≡ p = cc in (
+        [],
+        subst (IsNext i 0 []) same (record {
+          run = record { count = 0; few = omega arith; taken = []; mcus = (omega arith, no_blocks i.head no_predictions); spelled = refl; bit = refl; predictions = refl; ends = refl };
+          can = (omega arith, start_in_range);
+        }),
+      );
+  none = λ e. let z : Some start_of_interval ≡ None = e in cc;
 }
 
 -- the first MCUs of an interval, and those of the run after them
@@ -145,67 +132,26 @@ module _ (one : OneRun) (meet : RunsMeet) (shorter : ShorterFront) (i : Interval
   pub going : (q : Place) → IsRun (run_from i p n) ys q AllRead → CanReadFrom i q → IsNext i (first + n) (zs ++ ys) q
   going q r can = record { run = meet i start_of_interval first n (read _ zs p AllRead next.run) (read _ ys q AllRead r) lawful refl; can = can }
 
-  reading : (q : Option Place) → first + m ≤ i.mcus → ((x : Place) → q ≡ Some x → IsRun (run_from i p n) ys x AllRead) → ((x : Place) → q ≡ Some x → CanReadFrom i x) → (q ≡ None → n < m) → IsReading (record { interval = i; first = first + n; next = q })
-  reading q room there can none = record {
-    blocks = zs ++ ys;
-    front = front;
-    next = λ x e. going x (there x e) (can x e);
-    longest = λ e. longest (none e);
-    short = λ e. let lt = none e in omega (arith, lt, room);
+  -- the next position is this one, or no further MCU is whole
+  pub after : (q : Option Place) → first + m ≤ i.mcus → ((x : Place) → q ≡ Some x → IsRun (run_from i p n) ys x AllRead) → ((x : Place) → q ≡ Some x → CanReadFrom i x) → (q ≡ None → n < m) → IsPlaceAfter i (first + n) q
+  after q room there can none = record {
+    few = few;
+    next = λ x e. (zs ++ ys, going x (there x e) (can x e));
+    none = λ e. let lt = none e in (first + n, zs ++ ys, omega arith, omega (arith, lt, room), longest lt);
   }
 
-  -- fewer than are asked for are read only if no further one follows
-  ended : (most : ℕ) → Front i first zs → m ≡ min most (i.mcus - first) → n < most → HasLongestFront i (first + n)
-  ended most f asked few_read = elim (cases_lt n m) [
-    | inl l ↦ (zs ++ ys, longest l)
-    | inr g ↦ (zs ++ ys, whole i (first + n) (zs ++ ys) front (omega (arith, f.at_most, few, g, asked, few_read)))
-  ]
-
--- the first n MCUs of a run of those that are asked for and left
-pub moves : (one : OneRun) (meet : RunsMeet) (shorter : ShorterFront) (i : IntervalValue) (lawful : IsLawful i.head) (first : ℕ) (p : Place) → IsReading (record { interval = i; first = first; next = Some p }) → (most m n : ℕ) → m ≡ min most (i.mcus - first) → n ≤ m → i.mcus < 2 ^ 32
-    → (ys : List (List ℤ)) → FirstMcus (run_from i p m) n ys → (q : Option Place) → ((x : Place) → q ≡ Some x → IsRun (run_from i p n) ys x AllRead) → ((x : Place) → q ≡ Some x → CanReadFrom i x) → (q ≡ None → n < m) → ReadsOn i first p most n ys q
-moves one meet shorter i lawful first p at most m n asked le small ys here q there can none =
-    let few : first + n ≤ i.mcus = omega (arith, asked, le, at.front.at_most) in
-    let next = at.next p refl in
-    record {
-      few = omega (arith, asked, le);
-      fits = omega (arith, few, small);
-      are = blocks one meet shorter i lawful first at.blocks p next n m ys here few;
-      to = here.to;
-      run = here.run;
-      reading = reading one meet shorter i lawful first at.blocks p next n m ys here few q (omega (arith, asked, at.front.at_most)) there can none;
-      last = ended one meet shorter i lawful first at.blocks p next n m ys here few most at.front asked;
-    }
-
-abbrev pub OneFront : Type 0
-OneFront = (i : IntervalValue) (k : ℕ) (zs ys : List (List ℤ)) → Front i k zs → Front i k ys → zs ≡ ys
+  -- fewer than are asked for are taken only if no further one follows
+  pub takes : (most : ℕ) → m ≡ min most (i.mcus - first) → (q : Option Place) → (q ≡ None → n < m) → TakesMcus i first p most n ys q
+  takes most asked q none = record {
+    are = blocks;
+    to = here.to;
+    run = here.run;
+    last = λ lt. elim (cases_lt n m) [
+      | inl l ↦ (zs ++ ys, longest l)
+      | inr g ↦ (zs ++ ys, whole i (first + n) (zs ++ ys) front (omega (arith, few, g, asked, lt)))
+    ];
+    none = λ e. (zs ++ ys, longest (none e));
+  }
 
 abbrev pub WholeRun : Type 0
 WholeRun = (i : IntervalValue) (zs : List (List ℤ)) → Decodes i zs ↔ IsSoundRun i zs
-
--- all MCUs are read, and fewer than eight bits are left
-pub whole_strip : OneFront → WholeRun → (r : ReadingValue) (p : Place) → IsReading r → r.next ≡ Some p → r.first ≡ r.interval.mcus → 8 * length r.interval.bytes - p.bit < 8 → (zs : List (List ℤ)) → Front r.interval r.first zs → Decodes r.interval zs
-whole_strip one law r p k e all few zs f =
-    let i = r.interval in
-    let same : k.blocks ≡ zs = one i r.first k.blocks zs k.front f in
-    let n = k.next p e in
-    let run : IsRun (whole_run i) k.blocks p AllRead = subst (λ (m : ℕ). IsRun (run_from i start_of_interval m) k.blocks p AllRead) all n.run in
-    subst (Decodes i) same ((law i k.blocks).1 (p, run, omega (arith, left_is i p, few)))
-
--- otherwise the interval has no decoding
-pub is_damaged : OneRun → WholeRun → (r : ReadingValue) → IsLawful r.interval.head → IsReading r → ((p : Place) → r.next ≡ Some p → r.first ≡ r.interval.mcus → 8 * length r.interval.bytes - p.bit < 8 → ⊥)
-    → HasLongestFront r.interval r.first → HasNoDecoding r.interval
-is_damaged one law r lawful k none all_there ys d =
-    let i = r.interval in
-    let w = (law i ys).0 d in
-    let longest = all_there.1 in
-    let there : i.mcus ≤ r.first = longest.longest i.mcus ys (front_of_run i i.mcus ys w.0 w.1 (omega arith)) in
-    let all : r.first ≡ i.mcus = omega (arith, there, longest.front.at_most) in
-    go r.next refl all w.0 w.1 w.2
-  where
-    go : (q : Option Place) → r.next ≡ q → r.first ≡ r.interval.mcus → (to : Place) → IsRun (whole_run r.interval) ys to AllRead → length (left_at r.interval to) < 8 → ⊥
-    go None e all to run few = omega (arith, k.short e, all)
-    go (Some p) e all to run few =
-        let mine : IsRun (whole_run r.interval) k.blocks p AllRead = subst (λ (m : ℕ). IsRun (run_from r.interval start_of_interval m) k.blocks p AllRead) all (k.next p e).run in
-        let same : p ≡ to = (one (whole_run r.interval) (read _ k.blocks p AllRead mine) (read _ ys to AllRead run) lawful).1 in
-        none p e all (omega (arith, left_is r.interval p, ap (λ (x : Place). length (left_at r.interval x)) same, few))

@@ -42,7 +42,7 @@ pub record Fronted (i : IntervalValue) (front : ℕ) (us : List (List ℕ)) : Ty
   pub longest : LongestFront i front blocks
   pub samples : AreSamples i.head blocks us
 
-whole_longest : (i : IntervalValue) (zs : List (List ℤ)) → Decodes i zs → LongestFront i i.mcus zs
+pub whole_longest : (i : IntervalValue) (zs : List (List ℤ)) → Decodes i zs → LongestFront i i.mcus zs
 whole_longest i zs d = record {
   front = record { at_most = omega arith; taken = d.taken; rest = d.padding; mcus = d.mcus; spelled = d.spelled };
   longest = λ j ys f. f.at_most;

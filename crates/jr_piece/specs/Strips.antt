@@ -1,5 +1,5 @@
 -- Strips: consecutive whole MCUs of an interval, as far as its bits contain them, whatever follows.
-use Rattle.std.specs.Prelude.{◌≡◌, ℕ, ◌+◌, ◌-◌, ◌*◌, ◌^◌, ◌<◌, ◌≤◌, min, Bool, true, false, List, [], ◌∷◌, ◌++◌, map, length, take, drop, slice_get, Option, Some, None, ℤ}
+use Rattle.std.specs.Prelude.{◌≡◌, ℕ, ◌+◌, ◌-◌, ◌*◌, ◌<◌, ◌≤◌, min, Bool, true, false, List, [], ◌∷◌, ◌++◌, map, length, take, drop, slice_get, Some, ℤ}
 use Rattle.std.specs.List.{All}
 use Rattle.std.specs.declared.sync.Arc.{Arc}
 use Rattle.std.specs.Arc.{arc_value}
@@ -9,11 +9,11 @@ use Rattle.jr_scan.specs.declared.place.Place.{Place}
 use Rattle.jr_scan.specs.declared.place.RunEnd.TheVariants.{AllRead}
 use Rattle.jr_scan.specs.IntervalValue.{IntervalValue}
 use Rattle.jr_mcu.specs.Block.{IsInDcRange}
-use Rattle.jr_scan.specs.Mcus.{HasDecoding, HasNoDecoding, Front, HasLongestFront, LongestFront}
+use Rattle.jr_scan.specs.Mcus.{HasDecoding, HasNoDecoding, Front, HasLongestFront}
 use Rattle.jr_scan.specs.Run.{RunOf, start_of_interval, run_from, HasNoMcu, IsRun}
 use Rattle.jr_piece.specs.PieceValue.{PieceValue}
 use Rattle.jr_piece.specs.Outcome.{AreSamples}
-use Rattle.jr_piece.specs.StripValue.{CodedStripValue, PlacedStripValue, StripValue, ReadingValue}
+use Rattle.jr_piece.specs.StripValue.{CodedStripValue, PlacedStripValue, StripValue}
 
 -- the data units of the first k MCUs of an interval
 abbrev pub units_before : IntervalValue → ℕ → ℕ
@@ -83,24 +83,6 @@ pub record IsPlaced (s : PlacedStripValue) : Type 0 where
   pub can : CanReadFrom s.interval s.from
   pub to : Place
   pub run : IsRun (run_from s.interval s.from s.mcus) blocks to AllRead
-
--- what a reader of strips keeps
-pub record IsReading (r : ReadingValue) : Type 0 where
-  pub blocks : List (List ℤ)
-  pub front : Front r.interval r.first blocks
-  pub next : (p : Place) → r.next ≡ Some p → IsNext r.interval r.first blocks p
-  pub longest : r.next ≡ None → LongestFront r.interval r.first blocks
-  pub short : r.next ≡ None → r.first < r.interval.mcus
-
--- after the first MCUs of an interval, of at most `most` MCUs these n are read or skipped; reading continues at the next position
-pub record ReadsOn (i : IntervalValue) (first : ℕ) (from : Place) (most n : ℕ) (ys : List (List ℤ)) (next : Option Place) : Type 0 where
-  pub few : n ≤ most
-  pub fits : first + n < 2 ^ 32
-  pub are : AreBlocks i first n ys
-  pub to : Place
-  pub run : IsRun (run_from i from n) ys to AllRead
-  pub reading : IsReading (record { interval = i; first = first + n; next = next })
-  pub last : n < most → HasLongestFront i (first + n)
 
 -- the strips that these Arcs share
 abbrev pub shared_strips : List (Arc StripValue Global) → List StripValue

@@ -2,6 +2,7 @@
 //! can be had strip by strip.
 #![tactic(auto)]
 
+mod cursor;
 mod data_units;
 mod decoded;
 mod laws;
@@ -13,6 +14,7 @@ mod strip_reader;
 mod transforming;
 mod unit_sink;
 
+pub use cursor::{Cursor, zero_from};
 pub use laws::{
     each_interval_has_an_outcome, one_outcome, one_strip, strip_is_final, strips_meet,
     whole_strip_is_outcome,
@@ -20,6 +22,6 @@ pub use laws::{
 pub use piece::{OrderError, Piece};
 pub use placed_strip::PlacedStrip;
 pub use strip::{CodedStrip, Strip};
-pub use strip_reader::{StripReader, place_after};
+pub use strip_reader::StripReader;
 pub use transforming::transform_blocks;
 pub use unit_sink::UnitSink;

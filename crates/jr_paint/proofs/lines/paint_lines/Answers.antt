@@ -15,14 +15,15 @@ lines-preserved g c =
     let end = c.bytes_to-end.result in
     let more = c.min-more.result in
     let line : c.bytes_of_line-line.result ≡ line_size h = search rules in
-    let size : end ≡ old + more * line_size h = rw line at (c.bytes_to-end.ensures.end) ∙ ap (λ n. n + more * line_size h) (sym c.lines.invariant.filled) in
+    let to : end ≡ (c.lines.painted + more) * line_size h = rw line at (c.bytes_to-end.ensures.value) in
+    let size : end ≡ old + more * line_size h = to ∙ add-mul c.lines.painted more (line_size h) ∙ ap (λ n. n + more * line_size h) (sym c.lines.invariant.filled) in
     let long : length c.fill_lines.new.pixels ≡ end - old = search (rules, arith, c.fill_lines.auto.pixels) in
     let inside : old ≤ length c.lines.pixels = search (rules, arith) in
     let front : take end (put_mid old (end - old) c.lines.pixels c.fill_lines.new.pixels) ≡ take old c.lines.pixels ++ c.fill_lines.new.pixels =
     take-put_mid old (end - old) c.lines.pixels c.fill_lines.new.pixels end (omega (arith, long, size)) inside in
     record {
       within = search (rules, arith);
-      filled = size ∙ ap (λ n. n + more * line_size h) c.lines.invariant.filled ∙ sym (add-mul c.lines.painted more (line_size h));
+      filled = to;
       long = search rules;
       front = front ∙ ap (λ z. z ++ c.fill_lines.new.pixels) c.lines.invariant.front ∙ ap (λ z. next_lines_of h f c.args.y c.lines.painted ++ z) c.fill_lines.ensures ∙ sym (next_lines_more h f c.args.y c.lines.painted more);
     }

@@ -1,0 +1,160 @@
+-- How a cursor moves over the MCUs of an interval.
+use Rattle.std.proofs.Common.{◌≡◌, ℕ, ◌+◌, ◌-◌, ◌*◌, ◌<◌, ◌≤◌, min, Bool, true, false, inl, inr, Option, Some, None, List, [], length, length-append, get_or, take, refl, sym, ap, subst, ◌∙◌, arith}
+use Rattle.std.specs.Prelude.{ℤ}
+use Rattle.std.proofs.lemmas.Bool.{cases_lt}
+use Rattle.std.proofs.lemmas.List.{get_or-take}
+use Rattle.std.proofs.Math.Nat.{add-mul, mul-le-mul_right}
+use Rattle.jr_head.specs.Geometry.{IsLawful, order_of, quantiser_of}
+use Rattle.jr_idct.specs.Transform.{samples}
+use Rattle.jr_idct.proofs.Zeros.{grey}
+use Rattle.jr_mcu.specs.Mcus.{component}
+use Rattle.jr_scan.specs.declared.place.Place.{Place}
+use Rattle.jr_scan.specs.declared.place.RunEnd.TheVariants.{AllRead}
+use Rattle.jr_scan.specs.IntervalValue.{IntervalValue}
+use Rattle.jr_scan.specs.Mcus.{Decodes, Front, HasDecoding, HasLongestFront, HasNoDecoding}
+use Rattle.jr_scan.specs.McuReader.{HasEnded, HasRead, McuReaderValue}
+use Rattle.jr_scan.specs.Run.{IsRun, RunOf, left_at, run_from, start_of_interval, whole_run}
+use Rattle.jr_scan.proofs.McuReaders.{left_is, no_room}
+use Rattle.jr_piece.specs.Cursors.{IsPlaceAfter, TakesMcus}
+use Rattle.jr_piece.specs.PieceValue.{PieceValue}
+use Rattle.jr_piece.specs.Outcome.{IsOutcome, unit_of}
+use Rattle.jr_piece.specs.Strips.{CanReadFrom, FirstMcus, IsNext, TellsSound, units_before}
+use Rattle.jr_piece.specs.Units.{CodesUnits, unit_in_piece, zero_block}
+use Rattle.jr_piece.proofs.CodedUnits.{blocks_code, grey_codes}
+use Rattle.jr_piece.proofs.ScanLaws as laws
+use Rattle.jr_piece.proofs.StripRuns as runs
+use Rattle.jr_piece.proofs.Strips.{whole_longest}
+use Rattle.jr_piece.proofs.UnitReading.{tells, zero_unit}
+
+-- what a reader has taken of at most m MCUs starting at a position
+pub record GoesOn (i : IntervalValue) (p : Place) (m n : ℕ) (ys : List (List ℤ)) (r r' : McuReaderValue) : Type 0 where
+  pub run : r.run ≡ run_from i p m
+  pub start : r.mcu ≡ 0
+  pub run' : r'.run ≡ r.run
+  pub mcu : r'.mcu ≡ r.mcu + n
+  pub read : HasRead r' ys
+  pub ended : n < m → HasEnded r'
+
+-- the MCUs that are taken starting at a position, and the next position
+module _ (i : IntervalValue) (lawful : IsLawful i.head) (first m n : ℕ) (p : Place) (zs : List (List ℤ)) (next : IsNext i first zs p) (few : first + m ≤ i.mcus) (most : n ≤ m) (ys : List (List ℤ)) (r r' : McuReaderValue) (on : GoesOn i p m n ys r r')
+    (q : Option Place) (there : (x : Place) → q ≡ Some x → x ≡ r'.place) (can : (x : Place) → q ≡ Some x → CanReadFrom r'.run.interval x) (none : q ≡ None → n < m) where
+  here : FirstMcus (run_from i p m) n ys
+  here = runs.passed_part r r' i i p m n ys refl on.run on.start on.run' on.mcu on.read on.ended
+
+  fewer : first + n ≤ i.mcus
+  fewer = omega (arith, few, most)
+
+  pub after : IsPlaceAfter i (first + n) q
+  after =
+      let run = runs.passed_place r r' i i p m n ys refl on.run on.start on.run' on.mcu on.read in
+      let own : r'.run.interval ≡ i = ap (λ (o : RunOf). o.interval) (on.run' ∙ on.run) in
+      runs.after laws.one_run laws.runs_meet laws.shorter_front i lawful first zs p next n m ys here fewer q few
+      (λ x e. subst (λ (y : Place). IsRun (run_from i p n) ys y AllRead) (sym (there x e)) run) (λ x e. subst (λ (v : IntervalValue). CanReadFrom v x) own (can x e)) none
+
+  pub takes : (all : ℕ) → m ≡ min all (i.mcus - first) → TakesMcus i first p all n ys q
+  takes all asked = runs.takes laws.one_run laws.runs_meet laws.shorter_front i lawful first zs p next n m ys here fewer all asked q none
+
+-- no more are taken where the bits can code no more
+pub takes_all : (i : IntervalValue) → IsLawful i.head → (first : ℕ) (p : Place) (zs : List (List ℤ)) → IsNext i first zs p → (most m coded n : ℕ) (ys : List (List ℤ)) (q : Option Place) → m ≡ min most (i.mcus - first) → n ≤ coded
+    → ((k : ℕ) (xs : List (List ℤ)) (to : Place) → IsRun (run_from i p k) xs to AllRead → k ≤ m → k ≤ coded) → TakesMcus i first p coded n ys q → TakesMcus i first p most n ys q
+takes_all i lawful first p zs next most m coded n ys q asked few enough t =
+    record {
+      are = t.are;
+      to = t.to;
+      run = t.run;
+      last = λ lt. elim (cases_lt n coded) [
+        | inl less ↦ t.last less
+        | inr full ↦ elim (cases_lt n m) [
+          | inl more ↦
+              let within : t.to.bit ≤ 8 * length i.bytes = omega (arith, next.can.0, t.run.bit, ap length t.run.spelled, length-append t.run.taken (left_at i t.to), left_is i p) in
+              let none = no_room i p t.to n m coded ys lawful within t.run enough full more in
+              (_, runs.longest laws.one_run laws.runs_meet laws.shorter_front i lawful first zs p next n m ys (record { to = t.to; run = t.run; none = λ less. none }) t.are.front.at_most more)
+          | inr all ↦ (t.are.all, runs.whole i (first + n) t.are.all t.are.front (omega (arith, t.are.front.at_most, all, asked, lt)))
+        ]
+      ];
+      none = t.none;
+    }
+
+-- n of `mcus` MCUs after the first of an interval are taken, and the others are grey
+module _ (i : IntervalValue) (first mcus n m : ℕ) (q : Option Place) (is : m ≡ first + n) (at : IsPlaceAfter i m q) (few : first + mcus ≤ i.mcus) (le : n ≤ mcus) (stuck : n < mcus → m < i.mcus → q ≡ None) where
+  pub onward : IsPlaceAfter i (m + (mcus - n)) q
+  onward = elim (cases_lt n mcus) [
+    | inl lt ↦
+        let none : q ≡ None = stuck lt (omega (arith, is, few, lt)) in
+        let far = at.none none in
+        record {
+          few = omega (arith, is, few, le);
+          next = λ p e. let z : Some p ≡ None = sym e ∙ none in cc;
+          none = λ e. (far.0, far.1, omega (arith, far.2), far.3, far.4);
+        }
+    | inr all ↦ subst (λ (k : ℕ). IsPlaceAfter i k q) (omega (arith, le, all)) at
+  ]
+
+  -- blocks of which those after the whole MCUs are zeros are the interval's
+  module _ (place : Option Place) (new us : List (List ℤ)) (nothing : place ≡ None → n ≡ 0) (long : length us ≡ mcus * length (order_of i.head))
+      (some : (p : Place) → place ≡ Some p → (ys : List (List ℤ)) × TakesMcus i first p mcus n ys q × (true ≡ true → take (n * length (order_of i.head)) new ≡ ys))
+      (kept : (k : ℕ) → k < n * length (order_of i.head) → get_or us k [] ≡ get_or new k []) (zeros : (k : ℕ) → n * length (order_of i.head) ≤ k → k < length us → get_or us k [] ≡ zero_block)
+      (o : PieceValue) (out : IsOutcome o) (e : o.interval ≡ i) where
+    abbrev per : ℕ
+    per = length (order_of i.head)
+
+    whole : (k : ℕ) → k < n * per → unit_of i.head us k ≡ unit_in_piece o (first * per + k)
+    whole k lt = go place refl
+      where
+        go : (p : Option Place) → place ≡ p → unit_of i.head us k ≡ unit_in_piece o (first * per + k)
+        go None none = let zero : n * per ≡ 0 * per = ap (λ (j : ℕ). j * per) (nothing none) in absurd (omega (arith, zero, lt))
+        go (Some p) there =
+            let t = some p there in
+            ap (λ (z : List ℤ). samples z (quantiser_of i.head (component i.head k))) (kept k lt ∙ sym (get_or-take (n * per) new k [] lt) ∙ ap (λ (l : List (List ℤ)). get_or l k []) (t.2 refl)) ∙ blocks_code i first n t.0 t.1.are o e out k lt
+
+    rest : (k : ℕ) → n * per ≤ k → k < length us → unit_of i.head us k ≡ unit_in_piece o (first * per + k)
+    rest k ge lt =
+        let less : n < mcus = elim (cases_lt n mcus) [
+          | inl l ↦ l
+          | inr all ↦ let past : mcus * per ≤ n * per = mul-le-mul_right {m = mcus} {n = n} per all in absurd (omega (arith, past, ge, lt, long))
+        ] in
+        let far = at.none (stuck less (omega (arith, is, few, less))) in
+        let there : first * per + k ≡ (first + n) * per + (k - n * per) = omega (arith, ge, add-mul first n per) in
+        zero_unit grey i.head us k (zeros k ge lt) ∙ grey_codes i far.0 (first + n) far.1 (omega (arith, far.2, is)) far.4 o e out (k - n * per) ∙ ap (unit_in_piece o) (sym there)
+
+    pub codes : CodesUnits o (units_before i first) us
+    codes k lt = ap (λ (v : IntervalValue). unit_of v.head us k) e ∙ elim (cases_lt k (n * per)) [
+      | inl l ↦ whole k l
+      | inr g ↦ rest k g lt
+    ]
+
+-- an interval has no decoding if its longest prefix is not all of it
+pub cut_short : (i : IntervalValue) (front : ℕ) → front < i.mcus → HasLongestFront i front → HasNoDecoding i
+cut_short i front less longest ys d = let le = longest.1.longest i.mcus ys (whole_longest i ys d).front in omega (arith, le, less)
+
+-- the blocks of all its MCUs are its decoding if it has one
+pub all_decode : (i : IntervalValue) (first : ℕ) (zs : List (List ℤ)) → first ≡ i.mcus → HasDecoding i → Front i first zs → Decodes i zs
+all_decode i first zs all d front = subst (Decodes i) (laws.one_front i i.mcus d.0 zs (whole_longest i d.0 d.1).front (subst (λ (k : ℕ). Front i k zs) all front)) d.1
+
+-- if all MCUs are whole the interval has a decoding, provided that fewer than eight bits are left
+module _ (i : IntervalValue) (lawful : IsLawful i.head) (mcu : ℕ) (place : Option Place) (at : IsPlaceAfter i mcu place) (p : Place) (is : place ≡ Some p) (all : mcu ≡ i.mcus) where
+  abbrev blocks : List (List ℤ)
+  blocks = (at.next p is).0
+
+  mine : IsRun (whole_run i) blocks p AllRead
+  mine = subst (λ (m : ℕ). IsRun (run_from i start_of_interval m) blocks p AllRead) all (at.next p is).1.run
+
+  pub sound_there : 8 * length i.bytes - p.bit < 8 → Decodes i blocks
+  sound_there few = (laws.whole_run i blocks).1 (p, mine, omega (arith, left_is i p, few))
+
+  pub bits_there : (8 * length i.bytes - p.bit < 8 → ⊥) → HasNoDecoding i
+  bits_there many ys d =
+      let w = (laws.whole_run i ys).0 d in
+      let to = w.0 in
+      let few = w.2 in
+      let same : p ≡ to = (laws.one_run (whole_run i) (record { blocks = blocks; to = p; end = AllRead; is = mine }) (record { blocks = ys; to = to; end = AllRead; is = w.1 }) lawful).1 in
+      many (omega (arith, left_is i p, ap (λ (x : Place). length (left_at i x)) same, few))
+
+  pub tells_there : (b : Bool) → (b ≡ true → 8 * length i.bytes - p.bit < 8) → (b ≡ false → 8 * length i.bytes - p.bit < 8 → ⊥) → TellsSound b i
+  tells_there true few many = (blocks, sound_there (few refl))
+  tells_there false few many = bits_there (many refl)
+
+-- each piece of an interval says whether the interval has a decoding
+pub outcome_tells : (i : IntervalValue) (b : Bool) → TellsSound b i → (p : PieceValue) → IsOutcome p → p.interval ≡ i → p.is_sound ≡ b
+outcome_tells i true told p o e = tells p i told.0 true e o (λ t. told.1) (λ f. absurd cc)
+outcome_tells i false told p o e = tells p i [] false e o (λ t. absurd cc) (λ f. told)
