@@ -1,2 +1,2 @@
-pub mod BoardPictures
+pub mod DecodedPictures
 pub mod Pictures

@@ -1,6 +1,6 @@
-pub mod BoardValue
-pub mod Boards
+pub mod DecodedScan
 pub mod Samples
 pub mod Headline
 pub mod Status
 pub mod Writing
+pub mod FirstIntervalsValue

@@ -5,6 +5,7 @@
 
 mod blank;
 mod counts;
+mod first_intervals;
 mod gate;
 mod laws;
 mod mark;
@@ -14,6 +15,7 @@ mod status;
 
 pub use blank::blank_sample;
 pub use counts::Counts;
+pub use first_intervals::FirstIntervals;
 pub use gate::{Gate, OpenGate};
 pub use laws::one_picture;
 pub use mark::Mark;

@@ -1,6 +1,6 @@
 //! What is known of an interval.
 
-/// How far an interval of a board has come.
+/// How far an interval of a scan is decoded.
 #[derive(Clone, Copy, PartialEq, Eq)]
 pub enum Mark {
     /// No piece is posted.

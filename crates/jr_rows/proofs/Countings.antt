@@ -8,12 +8,12 @@ use Rattle.jr_scan.specs.ScanValue.{ScanValue, intervals_of}
 use Rattle.jr_picture.specs.declared.mark.Mark.{Mark}
 use Rattle.jr_picture.specs.declared.mark.Mark.TheVariants.{Blank}
 use Rattle.jr_picture.specs.declared.counts.Counts.{Counts}
-use Rattle.jr_picture.specs.Boards.{marks_of}
+use Rattle.jr_picture.specs.DecodedScan.{marks_of}
 use Rattle.jr_picture.specs.Headline.{is_sound, is_damaged}
 use Rattle.jr_rows.specs.Rows.{CountsRows, coded_before, intervals_before, mcus_before}
 use Rattle.jr_rows.specs.Stream.{HasCounts}
 use Rattle.jr_rows.specs.declared.marked.Marked.{Marked}
-use Rattle.jr_rows.proofs.FirstBoards.{counts_of}
+use Rattle.jr_rows.proofs.FirstDecoded.{counts_of}
 use Rattle.jr_rows.proofs.IntervalPlaces.{ends_before, first_end, first_few, mcus_in_some}
 use Rattle.jr_rows.proofs.PictureRows.{all_rows}
 

@@ -16,7 +16,7 @@ use Rattle.jr_paint.proofs.Factors.{sampled_at, subsampled_at}
 use Rattle.jr_paint.proofs.Places.{place_of_lies}
 use Rattle.jr_mcu.specs.Mcus.{component}
 use Rattle.jr_picture.specs.Headline.{spot_of}
-use Rattle.jr_rows.specs.Groups.{lines_before, all_lines, groups_across, group_in, group_of}
+use Rattle.jr_rows.specs.Groups.{lines_before_component, all_lines, groups_across, group_in, group_of}
 use Rattle.jr_rows.proofs.UnitComponents.{component_there}
 
 -- data unit n is one of component c
@@ -63,27 +63,27 @@ pub last_row : (h : HeadValue) (m j r : ℕ) → group_of h m j r ≡ group_of h
 last_row h m j r =
     let c = component h j in
     let i = j - blocks_before h c in
-    let line = lines_before h c + 8 * (i / horizontal_of h c) in
+    let line = lines_before_component h c + 8 * (i / horizontal_of h c) in
     below line r (groups_across h) (m * horizontal_of h c + i % horizontal_of h c)
 
-lines_next : (h : HeadValue) (c : ℕ) → c < components_of h → lines_before h (c + 1) ≡ lines_before h c + 8 * vertical_of h c
+lines_next : (h : HeadValue) (c : ℕ) → c < components_of h → lines_before_component h (c + 1) ≡ lines_before_component h c + 8 * vertical_of h c
 lines_next h c p = omega (arith, sum_by_more (λ (k : Component). k.vertical) h.components c no_component p)
 
-lines_grow : (h : HeadValue) (c d : ℕ) → c ≤ d → lines_before h c ≤ lines_before h d
+lines_grow : (h : HeadValue) (c d : ℕ) → c ≤ d → lines_before_component h c ≤ lines_before_component h d
 lines_grow h c d le =
     let f = λ (k : Component). k.vertical in
     omega (arith, sum_by-take-le f (take d h.components) c, ap (sum_by f) (take-take c d h.components le))
 
 -- component c's lines end before those of a later one
-lines_apart : (h : HeadValue) (c d : ℕ) → c < components_of h → c < d → lines_before h c + 8 * vertical_of h c ≤ lines_before h d
+lines_apart : (h : HeadValue) (c d : ℕ) → c < components_of h → c < d → lines_before_component h c + 8 * vertical_of h c ≤ lines_before_component h d
 lines_apart h c d p lt = omega (arith, lines_next h c p, lines_grow h (c + 1) d (omega (arith, lt)))
 
-lines_within : (h : HeadValue) (c : ℕ) → c < components_of h → lines_before h c + 8 * vertical_of h c ≤ all_lines h
+lines_within : (h : HeadValue) (c : ℕ) → c < components_of h → lines_before_component h c + 8 * vertical_of h c ≤ all_lines h
 lines_within h c p = lines_apart h c (components_of h) p p
 
 -- data unit i of component c
 module _ (h : HeadValue) (l : IsLawful h) (c m i r : ℕ) (p : c < components_of h) (few : i < horizontal_of h c * vertical_of h c) (column : m < mcus_across h) (row : r < 8) where
-  in_lines : lines_before h c + 8 * (i / horizontal_of h c) + r < lines_before h c + 8 * vertical_of h c
+  in_lines : lines_before_component h c + 8 * (i / horizontal_of h c) + r < lines_before_component h c + 8 * vertical_of h c
   in_lines =
       let turned : horizontal_of h c * vertical_of h c ≡ vertical_of h c * horizontal_of h c = grind arith in
       let down : i / horizontal_of h c < vertical_of h c = div_below i (horizontal_of h c) (vertical_of h c) (sampled_at h c l p).across (omega (arith, few, turned)) in
@@ -100,7 +100,7 @@ module _ (h : HeadValue) (l : IsLawful h) (c m i r : ℕ) (p : c < components_of
 
   group_inside : group_in h c i m r < all_lines h * groups_across h
   group_inside =
-      let line = lines_before h c + 8 * (i / horizontal_of h c) + r in
+      let line = lines_before_component h c + 8 * (i / horizontal_of h c) + r in
       let group = m * horizontal_of h c + i % horizontal_of h c in
       let place = mul-add-lt line (groups_across h) group (all_lines h) (omega (arith, in_lines, lines_within h c p)) in_line in
       let turned : groups_across h * all_lines h ≡ all_lines h * groups_across h = grind arith in
@@ -117,7 +117,7 @@ inside h m j r l column lt row =
     group_inside h l c m (j - blocks_before h c) r (whose h j l lt).0 (own_number h j l lt) column row
 
 -- a line and a position in it determine the component, by the lines of each
-one_component : (h : HeadValue) (c n d k : ℕ) → c < components_of h → d < components_of h → n < 8 * vertical_of h c → k < 8 * vertical_of h d → lines_before h c + n ≡ lines_before h d + k → c ≡ d
+one_component : (h : HeadValue) (c n d k : ℕ) → c < components_of h → d < components_of h → n < 8 * vertical_of h c → k < 8 * vertical_of h d → lines_before_component h c + n ≡ lines_before_component h d + k → c ≡ d
 one_component h c n d k p q few less e =
     elim (cases_lt c d) [
       | inl before ↦ absurd (omega (arith, lines_apart h c d p before, few, e))
@@ -145,11 +145,11 @@ module _ (h : HeadValue) (l : IsLawful h) (c m i r c' m' i' r' : ℕ) (p : c < c
       let place' = m' * horizontal_of h c' + i' % horizontal_of h c' in
       let lies = in_line h l c m i r p few column row in
       let lies' = in_line h l c' m' i' r' p' few' column' row' in
-      let two = same_from_place (lines_before h c + 8 * (i / horizontal_of h c) + r) place (lines_before h c' + 8 * (i' / horizontal_of h c') + r') place' (groups_across h) lies lies' e in
+      let two = same_from_place (lines_before_component h c + 8 * (i / horizontal_of h c) + r) place (lines_before_component h c' + 8 * (i' / horizontal_of h c') + r') place' (groups_across h) lies lies' e in
       let low : n < 8 * vertical_of h c = omega (arith, in_lines h l c m i r p few column row) in
       let low' : k < 8 * vertical_of h c' = omega (arith, in_lines h l c' m' i' r' p' few' column' row') in
       let one : c ≡ c' = one_component h c n c' k p p' low low' (omega (arith, two.0)) in
-      let line = two.0 ∙ ap (λ (d : ℕ). lines_before h d + 8 * (i' / horizontal_of h d) + r') (sym one) in
+      let line = two.0 ∙ ap (λ (d : ℕ). lines_before_component h d + 8 * (i' / horizontal_of h d) + r') (sym one) in
       let across = two.1 ∙ ap (λ (d : ℕ). m' * horizontal_of h d + i' % horizontal_of h d) (sym one) in
       let rest = one_unit (horizontal_of h c) m i r m' i' r' (sampled_at h c l p).across row row' (omega (arith, line)) across in
       (one, rest.0, rest.1, rest.2)
@@ -188,7 +188,7 @@ group_at line place line' place' w e f = ap (λ (n : ℕ). n * w + place) e ∙ 
 
 -- a sample lies in its line, in the group of eight of its column
 pub on_line : (h : HeadValue) (c x y : ℕ) → IsLawful h → c < components_of h
-    → (let s = spot_of h c x y in group_of h (x / (8 * horizontal_of h c)) s.block (y % 8) ≡ (lines_before h c + y % (8 * vertical_of h c)) * groups_across h + x / 8)
+    → (let s = spot_of h c x y in group_of h (x / (8 * horizontal_of h c)) s.block (y % 8) ≡ (lines_before_component h c + y % (8 * vertical_of h c)) * groups_across h + x / 8)
 on_line h c x y l p =
     let a = horizontal_of h c in
     let v = vertical_of h c in
@@ -200,7 +200,7 @@ on_line h c x y l p =
     let along = x % (8 * a) / 8 in
     let own : group_of h m block (y % 8) ≡ group_in h c (block - blocks_before h c) m (y % 8) = ap (λ (d : ℕ). group_in h d (block - blocks_before h d) m (y % 8)) (component_there h c x y l p) in
     let number : block - blocks_before h c ≡ down * a + along = omega arith in
-    let line : lines_before h c + 8 * ((down * a + along) / a) + y % 8 ≡ lines_before h c + y % (8 * v) = omega (arith, div-mul-add down a along there.block_across, unit_line y v s.down) in
+    let line : lines_before_component h c + 8 * ((down * a + along) / a) + y % 8 ≡ lines_before_component h c + y % (8 * v) = omega (arith, div-mul-add down a along there.block_across, unit_line y v s.down) in
     let place : m * a + (down * a + along) % a ≡ x / 8 = omega (arith, mod-mul-add down a along there.block_across, unit_column x a s.across) in
     own ∙ ap (λ (i : ℕ). group_in h c i m (y % 8)) number
-    ∙ group_at (lines_before h c + 8 * ((down * a + along) / a) + y % 8) (m * a + (down * a + along) % a) (lines_before h c + y % (8 * v)) (x / 8) (groups_across h) line place
+    ∙ group_at (lines_before_component h c + 8 * ((down * a + along) / a) + y % 8) (m * a + (down * a + along) % a) (lines_before_component h c + y % (8 * v)) (x / 8) (groups_across h) line place

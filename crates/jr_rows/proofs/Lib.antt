@@ -1,8 +1,6 @@
 pub mod BandLines
-pub mod CodedUnits
 pub mod Countings
-pub mod CursorSteps
-pub mod FirstBoards
+pub mod FirstDecoded
 pub mod GroupLists
 pub mod GroupNumbers
 pub mod GroupSamples

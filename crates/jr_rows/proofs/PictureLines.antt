@@ -16,21 +16,20 @@ use Rattle.jr_paint.proofs.Places.{mcu_inside}
 use Rattle.jr_mcu.specs.Mcus.{component}
 use Rattle.jr_piece.specs.PieceValue.{PieceValue}
 use Rattle.jr_piece.specs.Units.{grey_unit}
-use Rattle.jr_picture.specs.BoardValue.{BoardValue}
-use Rattle.jr_picture.specs.Boards.{piece_at}
+use Rattle.jr_picture.specs.DecodedScan.{DecodedScan, piece_at}
 use Rattle.jr_picture.specs.Headline.{blank_of, interval_number, spot_of}
 use Rattle.jr_picture.specs.Headline.{unit_number}
 use Rattle.jr_picture.specs.Samples.{sample_in, sample_of_piece, samples_of}
-use Rattle.jr_picture.proofs.BoardPictures.{block_there, shown_is}
+use Rattle.jr_picture.proofs.DecodedPictures.{block_there, shown_is}
 use Rattle.jr_picture.proofs.Pictures.{line_same}
 use Rattle.jr_rows.specs.Bands.{sample_in_groups, samples_in, unit_shown_of, unit_shown, ShowsMcus}
-use Rattle.jr_rows.specs.Groups.{group_of, groups_across, lines_before, unit_in, units_in}
+use Rattle.jr_rows.specs.Groups.{group_of, groups_across, lines_before_component, unit_in, units_in}
 use Rattle.jr_rows.proofs.GroupLists.{units_at, units_long}
 use Rattle.jr_rows.proofs.GroupLists.{unit_sample as unit_at}
 use Rattle.jr_rows.proofs.GroupNumbers.{on_line}
 use Rattle.jr_rows.proofs.UnitComponents.{component_there}
 
--- the samples of a data unit, as a board shows it
+-- the samples of a data unit of a decoded scan
 unit_sample : (h : HeadValue) (c j n place : ℕ) (q : Option PieceValue) → component h j ≡ c → place < 64 → slice_index (unit_shown_of h j q n) place ≡ sample_of_piece h.kind c q n place
 unit_sample h c j n place None e low = get_or-replicate 64 place (blank_of h.kind (component h j)) 0 low ∙ ap (blank_of h.kind) e
 unit_sample h c j n place (Some p) e low = elim (cases_lt n (length p.samples)) [
@@ -40,7 +39,7 @@ unit_sample h c j n place (Some p) e low = elim (cases_lt n (length p.samples)) 
       ap (λ (u : List ℕ). get_or u place 0) grey ∙ get_or-replicate 64 place 128 0 low ∙ sym (ap (λ (o : Option (List ℕ)). sample_in o place) (slice_get_past p.samples n past))
 ]
 
-same_unit : (b : BoardValue) (mcu j mcu' j' : ℕ) → mcu ≡ mcu' → j ≡ j' → unit_shown b mcu j ≡ unit_shown b mcu' j'
+same_unit : (b : DecodedScan) (mcu j mcu' j' : ℕ) → mcu ≡ mcu' → j ≡ j' → unit_shown b mcu j ≡ unit_shown b mcu' j'
 same_unit b mcu j mcu' j' e f = ap (λ (n : ℕ). unit_shown b n j) e ∙ ap (λ (n : ℕ). unit_shown b mcu' n) f
 
 -- sample n after `g` groups of eight
@@ -63,7 +62,7 @@ in_band h l groups c x y p =
     let turned : 8 * (y % 8) + x % 8 ≡ y % 8 * 8 + x % 8 = omega arith in
     let line : (8 * (y % 8) + x % 8) / 8 ≡ y % 8 = ap (λ n. n / 8) turned ∙ div-mul-add (y % 8) 8 (x % 8) col in
     let place : (8 * (y % 8) + x % 8) % 8 ≡ x % 8 = ap (λ n. n % 8) turned ∙ mod-mul-add (y % 8) 8 (x % 8) col in
-    in_eights groups ((lines_before h c + y % (8 * vertical_of h c)) * groups_across h) x
+    in_eights groups ((lines_before_component h c + y % (8 * vertical_of h c)) * groups_across h) x
     ∙ ap (λ n. slice_index (slice_index_or groups n []) (x % 8)) (sym (on_line h c x y l p))
     ∙ sym (unit_at h groups m s.block (8 * (y % 8) + x % 8) (omega (arith, row, col))
     ∙ ap (λ n. slice_index (slice_index_or groups (group_of h m s.block n) []) ((8 * (y % 8) + x % 8) % 8)) line
@@ -77,7 +76,7 @@ row_of r k a m some lt =
     let whole : m * (8 * a) ≡ a * (8 * m) = grind arith in
     div-div-eq-div-mul (n * a) m (8 * a) ∙ ap (λ (d : ℕ). n * a / d) whole ∙ ap (λ (z : ℕ). z / (a * (8 * m))) turned ∙ mul-div-mul_left n (8 * m) some ∙ div-mul-add r (8 * m) k lt
 
-module _ (b : BoardValue) (l : IsLawful b.scan.head) (r : ℕ) (groups : List (List ℕ)) (shows : ShowsMcus b (r * mcus_across b.scan.head) (units_in b.scan.head groups)) where
+module _ (b : DecodedScan) (l : IsLawful b.scan.head) (r : ℕ) (groups : List (List ℕ)) (shows : ShowsMcus b (r * mcus_across b.scan.head) (units_in b.scan.head groups)) where
   -- the samples of a row are those of the image
   pub row_samples : (c x y : ℕ) → c < components_of b.scan.head → x < samples_across b.scan.head c → y < samples_down b.scan.head c → y / (8 * vertical_of b.scan.head c) ≡ r
       → samples_in (record { head = b.scan.head; groups = groups }) c x y ≡ samples_of b c x y

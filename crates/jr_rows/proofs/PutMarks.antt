@@ -10,9 +10,9 @@ use Rattle.jr_piece.specs.PieceValue.{PieceValue}
 use Rattle.jr_piece.specs.Outcome.{IsOutcome}
 use Rattle.jr_picture.specs.declared.mark.Mark.{Mark}
 use Rattle.jr_picture.specs.declared.mark.Mark.TheVariants.{Blank, Sound, Damaged}
-use Rattle.jr_picture.specs.Boards.{mark_of}
+use Rattle.jr_picture.specs.DecodedScan.{mark_of}
 use Rattle.jr_picture.specs.Headline.{mark_in}
-use Rattle.jr_picture.proofs.BoardPictures.{marks_at}
+use Rattle.jr_picture.proofs.DecodedPictures.{marks_at}
 use Rattle.jr_rows.specs.MarkBytes.{PutsMarks, mark_byte}
 use Rattle.jr_rows.proofs.ReadRows.{mark_there}
 

@@ -19,16 +19,15 @@ use Rattle.jr_piece.specs.Strips.{units_before}
 use Rattle.jr_piece.specs.Units.{CodesUnits, unit_in_piece}
 use Rattle.jr_picture.specs.declared.mark.Mark.{Mark}
 use Rattle.jr_picture.specs.declared.mark.Mark.TheVariants.{Blank, Sound, Damaged}
-use Rattle.jr_picture.specs.BoardValue.{BoardValue}
-use Rattle.jr_picture.specs.Boards.{piece_at, mark_of, marks_of}
+use Rattle.jr_picture.specs.DecodedScan.{DecodedScan, piece_at, mark_of, marks_of}
 use Rattle.jr_picture.specs.Headline.{is_sound, is_damaged, interval_number, within_interval}
-use Rattle.jr_picture.proofs.BoardPictures.{marks_at, interval_is}
-use Rattle.jr_rows.proofs.FirstBoards.{marks_there, not_blank}
+use Rattle.jr_picture.proofs.DecodedPictures.{marks_at, interval_is}
+use Rattle.jr_rows.proofs.FirstDecoded.{marks_there, not_blank}
 use Rattle.jr_rows.proofs.IntervalPlaces.{interval_at}
 use Rattle.jr_rows.specs.Bands.{unit_shown_of}
 use Rattle.jr_rows.specs.Cursors.{mcus_to}
-use Rattle.jr_rows.specs.Rows.{HasFirst, CountsMarks, GivesBehind}
-use Rattle.jr_rows.specs.declared.cursor.Cursor.{Cursor}
+use Rattle.jr_rows.specs.Rows.{DecodesFirst, CountsMarks, GivesBehind}
+use Rattle.jr_piece.specs.declared.cursor.Cursor.{Cursor}
 use Rattle.jr_rows.specs.declared.marked.Marked.{Marked}
 
 -- a count after one more mark
@@ -45,13 +44,13 @@ same_scans : (a s : ScanValue) → a ≡ s → IsSameScan a s
 same_scans a s e = (ap (λ (t : ScanValue). t.head) e, ap (λ (t : ScanValue). t.intervals) e)
 
 -- what is posted of a decoded interval
-pub record IsThere (scan : ScanValue) (b : BoardValue) (number : ℕ) : Type 0 where
+pub record IsThere (scan : ScanValue) (b : DecodedScan) (number : ℕ) : Type 0 where
   pub piece : PieceValue
   pub at : piece_at b number ≡ Some piece
   pub outcome : IsOutcome piece
   pub interval : piece.interval ≡ interval_of scan number
 
-there : (scan : ScanValue) (n : ℕ) (b : BoardValue) → HasFirst scan n b → (number : ℕ) → number < n → (q : Option PieceValue) → piece_at b number ≡ q → IsThere scan b number
+there : (scan : ScanValue) (n : ℕ) (b : DecodedScan) → DecodesFirst scan n b → (number : ℕ) → number < n → (q : Option PieceValue) → piece_at b number ≡ q → IsThere scan b number
 there scan n b first number lt None e = absurd (first.first.marked number lt (marks_at b.pieces number ∙ ap mark_of e))
 there scan n b first number lt (Some p) e = record {
   piece = p;
@@ -60,15 +59,15 @@ there scan n b first number lt (Some p) e = record {
   interval = interval_is b scan number p first.lawful (same_scans b.scan scan first.scan_is) e;
 }
 
-pub posted_there : (scan : ScanValue) (n : ℕ) (b : BoardValue) → HasFirst scan n b → (number : ℕ) → number < n → IsThere scan b number
+pub posted_there : (scan : ScanValue) (n : ℕ) (b : DecodedScan) → DecodesFirst scan n b → (number : ℕ) → number < n → IsThere scan b number
 posted_there scan n b first number lt = there scan n b first number lt (piece_at b number) refl
 
-none : (scan : ScanValue) (n : ℕ) (b : BoardValue) → HasFirst scan n b → (number : ℕ) → n ≤ number → (q : Option PieceValue) → piece_at b number ≡ q → q ≡ None
+none : (scan : ScanValue) (n : ℕ) (b : DecodedScan) → DecodesFirst scan n b → (number : ℕ) → n ≤ number → (q : Option PieceValue) → piece_at b number ≡ q → q ≡ None
 none scan n b first number le None e = refl
 none scan n b first number le (Some p) e = absurd (not_blank p.is_sound (sym (marks_at b.pieces number ∙ ap mark_of e) ∙ first.first.blank number le))
 
 -- nothing is posted of the others
-pub none_there : (scan : ScanValue) (n : ℕ) (b : BoardValue) → HasFirst scan n b → (number : ℕ) → n ≤ number → piece_at b number ≡ None
+pub none_there : (scan : ScanValue) (n : ℕ) (b : DecodedScan) → DecodesFirst scan n b → (number : ℕ) → n ≤ number → piece_at b number ≡ None
 none_there scan n b first number le = none scan n b first number le (piece_at b number) refl
 
 -- no mark
@@ -79,16 +78,16 @@ counts_none scan n from to m s d e = record {
   damaged = λ b first. let same = ap (λ (k : ℕ). count_by is_damaged (take k (marks_of b))) e in omega (arith, d, same);
 }
 
--- the mark of a decoded interval on a board, if its outcome is known
+-- the mark of a decoded interval, if its outcome is known
 pub mark_there : (scan : ScanValue) (n number : ℕ) → number < n → (t : Bool) → ((p : PieceValue) → IsOutcome p → p.interval ≡ interval_of scan number → p.is_sound ≡ t)
-    → (b : BoardValue) → HasFirst scan n b → mark_of (piece_at b number) ≡ cond t Sound Damaged
+    → (b : DecodedScan) → DecodesFirst scan n b → mark_of (piece_at b number) ≡ cond t Sound Damaged
 mark_there scan n number decoded t tells b first =
     let p = posted_there scan n b first number decoded in
     ap mark_of p.at ∙ ap (λ (s : Bool). cond s Sound Damaged) (tells p.piece p.outcome p.interval)
 
 -- the mark of one interval
 module _ (scan : ScanValue) (n number : ℕ) (m : Marked) (decoded : number < n) (few : number < length scan.intervals) where
-  one_more : (f : Mark → Bool) (b : BoardValue) (first : HasFirst scan n b) (k : Mark) → mark_of (piece_at b number) ≡ k → count_by f (take (number + 1) (marks_of b)) ≡ count_by f (take number (marks_of b)) + cond (f k) 1 0
+  one_more : (f : Mark → Bool) (b : DecodedScan) (first : DecodesFirst scan n b) (k : Mark) → mark_of (piece_at b number) ≡ k → count_by f (take (number + 1) (marks_of b)) ≡ count_by f (take number (marks_of b)) + cond (f k) 1 0
   one_more f b first k e =
       let inside : number < length (marks_of b) = omega (arith, few, marks_there scan n b first) in
       count_next f (marks_of b) number k inside (marks_at b.pieces number ∙ e)
@@ -113,7 +112,7 @@ counts_both scan n from at to k m r a c s d = record {
   damaged = λ b first. omega (arith, a.damaged b first, c.damaged b first, d);
 }
 
--- the blocks of MCUs of an interval have the samples that a board of the scan shows
+-- the blocks of MCUs of an interval have the samples of the decoded scan
 module _ (scan : ScanValue) (limit : ℕ) (r : Cursor) (mcus done : ℕ) (sub new : List (List ℤ)) (some : 0 < blocks_of scan.head) (number : r.number < intervals_of scan.head) (decoded : r.number < limit) (few : r.mcu + mcus ≤ mcus_in scan.head r.number)
     (long : length sub ≡ mcus * blocks_of scan.head)
     (codes : (p : PieceValue) → IsOutcome p → p.interval ≡ interval_of scan r.number → CodesUnits p (units_before (interval_of scan r.number) r.mcu) sub)

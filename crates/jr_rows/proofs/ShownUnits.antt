@@ -6,11 +6,10 @@ use Rattle.jr_head.specs.HeadValue.{HeadValue}
 use Rattle.jr_head.specs.Geometry.{order_of, blocks_of, mcus_across, mcus_down, mcus_of}
 use Rattle.jr_head.proofs.SamplingLaws.{length-order}
 use Rattle.jr_scan.specs.ScanValue.{ScanValue}
-use Rattle.jr_picture.specs.BoardValue.{BoardValue}
-use Rattle.jr_picture.specs.Boards.{piece_at}
+use Rattle.jr_picture.specs.DecodedScan.{DecodedScan, piece_at}
 use Rattle.jr_picture.specs.Headline.{blank_of, interval_number, within_interval}
 use Rattle.jr_rows.specs.Bands.{ShowsMcus, unit_shown, unit_shown_of}
-use Rattle.jr_rows.specs.Rows.{HasFirst, ShowsFirstUnits, coded_before, coded_in, mcus_before}
+use Rattle.jr_rows.specs.Rows.{DecodesFirst, ShowsFirstUnits, coded_before, coded_in, mcus_before}
 use Rattle.jr_rows.proofs.IntervalPlaces.{behind_first}
 use Rattle.jr_rows.proofs.PictureRows.{row_inside}
 use Rattle.jr_rows.proofs.ReadRows.{none_there}
@@ -40,7 +39,7 @@ module _ (scan : ScanValue) (n row : ℕ) (below : row < mcus_down scan.head) (s
   module _ (units : List (List ℕ)) (long : length units ≡ mcus_across h * per)
       (decoded : ShowsFirstUnits scan n (coded_before h n row) (coded_in h n row) units)
       (blank : (k : ℕ) → coded_in h n row * per ≤ k → k < length units → slice_index_or units k [] ≡ unit_shown_of h (k % per) None 0) where
-    each : (b : BoardValue) → HasFirst scan n b → (k : ℕ) → k < length units → slice_index_or units k [] ≡ unit_shown b (row * mcus_across h + k / per) (k % per)
+    each : (b : DecodedScan) → DecodesFirst scan n b → (k : ℕ) → k < length units → slice_index_or units k [] ≡ unit_shown b (row * mcus_across h + k / per) (k % per)
     each b first k lt = elim (cases_lt k (coded_in h n row * per)) [
       | inl l ↦
           let positive : 0 < coded_in h n row = elim (cases_lt 0 (coded_in h n row)) [
@@ -61,7 +60,7 @@ module _ (scan : ScanValue) (n row : ℕ) (below : row < mcus_down scan.head) (s
           ∙ ap (λ (t : ScanValue). unit_shown_of t.head (k % per) (piece_at b (interval_number t.head (row * mcus_across h + j))) (within_interval t.head (row * mcus_across h + j) * blocks_of t.head + k % per)) (sym first.scan_is)
     ]
 
-    -- so the row's data units are those of the board
-    pub row_shown : (b : BoardValue) → HasFirst scan n b → ShowsMcus b (row * mcus_across h) units
+    -- so the row's data units are those of the decoded scan
+    pub row_shown : (b : DecodedScan) → DecodesFirst scan n b → ShowsMcus b (row * mcus_across h) units
     row_shown b first =
         subst (λ (t : ScanValue). (k : ℕ) → k < length units → slice_index_or units k [] ≡ unit_shown b (row * mcus_across h + k / blocks_of t.head) (k % blocks_of t.head)) (sym first.scan_is) (each b first)

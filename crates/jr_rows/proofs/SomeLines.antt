@@ -12,13 +12,12 @@ use Rattle.jr_paint.specs.Lines.{next_lines_of}
 use Rattle.jr_scan.specs.IntervalValue.{IntervalValue}
 use Rattle.jr_scan.specs.ScanValue.{ScanValue}
 use Rattle.jr_piece.specs.Outcome.{HasOutcome}
-use Rattle.jr_picture.specs.BoardValue.{BoardValue}
-use Rattle.jr_picture.specs.Boards.{marks_of}
+use Rattle.jr_picture.specs.DecodedScan.{DecodedScan, marks_of}
 use Rattle.jr_picture.specs.Samples.{samples_of}
-use Rattle.jr_rows.specs.Rows.{HasFirst}
+use Rattle.jr_rows.specs.Rows.{DecodesFirst}
 use Rattle.jr_rows.specs.SomeLines.{CountsBetween, PaintsLines, row_behind, row_with}
 use Rattle.jr_rows.specs.declared.marked.Marked.{Marked}
-use Rattle.jr_rows.proofs.FirstBoards.{first_board, shows_first}
+use Rattle.jr_rows.proofs.FirstDecoded.{first_decoded, shows_first}
 
 -- the rows of `deep` lines that have lines `first` to `end`
 module _ (deep first end height : ℕ) (p : 0 < deep) (some : first < end) (inside : end ≤ height) where
@@ -54,13 +53,13 @@ next_done h first end row y count some starts reaches at to =
     let next = add-mul row 1 (8 * vertical_max h) in
     (omega (arith, some, starts, at), omega (arith, some, starts, reaches, at, to, next))
 
--- what every board of a scan shows there is lines of its image
+-- the lines of a decoded scan there are lines of its image
 pub painted_lines : ((i : IntervalValue) → HasOutcome i) → (scan : ScanValue) → IsLawful scan.head → (first count : ℕ) (pixels : List ℕ) (m : Marked)
-    → ((b : BoardValue) → HasFirst scan (length scan.intervals) b → pixels ≡ next_lines_of scan.head (samples_of b) first (first + count - first))
+    → ((b : DecodedScan) → DecodesFirst scan (length scan.intervals) b → pixels ≡ next_lines_of scan.head (samples_of b) first (first + count - first))
     → CountsBetween scan (row_with scan.head first) (row_behind scan.head (first + count)) m → PaintsLines scan first count pixels m
 painted_lines each scan lawful first count pixels m lines counts =
     let n = length scan.intervals in
-    let board = first_board each scan n (omega arith) in
+    let board = first_decoded each scan n (omega arith) in
     let size : first + count - first ≡ count = omega arith in
     record {
       marks = marks_of board.0;

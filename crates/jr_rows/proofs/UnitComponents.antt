@@ -13,7 +13,7 @@ use Rattle.jr_paint.proofs.Factors.{sampled_at}
 use Rattle.jr_paint.proofs.Places.{place_of_lies}
 use Rattle.jr_mcu.specs.Mcus.{component}
 use Rattle.jr_picture.specs.Headline.{spot_of}
-use Rattle.jr_picture.proofs.BoardPictures.{block_there}
+use Rattle.jr_picture.proofs.DecodedPictures.{block_there}
 
 -- data unit k of those of component c
 in_order : (i : ℕ) (cs : List Component) (c k : ℕ) → c < length cs → k < units_of (get_or cs c no_component) → get_or (order_from i cs) (sum_by units_of (take c cs) + k) 0 ≡ i + c

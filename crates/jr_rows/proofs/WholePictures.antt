@@ -8,16 +8,15 @@ use Rattle.jr_scan.specs.IntervalValue.{IntervalValue}
 use Rattle.jr_scan.specs.ScanValue.{ScanValue, intervals_of}
 use Rattle.jr_piece.specs.Outcome.{HasOutcome}
 use Rattle.jr_picture.specs.declared.counts.Counts.{Counts}
-use Rattle.jr_picture.specs.BoardValue.{BoardValue}
-use Rattle.jr_picture.specs.Boards.{marks_of}
+use Rattle.jr_picture.specs.DecodedScan.{DecodedScan, marks_of}
 use Rattle.jr_picture.specs.Samples.{samples_of}
 use Rattle.jr_rows.specs.MarkBytes.{HasMarkRoom, PutsBetween, mark_byte}
-use Rattle.jr_rows.specs.Rows.{HasFirst}
+use Rattle.jr_rows.specs.Rows.{DecodesFirst}
 use Rattle.jr_rows.specs.SomeLines.{row_with}
 use Rattle.jr_rows.specs.Stream.{HasCounts}
 use Rattle.jr_rows.specs.Whole.{PaintsWhole}
 use Rattle.jr_rows.proofs.Countings.{all_last, none_first}
-use Rattle.jr_rows.proofs.FirstBoards.{first_board, marks_there, shows_first}
+use Rattle.jr_rows.proofs.FirstDecoded.{first_decoded, marks_there, shows_first}
 use Rattle.jr_rows.proofs.PutMarks.{are_marks}
 
 -- the row of MCUs that has the first line
@@ -31,7 +30,7 @@ all_lines h f n = refl
 
 module _ (scan : ScanValue) (some : 0 < mcus_of scan.head) (more : 0 < intervals_of scan.head) (count : length scan.intervals ≡ intervals_of scan.head) where
   -- the marks of the intervals of all rows are all marks
-  pub all_put : (old new : List ℕ) → HasMarkRoom scan old → PutsBetween scan 0 (mcus_down scan.head) old new → (b : BoardValue) → HasFirst scan (length scan.intervals) b → 0 < length old → new ≡ map mark_byte (marks_of b)
+  pub all_put : (old new : List ℕ) → HasMarkRoom scan old → PutsBetween scan 0 (mcus_down scan.head) old new → (b : DecodedScan) → DecodesFirst scan (length scan.intervals) b → 0 < length old → new ≡ map mark_byte (marks_of b)
   all_put old new room puts b first there =
       let n = length scan.intervals in
       let from = none_first scan.head n some more in
@@ -39,13 +38,13 @@ module _ (scan : ScanValue) (some : 0 < mcus_of scan.head) (more : 0 < intervals
       let marks = marks_there scan n b first in
       are_marks (marks_of b) new (puts.long ∙ room there ∙ sym marks) (λ k lt. puts.put b first there k (omega (arith, from)) (omega (arith, to, lt, marks)))
 
-  -- what every board of the scan shows is its image
+  -- the samples of the decoded scan are its image
   pub painted_whole : ((i : IntervalValue) → HasOutcome i) → IsLawful scan.head → (pixels old new : List ℕ) (c : Counts)
-      → ((b : BoardValue) → HasFirst scan (length scan.intervals) b → pixels ≡ next_lines_of scan.head (samples_of b) 0 (scan.head.height - 0))
+      → ((b : DecodedScan) → DecodesFirst scan (length scan.intervals) b → pixels ≡ next_lines_of scan.head (samples_of b) 0 (scan.head.height - 0))
       → HasMarkRoom scan old → PutsBetween scan 0 (mcus_down scan.head) old new → HasCounts scan (length scan.intervals) c → PaintsWhole scan pixels old new c
   painted_whole each lawful pixels old new c lines room puts counts =
       let n = length scan.intervals in
-      let board = first_board each scan n (omega arith) in
+      let board = first_decoded each scan n (omega arith) in
       let f = samples_of board.0 in
       let size : scan.head.height - 0 ≡ scan.head.height = omega arith in
       record {

@@ -8,11 +8,11 @@ use Rattle.jr_head.specs.Geometry.{blocks_before, blocks_of, horizontal_max, hor
 use Rattle.jr_mcu.specs.Mcus.{component}
 
 -- the lines of the components before c, and of all
-abbrev pub lines_before : HeadValue → ℕ → ℕ
-lines_before h c = 8 * sum_by (λ (k : Component). k.vertical) (take c h.components)
+abbrev pub lines_before_component : HeadValue → ℕ → ℕ
+lines_before_component h c = 8 * sum_by (λ (k : Component). k.vertical) (take c h.components)
 
 abbrev pub all_lines : HeadValue → ℕ
-all_lines h = lines_before h (length h.components)
+all_lines h = lines_before_component h (length h.components)
 
 -- a line has space for that number of groups
 abbrev pub groups_across : HeadValue → ℕ
@@ -20,7 +20,7 @@ groups_across h = mcus_across h * horizontal_max h
 
 -- data unit i of component c in an MCU: the line of its first row, and its group there in MCU m
 abbrev pub group_in : HeadValue → (c i m r : ℕ) → ℕ
-group_in h c i m r = (lines_before h c + 8 * (i / horizontal_of h c) + r) * groups_across h + (m * horizontal_of h c + i % horizontal_of h c)
+group_in h c i m r = (lines_before_component h c + 8 * (i / horizontal_of h c) + r) * groups_across h + (m * horizontal_of h c + i % horizontal_of h c)
 
 -- the position of row r of data unit j of MCU m of the row
 abbrev pub group_of : HeadValue → (m j r : ℕ) → ℕ

@@ -1,7 +1,6 @@
 pub mod BandValue
 pub mod Bands
 pub mod Cursors
-pub mod FirstIntervalsValue
 pub mod Groups
 pub mod MarkBytes
 pub mod RowLines

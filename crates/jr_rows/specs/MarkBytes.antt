@@ -3,10 +3,9 @@ use Rattle.std.specs.Prelude.{◌≡◌, ℕ, ◌+◌, ◌<◌, ◌≤◌, List,
 use Rattle.jr_scan.specs.ScanValue.{ScanValue}
 use Rattle.jr_picture.specs.declared.mark.Mark.{Mark}
 use Rattle.jr_picture.specs.declared.mark.Mark.TheVariants.{Blank, Sound, Damaged}
-use Rattle.jr_picture.specs.BoardValue.{BoardValue}
-use Rattle.jr_picture.specs.Boards.{marks_of}
+use Rattle.jr_picture.specs.DecodedScan.{DecodedScan, marks_of}
 use Rattle.jr_picture.specs.Headline.{mark_in}
-use Rattle.jr_rows.specs.Rows.{HasFirst, coded_before, intervals_before}
+use Rattle.jr_rows.specs.Rows.{DecodesFirst, coded_before, intervals_before}
 
 -- a mark as a byte
 abbrev pub mark_byte : Mark → ℕ
@@ -18,11 +17,11 @@ mark_byte Damaged = 2
 abbrev pub HasMarkRoom : ScanValue → List ℕ → Type 0
 HasMarkRoom scan bytes = 0 < length bytes → length bytes ≡ length scan.intervals
 
--- if marks are asked for, those of the intervals starting at number `from` and before `to` are written, as on every such board, and
--- those before are kept
+-- if marks are asked for, those of the intervals starting at number `from` and before `to` are written,
+-- and those before are kept
 pub record PutsMarks (scan : ScanValue) (n from to : ℕ) (old new : List ℕ) : Type 0 where
   pub long : length new ≡ length old
-  pub put : (b : BoardValue) → HasFirst scan n b → 0 < length old → (k : ℕ) → from ≤ k → k < to → slice_index new k ≡ mark_byte (mark_in (marks_of b) k)
+  pub put : (b : DecodedScan) → DecodesFirst scan n b → 0 < length old → (k : ℕ) → from ≤ k → k < to → slice_index new k ≡ mark_byte (mark_in (marks_of b) k)
   pub kept : (k : ℕ) → k < from → slice_index new k ≡ slice_index old k
 
 -- those of the intervals that end among MCUs `from` to `to`

@@ -5,23 +5,22 @@ use Rattle.jr_head.specs.Geometry.{blocks_of, mcus_across, mcus_down, mcus_of, v
 use Rattle.jr_paint.specs.Lines.{line_room, next_lines_of}
 use Rattle.jr_scan.specs.ScanValue.{ScanValue, intervals_of}
 use Rattle.jr_piece.specs.Outcome.{unit_of}
-use Rattle.jr_picture.specs.BoardValue.{BoardValue}
-use Rattle.jr_picture.specs.Boards.{IsLawfulBoard, marks_of}
+use Rattle.jr_picture.specs.DecodedScan.{DecodedScan, IsDecodedScan, marks_of}
 use Rattle.jr_picture.specs.Headline.{AreFirst, is_sound, is_damaged, interval_number}
 use Rattle.jr_picture.specs.Samples.{samples_of}
 use Rattle.jr_rows.specs.Bands.{ShowsMcus, unit_shown}
 use Rattle.jr_rows.specs.Groups.{units_in}
 use Rattle.jr_rows.specs.RowLines.{HasLines, mcus_at_once}
 use Rattle.jr_rows.specs.Cursors.{IsCursorOf, mcus_to}
-use Rattle.jr_rows.specs.FirstIntervalsValue.{FirstIntervalsValue}
+use Rattle.jr_picture.specs.FirstIntervalsValue.{FirstIntervalsValue}
 use Rattle.jr_rows.specs.RowsValue.{RowValue, SampleRowValue}
 use Rattle.jr_rows.specs.declared.marked.Marked.{Marked}
 use Rattle.jr_rows.specs.declared.rows.Rows.{Rows}
 
--- the board of the scan on which the first n intervals are marked, and no other
-pub record HasFirst (scan : ScanValue) (n : ℕ) (b : BoardValue) : Type 0 where
+-- the scan with its first n intervals decoded, and no other
+pub record DecodesFirst (scan : ScanValue) (n : ℕ) (b : DecodedScan) : Type 0 where
   pub scan_is : b.scan ≡ scan
-  pub lawful : IsLawfulBoard b
+  pub lawful : IsDecodedScan b
   pub first : AreFirst n (marks_of b)
 
 -- the MCUs of the first n intervals
@@ -45,34 +44,34 @@ pub record AreRowsOf (part : FirstIntervalsValue) (r : Rows) : Type 0 where
   pub stands : IsCursorOf part.scan r.cursor
   pub at : mcus_to part.scan.head r.cursor ≡ coded_before part.scan.head part.limit r.row
 
--- the numbers of the intervals starting at number `from` and before `to` that are sound and damaged, on every such board
+-- the numbers of the intervals starting at number `from` and before `to` that are sound and damaged, if the first n are decoded
 pub record CountsMarks (scan : ScanValue) (n from to : ℕ) (m : Marked) : Type 0 where
   pub few : from + (m.sound + m.damaged) ≤ to
-  pub sound : (b : BoardValue) → HasFirst scan n b → count_by is_sound (take from (marks_of b)) + m.sound ≡ count_by is_sound (take to (marks_of b))
-  pub damaged : (b : BoardValue) → HasFirst scan n b → count_by is_damaged (take from (marks_of b)) + m.damaged ≡ count_by is_damaged (take to (marks_of b))
+  pub sound : (b : DecodedScan) → DecodesFirst scan n b → count_by is_sound (take from (marks_of b)) + m.sound ≡ count_by is_sound (take to (marks_of b))
+  pub damaged : (b : DecodedScan) → DecodesFirst scan n b → count_by is_damaged (take from (marks_of b)) + m.damaged ≡ count_by is_damaged (take to (marks_of b))
 
 -- the marks of the intervals that end among MCUs `from` to `to`
 abbrev pub CountsMcus : ScanValue → (n from to : ℕ) → Marked → Type 0
 CountsMcus scan n from to m = CountsMarks scan n (intervals_before scan.head from) (intervals_before scan.head to) m
 
--- the samples of the first `mcus` MCUs of these blocks are what every such board shows starting at MCU `from`
+-- the samples of the first `mcus` MCUs of these blocks are those of the decoded scan starting at MCU `from`
 abbrev pub GivesMcus : ScanValue → (n from mcus : ℕ) → List (List ℤ) → Type 0
-GivesMcus scan n from mcus blocks = (b : BoardValue) → HasFirst scan n b → (k : ℕ) → k < mcus * blocks_of scan.head
+GivesMcus scan n from mcus blocks = (b : DecodedScan) → DecodesFirst scan n b → (k : ℕ) → k < mcus * blocks_of scan.head
     → unit_of scan.head blocks k ≡ unit_shown b (from + k / blocks_of scan.head) (k % blocks_of scan.head)
 
 -- the same of the blocks after the first `before`
 abbrev pub GivesBehind : ScanValue → (n from before mcus : ℕ) → List (List ℤ) → Type 0
-GivesBehind scan n from before mcus blocks = (b : BoardValue) → HasFirst scan n b → (k : ℕ) → k < mcus * blocks_of scan.head
+GivesBehind scan n from before mcus blocks = (b : DecodedScan) → DecodesFirst scan n b → (k : ℕ) → k < mcus * blocks_of scan.head
     → unit_of scan.head blocks (before + k) ≡ unit_shown b (from + k / blocks_of scan.head) (k % blocks_of scan.head)
 
--- the data units of `mcus` MCUs, after the first `before`, are what every such board shows starting at MCU `from`
+-- the data units of `mcus` MCUs, after the first `before`, are those of the decoded scan starting at MCU `from`
 abbrev pub ShowsBehind : ScanValue → (n from before mcus : ℕ) → List (List ℕ) → Type 0
-ShowsBehind scan n from before mcus units = (b : BoardValue) → HasFirst scan n b → (k : ℕ) → k < mcus * blocks_of scan.head
+ShowsBehind scan n from before mcus units = (b : DecodedScan) → DecodesFirst scan n b → (k : ℕ) → k < mcus * blocks_of scan.head
     → slice_index_or units (before + k) [] ≡ unit_shown b (from + k / blocks_of scan.head) (k % blocks_of scan.head)
 
 -- the same of the first ones
 abbrev pub ShowsFirstUnits : ScanValue → (n from mcus : ℕ) → List (List ℕ) → Type 0
-ShowsFirstUnits scan n from mcus units = (b : BoardValue) → HasFirst scan n b → (k : ℕ) → k < mcus * blocks_of scan.head
+ShowsFirstUnits scan n from mcus units = (b : DecodedScan) → DecodesFirst scan n b → (k : ℕ) → k < mcus * blocks_of scan.head
     → slice_index_or units k [] ≡ unit_shown b (from + k / blocks_of scan.head) (k % blocks_of scan.head)
 
 -- the blocks of a row's decoded MCUs are read
@@ -105,12 +104,12 @@ first_line h row = row * (8 * vertical_max h)
 abbrev pub line_count : HeadValue → ℕ → ℕ
 line_count h row = min (8 * vertical_max h) (h.height - first_line h row)
 
--- these are the lines of a row of MCUs, as every such board shows them
+-- these are the lines of a row of MCUs of the decoded scan
 abbrev pub ShowsLines : ScanValue → (n row : ℕ) → List ℕ → Type 0
-ShowsLines scan n row pixels = (b : BoardValue) → HasFirst scan n b
+ShowsLines scan n row pixels = (b : DecodedScan) → DecodesFirst scan n b
     → pixels ≡ next_lines_of scan.head (samples_of b) (first_line scan.head row) (line_count scan.head row)
 
--- the same, as every board with this header shows them that shows these samples there
+-- the same, of each decoded scan with this header that has these samples there
 abbrev pub PaintsRowLines : HeadValue → (row : ℕ) → (groups : List (List ℕ)) → List ℕ → Type 0
-PaintsRowLines h row groups pixels = (b : BoardValue) → b.scan.head ≡ h → ShowsMcus b (row * mcus_across h) (units_in h groups)
+PaintsRowLines h row groups pixels = (b : DecodedScan) → b.scan.head ≡ h → ShowsMcus b (row * mcus_across h) (units_in h groups)
     → pixels ≡ next_lines_of h (samples_of b) (first_line h row) (line_count h row)

@@ -5,8 +5,8 @@ ghost use Rattle.jr_rows.specs.Rows.{HasSampleRoom};
 
 use crate::announcing::announce;
 use crate::painter::RowPainter;
-use crate::{FirstIntervals, Marked, Rows, SampleRow};
-use jr_picture::Gate;
+use crate::{Marked, Rows, SampleRow};
+use jr_picture::{FirstIntervals, Gate};
 use std::marker::Model;
 
 /// The calling thread's part of a scan: all of it.

@@ -4,10 +4,10 @@ ghost use Rattle.std.specs.Prelude.{◌≡◌, ℕ, ◌+◌, ◌*◌, ◌/◌, �
 ghost use Rattle.jr_head.specs.Geometry.{IsLawful, components_of, vertical_of};
 ghost use Rattle.jr_paint.specs.Geometry.{samples_down};
 ghost use Rattle.jr_rows.specs.Bands.{sample_in_groups, samples_in};
-ghost use Rattle.jr_rows.specs.Groups.{groups_across, lines_before};
+ghost use Rattle.jr_rows.specs.Groups.{groups_across, lines_before_component};
 ghost use Rattle.jr_rows.specs.RowLines.{HasGroups};
 
-use crate::row_lines::{RowLines, groups_across, lines_before};
+use crate::row_lines::{RowLines, groups_across, lines_before_component};
 use jr_head::Head;
 use jr_paint::Samples;
 use std::marker::Model;
@@ -63,9 +63,9 @@ impl<'a> Band<'a> {
     fn start(&self, c: u32, y: u32) -> usize
         requires component { c < components_of self.now.head }
         requires line { y < samples_down self.now.head c }
-        ensures { result ≡ 8 * ((lines_before self.now.head c + y % (8 * vertical_of self.now.head c)) * groups_across self.now.head) }
+        ensures { result ≡ 8 * ((lines_before_component self.now.head c + y % (8 * vertical_of self.now.head c)) * groups_across self.now.head) }
     {
-        let line = lines_before(self.head, c) + y % (8 * self.head.vertical(c));
+        let line = lines_before_component(self.head, c) + y % (8 * self.head.vertical(c));
         8 * (line * groups_across(self.head)) as usize
     }
 }

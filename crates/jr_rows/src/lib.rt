@@ -6,8 +6,6 @@ mod alone;
 mod announcing;
 mod band;
 mod blank;
-mod cursor;
-mod first_intervals;
 mod interval_guesses;
 mod intervals;
 mod lines;
@@ -24,8 +22,6 @@ mod whole_mcus;
 mod writing;
 
 pub use announcing::announce;
-pub use cursor::Cursor;
-pub use first_intervals::FirstIntervals;
 pub use interval_guesses::IntervalGuesses;
 pub use lines::paint_scan_lines;
 pub use mark_bytes::put_mark;
@@ -36,7 +32,7 @@ pub use row_lines::RowLines;
 pub use rows::Rows;
 pub use sample_row::SampleRow;
 pub use shape::{
-    Shape, bytes_of_row, bytes_to, coded_of_row, intervals_of_row, lines_of, room_for, shape_of,
+    Shape, bytes_of_row, coded_of_row, intervals_of_row, lines_of, room_for, shape_of,
 };
 pub use whole::paint_scan;
 pub use writing::{counts_of, write_rows, write_scan};

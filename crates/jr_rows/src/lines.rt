@@ -3,15 +3,17 @@
 ghost use Rattle.std.specs.Prelude.{◌≡◌, ℕ, ◌+◌, ◌-◌, ◌*◌, ◌<◌, ◌≤◌, max, min, IfOk, IfErr, length};
 ghost use Rattle.jr_head.specs.Geometry.{mcus_down, vertical_max};
 ghost use Rattle.jr_paint.specs.Lines.{line_size, next_lines_of};
-ghost use Rattle.jr_picture.specs.BoardValue.{BoardValue};
+ghost use Rattle.jr_picture.specs.DecodedScan.{DecodedScan};
 ghost use Rattle.jr_picture.specs.Samples.{samples_of};
 ghost use Rattle.jr_rows.specs.MarkBytes.{HasMarkRoom, PutsBetween};
-ghost use Rattle.jr_rows.specs.Rows.{HasFirst, HasSampleRoom};
+ghost use Rattle.jr_rows.specs.Rows.{DecodesFirst, HasSampleRoom};
 ghost use Rattle.jr_rows.specs.SomeLines.{CountsBetween, PaintsLines, row_behind, row_with};
 
-use crate::{FirstIntervals, Marked, Rows, SampleRow, bytes_to, shape_of};
+use crate::{Marked, Rows, SampleRow, shape_of};
 use jr_base::Memory;
 use jr_head::Head;
+use jr_paint::bytes_to;
+use jr_picture::FirstIntervals;
 use jr_scan::Scan;
 use std::alloc::Global;
 
@@ -62,7 +64,7 @@ pub(crate) fn paint_between(
     requires room { HasSampleRoom scan.now.head work.old }
     requires pixels { length pixels.old ≡ (end - first) * line_size scan.now.head }
     requires places { HasMarkRoom scan.now marks.old }
-    ensures lines { (b : BoardValue) → HasFirst scan.now (length scan.now.intervals) b → pixels.new ≡ next_lines_of scan.now.head (samples_of b) first (end - first) }
+    ensures lines { (b : DecodedScan) → DecodesFirst scan.now (length scan.now.intervals) b → pixels.new ≡ next_lines_of scan.now.head (samples_of b) first (end - first) }
     ensures counts { CountsBetween scan.now (row_with scan.now.head first) (row_behind scan.now.head end) result }
     ensures puts { PutsBetween scan.now (row_with scan.now.head first) (row_behind scan.now.head end) marks.old marks.new }
 {

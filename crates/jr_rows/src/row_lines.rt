@@ -4,7 +4,7 @@ ghost use Rattle.std.specs.Prelude.{◌≡◌, ◌≢◌, ℕ, ◌+◌, ◌*◌,
 ghost use Rattle.jr_head.specs.Geometry.{IsLawful, blocks_before, blocks_of, components_of, mcus_across};
 ghost use Rattle.jr_piece.specs.Outcome.{unit_of};
 ghost use Rattle.jr_rows.specs.Bands.{unit_shown_of};
-ghost use Rattle.jr_rows.specs.Groups.{all_lines, group_of, groups_across, lines_before, unit_in, units_in};
+ghost use Rattle.jr_rows.specs.Groups.{all_lines, group_of, groups_across, lines_before_component, unit_in, units_in};
 ghost use Rattle.jr_rows.specs.RowLines.{AreStarts, HasGroups, HasLines, IsStartOf};
 
 use crate::blank::blank_unit;
@@ -132,10 +132,10 @@ fn blank_mcus(
 }
 
 /// Returns the number of lines of the components before c in a row of MCUs.
-pub(crate) fn lines_before(head: &Head, c: u32) -> u32
+pub(crate) fn lines_before_component(head: &Head, c: u32) -> u32
     requires lawful { IsLawful head.now }
     requires component { c ≤ components_of head.now }
-    ensures value { result ≡ lines_before head.now c }
+    ensures value { result ≡ lines_before_component head.now c }
     ensures few { result ≤ 32 * c }
 {
     let mut lines = 0;
@@ -165,7 +165,7 @@ fn start_of(head: &Head, across: u32, j: u32) -> UnitStart
     let c = u32::from(head.order()[j as usize]);
     let step = head.horizontal(c);
     let unit = j - units_before(head, c);
-    let line = lines_before(head, c) + 8 * (unit / step);
+    let line = lines_before_component(head, c) + 8 * (unit / step);
     UnitStart {
         first: (line * across + unit % step) as usize,
         step: step as usize,
@@ -180,7 +180,7 @@ impl RowLines {
         head.assert_invariant();
         let count = head.order().len();
         let across = groups_across(head);
-        let lines = lines_before(head, head.components());
+        let lines = lines_before_component(head, head.components());
         let mut starts = Vec::new(alloc);
         for j in 0..count {
             starts.push(start_of(head, across, j as u32))?;

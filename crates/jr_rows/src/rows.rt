@@ -2,21 +2,21 @@
 
 ghost use Rattle.std.specs.Prelude.{◌≡◌, ◌+◌, ◌*◌, ◌<◌, length, IfSome};
 ghost use Rattle.jr_head.specs.Geometry.{blocks_of, mcus_across, mcus_down};
-ghost use Rattle.jr_picture.specs.BoardValue.{BoardValue};
+ghost use Rattle.jr_picture.specs.DecodedScan.{DecodedScan};
 ghost use Rattle.jr_rows.specs.Bands.{ShowsMcus};
 ghost use Rattle.jr_rows.specs.Cursors.{AreGuessesIn};
 ghost use Rattle.jr_rows.specs.Groups.{units_in};
 ghost use Rattle.jr_rows.specs.MarkBytes.{HasMarkRoom, PutsRow};
-ghost use Rattle.jr_rows.specs.Rows.{AreRead, AreRowsOf, CountsRow, HasFirst, HasSampleRoom};
+ghost use Rattle.jr_rows.specs.Rows.{AreRead, AreRowsOf, CountsRow, DecodesFirst, HasSampleRoom};
 
-use crate::cursor::Cursor;
-use crate::first_intervals::FirstIntervals;
 use crate::interval_guesses::IntervalGuesses;
+use crate::intervals::{read_mcus, skip_mcus};
 use crate::marked::Marked;
 use crate::sample_row::SampleRow;
 use crate::shape::{coded_of_row, mcus_at_once, shape_of, units_to};
 use jr_base::Coefficients;
-use jr_piece::transform_blocks;
+use jr_picture::FirstIntervals;
+use jr_piece::{Cursor, transform_blocks};
 
 /// The rows of MCUs of a scan starting at one of them. Each call takes the scan and the part of it that is decoded.
 #[derive(Clone, Copy)]
@@ -72,7 +72,7 @@ impl Rows {
         let across = shape_of(scan.head()).across;
         let (number, before) = scan.head().interval_with(row * across);
         let mut cursor = Cursor::at_start(number);
-        cursor.skip_mcus(scan, None, before);
+        skip_mcus(&mut cursor, scan, None, before);
         Rows { row, cursor }
     }
 
@@ -105,7 +105,7 @@ impl Rows {
         // By their contracts an image has an MCU, and few enough rows that their numbers fit.
         let _counts = (scan.head().mcus(), shape_of(scan.head()));
         let coded = coded_of_row(scan, part.limit(), self.row);
-        self.cursor.skip_mcus(scan, guesses, coded);
+        skip_mcus(&mut self.cursor, scan, guesses, coded);
         self.row += 1;
     }
 
@@ -129,9 +129,8 @@ impl Rows {
         let head = part.scan().head();
         let coded = coded_of_row(part.scan(), part.limit(), self.row);
         let end = units_to(coded, shape_of(head).across, head.order().len());
-        let marked = self
-            .cursor
-            .read_mcus(part, guesses, coded, &mut blocks[..end], &mut []);
+        let blocks = &mut blocks[..end];
+        let marked = read_mcus(&mut self.cursor, part, guesses, coded, blocks, &mut []);
         self.row += 1;
         marked
     }
@@ -153,7 +152,7 @@ impl Rows {
         ensures rows { AreRowsOf part.now self.new }
         ensures row { self.new.row ≡ self.old.row + 1 }
         ensures room { HasSampleRoom part.now.scan.head work.new }
-        ensures units { (b : BoardValue) → HasFirst part.now.scan part.now.limit b → ShowsMcus b (self.old.row * mcus_across part.now.scan.head) (units_in part.now.scan.head work.new.lines.groups) }
+        ensures units { (b : DecodedScan) → DecodesFirst part.now.scan part.now.limit b → ShowsMcus b (self.old.row * mcus_across part.now.scan.head) (units_in part.now.scan.head work.new.lines.groups) }
         ensures counts { CountsRow part.now.scan part.now.limit self.old.row result }
         ensures puts { PutsRow part.now.scan part.now.limit self.old.row marks.old marks.new }
     {
@@ -169,7 +168,7 @@ impl Rows {
         'parts: while done < coded {
             let some = at_once.min(coded - done);
             let near = &mut blocks[..units_to(some, at_once, per_mcu)];
-            let more = self.cursor.read_mcus(part, guesses, some, near, marks);
+            let more = read_mcus(&mut self.cursor, part, guesses, some, near, marks);
             transform_blocks(head, done, near, lines);
             marked = marked.with(more);
             done += some;

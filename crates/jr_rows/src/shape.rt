@@ -9,7 +9,7 @@ ghost use Rattle.jr_rows.specs.Rows.{coded_before, coded_in, mcus_before, first_
 ghost use Rattle.jr_rows.specs.RowLines.{mcus_at_once};
 
 use jr_head::Head;
-use jr_paint::{BATCH, HEADER_ROOM, bytes_of_line};
+use jr_paint::{BATCH, HEADER_ROOM, bytes_of_line, bytes_to};
 use jr_scan::Scan;
 
 /// Maximum number of blocks that are read before they are transformed: 8 KB, which stay in the cache.
@@ -47,17 +47,6 @@ pub fn shape_of(head: &Head) -> Shape
         down: head.mcus_down(),
         line: bytes_of_line(head),
     }
-}
-
-/// Returns the size in bytes of `lines` lines, of `all`.
-pub fn bytes_to(lines: u32, all: u32, line: usize) -> usize
-    requires within { lines ≤ all }
-    requires few { all < 65536 }
-    requires short { line ≤ 196605 }
-    ensures value { result ≡ lines * line }
-    ensures within { result ≤ all * line }
-{
-    lines as usize * line
 }
 
 /// Returns the number of data units of `mcus` MCUs, at most `most` of them.

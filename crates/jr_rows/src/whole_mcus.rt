@@ -8,12 +8,11 @@ ghost use Rattle.jr_rows.specs.Groups.{units_in};
 ghost use Rattle.jr_rows.specs.RowLines.{HasLines, mcus_at_once};
 ghost use Rattle.jr_rows.specs.WholeMcus.{DecodesMcus};
 
-use crate::cursor::zero_from;
 use crate::row_lines::RowLines;
 use crate::shape::{mcus_at_once, shape_of, units_to};
 use jr_base::Coefficients;
 use jr_head::Head;
-use jr_piece::transform_blocks;
+use jr_piece::{transform_blocks, zero_from};
 use jr_scan::McuReader;
 
 /// Reads the whole MCUs that follow into blocks, at most `most`. Returns their number.

@@ -13,11 +13,11 @@ ghost use Rattle.jr_rows.specs.Stream.{SendsPicture, HasCounts};
 
 use crate::alone::Alone;
 use crate::painter::RowPainter;
-use crate::{FirstIntervals, Marked, SampleRow, lines_of, room_for, shape_of};
+use crate::{Marked, SampleRow, lines_of, room_for, shape_of};
 use jr_base::{Tally, WriteFault, write_all};
 use jr_head::Head;
 use jr_paint::{make_room, put_header};
-use jr_picture::{Counts, Gate, PictureError};
+use jr_picture::{Counts, FirstIntervals, Gate, PictureError};
 use jr_scan::Scan;
 use std::alloc::Global;
 use std::io::Write;

@@ -9,15 +9,15 @@ use Rattle.jr_cut.specs.Cut.{Cutting}
 use Rattle.jr_cut.proofs.EachCut.{each_scan_has_a_cut}
 use Rattle.jr_scan.specs.ScanValue.{ScanValue, intervals_of, scan_of_segments}
 use Rattle.jr_piece.proofs.ScanLaws.{outcome}
-use Rattle.jr_picture.specs.Boards.{marks_of}
+use Rattle.jr_picture.specs.DecodedScan.{marks_of}
 use Rattle.jr_picture.specs.Headline.{least}
 use Rattle.jr_picture.specs.Samples.{samples_of}
-use Rattle.jr_rows.proofs.FirstBoards.{first_board, least_few, shows_first}
+use Rattle.jr_rows.proofs.FirstDecoded.{first_decoded, least_few, shows_first}
 use Rattle.jri_file.specs.Files.{HasPicture, HasPictureOf, IsScanOfFile}
 
 pub each_scan : (scan : ScanValue) (n : ℕ) → IsLawful scan.head → n ≤ length scan.intervals → HasPicture scan n
 each_scan scan n lawful few =
-    let b = first_board outcome scan n few in
+    let b = first_decoded outcome scan n few in
     record { marks = marks_of b.0; samples = samples_of b.0; is = shows_first scan n b.0 b.1 lawful }
 
 its_scan : (file : List ℕ) (h : HeadValue) (c : Cutting (intervals_of h) h.scan_at (drop h.scan_at file)) → HeadOf file h → IsLawful h → IsScanOfFile file (scan_of_segments h c.datas c.end)

@@ -9,7 +9,7 @@ use Rattle.jr_segments.specs.declared.kind.Kind.TheVariants.{Grey, Rgb, Ycc}
 use Rattle.jr_paint.specs.Lines.{line_of, line_size}
 use Rattle.jr_paint.specs.Text.{bytes_of, pixel_of, pixel_size, pixels_of}
 use Rattle.jr_paint.proofs.PixelLaws.{flat_map-range-append}
-use Rattle.jr_picture.specs.BoardValue.{BoardValue}
+use Rattle.jr_picture.specs.DecodedScan.{DecodedScan}
 use Rattle.jr_picture.specs.Samples.{samples_of}
 use Rattle.jr_rows.specs.Bands.{ShowsMcus, samples_in}
 use Rattle.jr_rows.specs.Groups.{units_in}
@@ -50,7 +50,7 @@ module _ (g : ℕ → List ℕ) (size : ℕ) (long : (x : ℕ) → length (g x) 
       ap (λ z. take size (drop (k * size) z)) parts ∙ ap (λ z. take size z) (drop_at front (g (y + k) ++ rest) (k * size) before) ∙ take_at (g (y + k)) rest size (long (y + k))
 
 -- a line of the row of MCUs is that of the image
-pub line_painted : (b : BoardValue) (h : HeadValue) → b.scan.head ≡ h → IsLawful h → (groups : List (List ℕ)) (r : ℕ) → ShowsMcus b (r * mcus_across h) (units_in h groups)
+pub line_painted : (b : DecodedScan) (h : HeadValue) → b.scan.head ≡ h → IsLawful h → (groups : List (List ℕ)) (r : ℕ) → ShowsMcus b (r * mcus_across h) (units_in h groups)
     → (k : ℕ) → r * (8 * vertical_max h) ≤ k → k < r * (8 * vertical_max h) + 8 * vertical_max h → k < h.height → line_of h (samples_in (record { head = h; groups = groups })) k ≡ line_of h (samples_of b) k
 line_painted b h is lawful groups r shows k from to inside =
     let deep = 8 * vertical_max h in

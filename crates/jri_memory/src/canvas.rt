@@ -5,12 +5,12 @@ ghost use Rattle.jr_segments.specs.declared.refusal.Refusal.TheVariants as refus
 ghost use Rattle.jr_head.specs.Heads.{RefusalOf};
 ghost use Rattle.jr_head.specs.Geometry.{components_of, mcus_across, mcus_down, vertical_max};
 ghost use Rattle.jr_paint.specs.Lines as paint;
-ghost use Rattle.jr_picture.specs.BoardValue.{BoardValue};
+ghost use Rattle.jr_picture.specs.DecodedScan.{DecodedScan};
 ghost use Rattle.jr_picture.specs.Samples.{samples_of};
 ghost use Rattle.jr_rows.specs.Bands.{ShowsMcus, samples_in};
 ghost use Rattle.jr_rows.specs.Groups.{units_in};
 ghost use Rattle.jr_rows.specs.MarkBytes.{HasMarkRoom, PutsBetween};
-ghost use Rattle.jr_rows.specs.Rows.{CountsRows, HasFirst, HasSampleRoom, first_line, line_count};
+ghost use Rattle.jr_rows.specs.Rows.{CountsRows, DecodesFirst, HasSampleRoom, first_line, line_count};
 ghost use Rattle.jri_canvas.specs.Layouts.{HavePlaces, StandOn, laid_line, laid_line_size, plain_line_size, sample_count};
 ghost use Rattle.jri_memory.specs.Canvases.{DecodesCanvas, LacksCanvas, LacksLayoutOf, LaysScan};
 ghost use Rattle.jri_memory.specs.Resyncs.{IsTooLongRead, OfRead};
@@ -22,10 +22,8 @@ use crate::report::DecodeReport;
 use crate::room::{asked_for, lacks_room};
 use jr_base::Memory;
 use jr_head::{Head, Kind, Refusal};
-use jr_picture::Counts;
-use jr_rows::{
-    FirstIntervals, Marked, Rows, SampleRow, bytes_of_row, counts_of, lines_of, shape_of,
-};
+use jr_picture::{Counts, FirstIntervals};
+use jr_rows::{Marked, Rows, SampleRow, bytes_of_row, counts_of, lines_of, shape_of};
 use jr_scan::Scan;
 use jri_canvas::{CanvasLines, Pixels, have_places, lay_lines};
 use std::alloc::Global;
@@ -81,7 +79,7 @@ fn lay_row(
     requires places { HavePlaces form.now 0 head.now.height (length canvas.old) }
     ensures long { length lines.new ≡ length lines.old }
     ensures room { HasSampleRoom head.now work.new }
-    ensures stand { (b : BoardValue) → b.scan.head ≡ head.now → ShowsMcus b (row * mcus_across head.now) (units_in head.now work.old.lines.groups)
+    ensures stand { (b : DecodedScan) → b.scan.head ≡ head.now → ShowsMcus b (row * mcus_across head.now) (units_in head.now work.old.lines.groups)
         → StandOn form.now (first_line head.now row) (first_line head.now row + line_count head.now row) (λ k. laid_line form.now (paint.line_of head.now (samples_of b) k)) canvas.old canvas.new }
 {
     head.assert_invariant();
@@ -106,7 +104,7 @@ fn lay_rows(
     requires stride { laid_line_size form.now ≤ form.now.stride }
     requires places { HavePlaces form.now 0 scan.now.head.height (length canvas.old) }
     requires marks { HasMarkRoom scan.now marks.old }
-    ensures stand { (b : BoardValue) → HasFirst scan.now (length scan.now.intervals) b → StandOn form.now 0 scan.now.head.height (λ k. laid_line form.now (paint.line_of scan.now.head (samples_of b) k)) canvas.old canvas.new }
+    ensures stand { (b : DecodedScan) → DecodesFirst scan.now (length scan.now.intervals) b → StandOn form.now 0 scan.now.head.height (λ k. laid_line form.now (paint.line_of scan.now.head (samples_of b) k)) canvas.old canvas.new }
     ensures counts { CountsRows scan.now (length scan.now.intervals) result }
     ensures puts { PutsBetween scan.now 0 (mcus_down scan.now.head) marks.old marks.new }
 {

@@ -7,13 +7,13 @@ use Rattle.jr_head.specs.Geometry.{IsLawful, mcus_across, mcus_down, vertical_ma
 use Rattle.jr_paint.specs.Lines.{line_size, next_lines_of}
 use Rattle.jr_paint.proofs.PixelLaws.{next_lines_more}
 use Rattle.jr_scan.specs.ScanValue.{ScanValue, intervals_of}
-use Rattle.jr_picture.specs.BoardValue.{BoardValue}
+use Rattle.jr_picture.specs.DecodedScan.{DecodedScan}
 use Rattle.jr_picture.specs.Samples.{samples_of}
 use Rattle.jr_rows.specs.Bands.{ShowsMcus, samples_in}
-use Rattle.jr_rows.specs.FirstIntervalsValue.{FirstIntervalsValue}
+use Rattle.jr_picture.specs.FirstIntervalsValue.{FirstIntervalsValue}
 use Rattle.jr_rows.specs.Groups.{units_in}
 use Rattle.jr_rows.specs.MarkBytes.{HasMarkRoom, PutsBetween, PutsRow}
-use Rattle.jr_rows.specs.Rows.{CountsRow, HasFirst, HasSampleRoom, coded_before}
+use Rattle.jr_rows.specs.Rows.{CountsRow, DecodesFirst, HasSampleRoom, coded_before}
 use Rattle.jr_rows.specs.SomeLines.{CountsBetween, row_behind, row_with}
 use Rattle.jr_rows.proofs.IntervalPlaces.{ends_few}
 use Rattle.jr_rows.proofs.PaintedRows.{row_painted}
@@ -124,7 +124,7 @@ rows-preserved c =
           let start : y ≡ row * deep + (y - row * deep) = omega (arith, at) in
           let few : y - row * deep + count ≤ deep = omega (arith, at, ends, add-mul row 1 deep) in
           let down : y + count ≤ h.height = omega (arith, ends, c.requires.inside) in
-          let shows = (subst (λ (p : FirstIntervalsValue). (b : BoardValue) → HasFirst p.scan p.limit b → ShowsMcus b (row * mcus_across p.scan.head) (units_in p.scan.head work.lines.groups)) c.of-part.ensures c.decode-more.ensures.units) b first in
+          let shows = (subst (λ (p : FirstIntervalsValue). (b : DecodedScan) → DecodesFirst p.scan p.limit b → ShowsMcus b (row * mcus_across p.scan.head) (units_in p.scan.head work.lines.groups)) c.of-part.ensures c.decode-more.ensures.units) b first in
           let shown = ap (λ (g : HeadValue). next_lines_of g (samples_in (record { head = g; groups = work.lines.groups })) y count) head
           ∙ row_painted b h (ap (λ (s : ScanValue). s.head) first.scan_is) lawful work.lines.groups row shows y count (y - row * deep) start few down in
           let lines : pix ≡ next_lines_of h f (c.args.first + old_done) count = c.paint_some.ensures.lines ∙ shown ∙ ap (λ (k : ℕ). next_lines_of h f k count) done.0 in

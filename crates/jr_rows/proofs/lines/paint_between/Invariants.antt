@@ -1,10 +1,10 @@
 use Rattle.std.proofs.Common.{◌≡◌, ◌+◌, ◌-◌, ◌*◌, ◌<◌, ◌≤◌, length, take}
 use Rattle.jr_head.specs.Geometry.{vertical_max}
 use Rattle.jr_paint.specs.Lines.{line_size, next_lines_of}
-use Rattle.jr_picture.specs.BoardValue.{BoardValue}
+use Rattle.jr_picture.specs.DecodedScan.{DecodedScan}
 use Rattle.jr_picture.specs.Samples.{samples_of}
 use Rattle.jr_rows.specs.MarkBytes.{HasMarkRoom, PutsBetween}
-use Rattle.jr_rows.specs.Rows.{AreRowsOf, HasFirst, HasSampleRoom}
+use Rattle.jr_rows.specs.Rows.{AreRowsOf, DecodesFirst, HasSampleRoom}
 use Rattle.jr_rows.specs.SomeLines.{CountsBetween, row_with}
 use Rattle.jr_rows.proofs.SomeLines.{done_lines}
 use Rattle.jr_rows.proofs.lines.paint_between.Given as goal
@@ -20,7 +20,7 @@ invariant-rows l =
       reaches : l.fn.first < (l.rows.row + 1) * (8 * vertical_max h);
       room : HasSampleRoom h l.work;
       long : length l.pixels ≡ length l.initial.pixels;
-      front : (b : BoardValue) → HasFirst t n b → take (done * line_size h) l.pixels ≡ next_lines_of h (samples_of b) l.fn.first done;
+      front : (b : DecodedScan) → DecodesFirst t n b → take (done * line_size h) l.pixels ≡ next_lines_of h (samples_of b) l.fn.first done;
       counts : CountsBetween t (row_with h l.fn.first) l.rows.row l.marked;
       places : HasMarkRoom t l.marks;
       puts : PutsBetween t (row_with h l.fn.first) l.rows.row l.initial.marks l.marks;

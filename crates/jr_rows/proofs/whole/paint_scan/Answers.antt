@@ -3,10 +3,10 @@ use Rattle.jr_head.specs.HeadValue.{HeadValue}
 use Rattle.jr_head.specs.Geometry.{IsLawful, mcus_down, mcus_of}
 use Rattle.jr_paint.specs.Lines.{line_size, next_lines_of}
 use Rattle.jr_scan.specs.ScanValue.{intervals_of}
-use Rattle.jr_picture.specs.BoardValue.{BoardValue}
+use Rattle.jr_picture.specs.DecodedScan.{DecodedScan}
 use Rattle.jr_picture.specs.Samples.{samples_of}
 use Rattle.jr_rows.specs.MarkBytes.{PutsBetween}
-use Rattle.jr_rows.specs.Rows.{CountsRows, HasFirst, HasSampleRoom}
+use Rattle.jr_rows.specs.Rows.{CountsRows, DecodesFirst, HasSampleRoom}
 use Rattle.jr_rows.specs.SomeLines.{CountsBetween, row_behind, row_with}
 use Rattle.jr_rows.specs.Stream.{HasCounts}
 use Rattle.jr_piece.proofs.ScanLaws.{outcome}
@@ -35,7 +35,7 @@ returns-clause-painted c =
     let new = c.paint_between-marked.new.marks in
     let puts = subst (λ (y : ℕ). PutsBetween t (row_with t.head 0) (row_behind t.head y) old new) height c.paint_between-marked.ensures.puts in
     let rows = subst (λ (r : ℕ). PutsBetween t r (mcus_down t.head) old new) (first_row t.head) puts in
-    let lines = subst (λ (y : ℕ). (b : BoardValue) → HasFirst t (length t.intervals) b → c.paint_between-marked.new.pixels ≡ next_lines_of t.head (samples_of b) 0 (y - 0)) height c.paint_between-marked.ensures.lines in
+    let lines = subst (λ (y : ℕ). (b : DecodedScan) → DecodesFirst t (length t.intervals) b → c.paint_between-marked.new.pixels ≡ next_lines_of t.head (samples_of b) 0 (y - 0)) height c.paint_between-marked.ensures.lines in
     let counts = subst (λ (n : ℕ). HasCounts t n c.counts_of.result) all c.counts_of.ensures in
     painted_whole t some more count outcome lawful c.paint_between-marked.new.pixels old new c.counts_of.result lines c.requires.places rows counts
 

@@ -5,13 +5,13 @@ use Rattle.jr_head.specs.HeadValue.{HeadValue}
 use Rattle.jr_head.specs.Geometry.{mcus_across, mcus_down, vertical_max}
 use Rattle.jr_paint.specs.Lines as paint
 use Rattle.jr_paint.proofs.Places.{below_div_ceil}
-use Rattle.jr_picture.specs.BoardValue.{BoardValue}
+use Rattle.jr_picture.specs.DecodedScan.{DecodedScan}
 use Rattle.jr_picture.specs.Samples.{samples_of}
 use Rattle.jr_rows.specs.Bands.{ShowsMcus}
-use Rattle.jr_rows.specs.FirstIntervalsValue.{FirstIntervalsValue}
+use Rattle.jr_picture.specs.FirstIntervalsValue.{FirstIntervalsValue}
 use Rattle.jr_rows.specs.Groups.{units_in}
 use Rattle.jr_rows.specs.MarkBytes.{HasMarkRoom, PutsBetween, PutsRow}
-use Rattle.jr_rows.specs.Rows.{CountsMcus, CountsRow, HasFirst, HasSampleRoom, coded_before, first_line, intervals_before, line_count}
+use Rattle.jr_rows.specs.Rows.{CountsMcus, CountsRow, DecodesFirst, HasSampleRoom, coded_before, first_line, intervals_before, line_count}
 use Rattle.jr_rows.proofs.IntervalPlaces.{ends_few}
 use Rattle.jr_rows.proofs.PutMarks.{puts_both, puts_none}
 use Rattle.jr_rows.proofs.ReadRows.{counts_both, counts_none}
@@ -64,7 +64,7 @@ rows-preserved c =
       wide = search (rules, keep.wide, c.lay_row.auto.canvas);
       stand = λ b first.
           let g = λ (k : ℕ). laid_line form (paint.line_of h (samples_of b) k) in
-          let shows = (subst (λ (p : FirstIntervalsValue). (b : BoardValue) → HasFirst p.scan p.limit b → ShowsMcus b (row * mcus_across p.scan.head) (units_in p.scan.head groups)) c.of-part.ensures c.decode-more.ensures.units) b first in
+          let shows = (subst (λ (p : FirstIntervalsValue). (b : DecodedScan) → DecodesFirst p.scan p.limit b → ShowsMcus b (row * mcus_across p.scan.head) (units_in p.scan.head groups)) c.of-part.ensures c.decode-more.ensures.units) b first in
           let at_row = subst (λ (r : ℕ). b.scan.head ≡ c.head-head.result.now → ShowsMcus b (r * mcus_across c.head-head.result.now) (units_in c.head-head.result.now groups)
           → StandOn form (first_line c.head-head.result.now r) (first_line c.head-head.result.now r + line_count c.head-head.result.now r) (λ k. laid_line form (paint.line_of c.head-head.result.now (samples_of b) k)) c.rows.canvas c.lay_row.new.canvas) row_is (c.lay_row.ensures.stand b) in
           let there = subst (λ (d : HeadValue). b.scan.head ≡ d → ShowsMcus b (row * mcus_across d) (units_in d groups)

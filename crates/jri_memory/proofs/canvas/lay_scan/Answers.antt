@@ -2,10 +2,10 @@ use Rattle.std.proofs.Common.{rules, arith, sym, subst, ◌≡◌, ◌<◌, ℕ,
 use Rattle.jr_head.specs.Geometry.{IsLawful, mcus_of}
 use Rattle.jr_scan.specs.ScanValue.{intervals_of}
 use Rattle.jr_piece.proofs.ScanLaws.{outcome}
-use Rattle.jr_picture.specs.Boards.{marks_of}
+use Rattle.jr_picture.specs.DecodedScan.{marks_of}
 use Rattle.jr_picture.specs.Samples.{samples_of}
 use Rattle.jr_rows.specs.Rows.{CountsRows}
-use Rattle.jr_rows.proofs.FirstBoards.{first_board, shows_first}
+use Rattle.jr_rows.proofs.FirstDecoded.{first_decoded, shows_first}
 use Rattle.jr_rows.specs.Stream.{HasCounts}
 use Rattle.jr_rows.proofs.WholePictures.{all_put}
 use Rattle.jri_memory.proofs.canvas.lay_scan.Goals as goal
@@ -26,7 +26,7 @@ returns-clause-laid c =
     let count : n ≡ intervals_of t.head = search rules in
     let all : c.intervals-all.result ≡ n = search rules in
     let counts = subst (λ (k : ℕ). HasCounts t k c.counts_of.result) all c.counts_of.ensures in
-    let board = first_board outcome t n (omega arith) in record {
+    let board = first_decoded outcome t n (omega arith) in record {
       marks = marks_of board.0;
       f = samples_of board.0;
       shows = shows_first t n board.0 board.1 lawful;

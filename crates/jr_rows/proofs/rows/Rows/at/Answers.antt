@@ -3,7 +3,8 @@ use Rattle.jr_head.specs.HeadValue.{HeadValue}
 use Rattle.jr_head.specs.Geometry.{mcus_across, mcus_of}
 use Rattle.jr_scan.specs.ScanValue.{ScanValue, intervals_of}
 use Rattle.jr_picture.specs.Headline.{interval_number, within_interval}
-use Rattle.jr_rows.specs.Cursors.{IsCursorOf, mcus_to, interval_start}
+use Rattle.jr_piece.specs.Cursors.{interval_start}
+use Rattle.jr_rows.specs.Cursors.{IsCursorOf, mcus_to}
 use Rattle.jr_rows.proofs.RowCursors.{start_to, starts}
 use Rattle.jr_rows.specs.Rows.{coded_before}
 use Rattle.jr_rows.proofs.RowStarts.{all_before, mcu_there, row_starts}
@@ -35,7 +36,7 @@ pub returns-clause-rows : goal.returns-clause-rows
 returns-clause-rows c =
     let t = c.args.part.now.scan in
     let h = t.head in
-    let next = c.skip_mcus.new.self in
+    let next = c.skip_mcus.new.cursor in
     let start = c.at_start-cursor.result in
     let some = subst (λ (n : ℕ). 0 < n) (c.mcus.ensures.value ∙ ap (λ (x : HeadValue). mcus_of x) (c.head.ensures.value ∙ ap (λ (s : ScanValue). s.head) c.scan-scan.ensures)) c.mcus.ensures.some in
     let first = row_starts h c.args.row some c.requires.row in

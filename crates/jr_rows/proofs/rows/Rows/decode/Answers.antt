@@ -55,7 +55,7 @@ transform_blocks-requires-clause-inside c =
 pub with-marked-requires : goal.with-marked-requires
 with-marked-requires c =
     let t = c.args.part.now.scan in
-    let few = ends_few t.head (mcus_to t.head c.read_mcus-more.new.self) in
+    let few = ends_few t.head (mcus_to t.head c.read_mcus-more.new.cursor) in
     let room : intervals_of t.head < 2 ^ 32 = subst (λ (s : ScanValue). intervals_of s.head < 2 ^ 32) c.scan-2.ensures (subst (λ (n : ℕ). n < 2 ^ 32) c.intervals.ensures.count c.intervals.type_inv) in
     omega (arith, c.parts.invariant.counts.few, c.read_mcus-more.ensures.counts.few, few, room)
 

@@ -2,21 +2,21 @@ use Rattle.std.proofs.Common.{◌≡◌, ◌+◌, ◌-◌, ◌≤◌, length}
 use Rattle.jr_rows.specs.Cursors.{IsCursorOf, mcus_to}
 use Rattle.jr_rows.specs.MarkBytes.{HasMarkRoom, PutsMcus}
 use Rattle.jr_rows.specs.Rows.{CountsMcus, GivesMcus}
-use Rattle.jr_rows.proofs.cursor.Cursor.read_mcus.Given as goal
+use Rattle.jr_rows.proofs.intervals.read_mcus.Given as goal
 
 abbrev pub invariant-intervals : goal.invariant-intervals
 invariant-intervals l =
     let t = l.fn.part.scan in
     let n = l.fn.part.limit in
-    let from = mcus_to t.head l.initial.self in record {
+    let from = mcus_to t.head l.initial.cursor in record {
       within : l.done ≤ l.fn.mcus;
       long : length l.blocks ≡ length l.initial.blocks;
-      stands : IsCursorOf t l.self;
-      moved : mcus_to t.head l.self ≡ from + l.done;
+      stands : IsCursorOf t l.cursor;
+      moved : mcus_to t.head l.cursor ≡ from + l.done;
       gives : GivesMcus t n from l.done l.blocks;
-      counts : CountsMcus t n from (mcus_to t.head l.self) l.marked;
+      counts : CountsMcus t n from (mcus_to t.head l.cursor) l.marked;
       places : HasMarkRoom t l.marks;
-      puts : PutsMcus t n from (mcus_to t.head l.self) l.initial.marks l.marks;
+      puts : PutsMcus t n from (mcus_to t.head l.cursor) l.initial.marks l.marks;
     }
 
 abbrev pub decreases-intervals : goal.decreases-intervals

@@ -2,8 +2,9 @@ use Rattle.std.proofs.Common.{arith, sym, subst, min, ◌≡◌, ℕ, ◌+◌, �
 use Rattle.std.specs.Option.{IfSome}
 use Rattle.jr_scan.specs.Guesses.{AreGuessesOf}
 use Rattle.jr_scan.specs.IntervalValue.{IntervalValue}
-use Rattle.jr_rows.specs.Cursors.{IsPlaceAfter, mcus_to}
-use Rattle.jr_rows.proofs.cursor.Cursor.skip_mcus.Goals as goal
+use Rattle.jr_piece.specs.Cursors.{IsPlaceAfter}
+use Rattle.jr_rows.specs.Cursors.{mcus_to}
+use Rattle.jr_rows.proofs.intervals.skip_mcus.Goals as goal
 
 pub skip-requires-clause-same : goal.skip-requires-clause-same
 skip-requires-clause-same c =
@@ -26,7 +27,7 @@ pub ready-requires-clause-stands : goal.ready-requires-clause-stands
 ready-requires-clause-stands c = c.mcus.invariant.stands
 
 pub ready-requires-clause-more : goal.ready-requires-clause-more
-ready-requires-clause-more c = still_there (mcus_to c.args.scan.now.head c.args.self.now) _ c.args.mcus c.mcus.left _ c.mcus.invariant.moved c.mcus.invariant.within c.requires.few c.mcus-test.true
+ready-requires-clause-more c = still_there (mcus_to c.args.scan.now.head c.args.cursor.now) _ c.args.mcus c.mcus.left _ c.mcus.invariant.moved c.mcus.invariant.within c.requires.few c.mcus-test.true
 
 pub overflow_sub-left : goal.overflow_sub-left
 overflow_sub-left c = some_of c.min-some.result c.ready.result c.mcus.left c.min-some.ensures
@@ -36,12 +37,12 @@ mcus-smaller c = falls c.min-some.result c.ready.result c.mcus.left c.min-some.e
 
 pub skip-requires-clause-at : goal.skip-requires-clause-at
 skip-requires-clause-at c =
-    let r = c.ready.new.self in
+    let r = c.ready.new.cursor in
     subst (λ (i : IntervalValue). IsPlaceAfter i r.mcu r.place) (sym c.interval_ref-interval.ensures) c.ready.ensures.stands.at
 
 pub skip-requires-clause-few : goal.skip-requires-clause-few
 skip-requires-clause-few c =
-    let r = c.ready.new.self in
+    let r = c.ready.new.cursor in
     let few = some_left r.mcu c.min-some.result c.ready.result c.mcus.left _ c.min-some.ensures c.ready.ensures.left in
     subst (λ (i : IntervalValue). r.mcu + c.min-some.result ≤ i.mcus) (sym c.interval_ref-interval.ensures) few
 

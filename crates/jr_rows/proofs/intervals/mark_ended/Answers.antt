@@ -9,23 +9,23 @@ use Rattle.jr_piece.specs.Strips.{TellsSound}
 use Rattle.jr_picture.specs.declared.mark.Mark.TheVariants.{Sound, Damaged}
 use Rattle.jr_rows.specs.MarkBytes.{PutsMarks, mark_byte}
 use Rattle.jr_rows.specs.Rows.{CountsMarks}
-use Rattle.jr_rows.proofs.CursorSteps.{outcome_tells}
+use Rattle.jr_piece.proofs.CursorSteps.{outcome_tells}
 use Rattle.jr_rows.proofs.IntervalPlaces.{ends_before, ends_with}
 use Rattle.jr_rows.proofs.PutMarks.{puts_none, puts_one}
 use Rattle.jr_rows.proofs.ReadRows.{counts_none, counts_one}
-use Rattle.jr_rows.proofs.cursor.Cursor.marked.Goals as goal
+use Rattle.jr_rows.proofs.intervals.mark_ended.Goals as goal
 
-pub returns-then-self-mcus-clause-counts : goal.returns-then-self-mcus-clause-counts
-returns-then-self-mcus-clause-counts c =
-    let r = c.args.self.now in
+pub returns-then-cursor-mcus-clause-counts : goal.returns-then-cursor-mcus-clause-counts
+returns-then-cursor-mcus-clause-counts c =
+    let r = c.args.cursor.now in
     let t = c.args.part.now.scan in
     let number : r.number < intervals_of t.head = search (rules, arith, c.requires.stands.number) in
     let few : r.mcu < mcus_in t.head r.number = search (rules, arith) in
     counts_none t c.args.part.now.limit r.number _ _ c.none.ensures.sound c.none.ensures.damaged (sym (ends_before t.head r.number r.mcu number few))
 
-pub returns-then-self-mcus-clause-puts : goal.returns-then-self-mcus-clause-puts
-returns-then-self-mcus-clause-puts c =
-    let r = c.args.self.now in
+pub returns-then-cursor-mcus-clause-puts : goal.returns-then-cursor-mcus-clause-puts
+returns-then-cursor-mcus-clause-puts c =
+    let r = c.args.cursor.now in
     let t = c.args.part.now.scan in
     let number : r.number < intervals_of t.head = search (rules, arith, c.requires.stands.number) in
     let few : r.mcu < mcus_in t.head r.number = search (rules, arith) in
@@ -33,13 +33,13 @@ returns-then-self-mcus-clause-puts c =
 
 pub returns-clause-counts : goal.returns-clause-counts
 returns-clause-counts c =
-    let r = c.args.self.now in
+    let r = c.args.cursor.now in
     let t = c.args.part.now.scan in
     let n = c.args.part.now.limit in
     let number : r.number < intervals_of t.head = search (rules, arith, c.requires.stands.number) in
     let some : 0 < mcus_of t.head = search (rules, arith) in
     let interval = c.requires.interval in
-    let all : r.mcu ≡ mcus_in t.head r.number = omega (arith, c.requires.stands.at.few, c.if-self-mcus.false, c.mcus-2.ensures, ap (λ (i : IntervalValue). i.mcus) interval) in
+    let all : r.mcu ≡ mcus_in t.head r.number = omega (arith, c.requires.stands.at.few, c.if-cursor-mcus.false, c.mcus-2.ensures, ap (λ (i : IntervalValue). i.mcus) interval) in
     let tells : (p : PieceValue) → IsOutcome p → p.interval ≡ interval_of t r.number → p.is_sound ≡ c.is_sound-is_sound.result = outcome_tells (interval_of t r.number) c.is_sound-is_sound.result (subst (TellsSound c.is_sound-is_sound.result) interval c.is_sound-is_sound.ensures) in
     let sound : c.one.result.sound ≡ cond {A = ℕ} c.is_sound-is_sound.result 1 0 = search (rules, c.one.ensures.sound) in
     let damaged : c.one.result.damaged ≡ cond {A = ℕ} c.is_sound-is_sound.result 0 1 = search (rules, c.one.ensures.damaged) in
@@ -48,13 +48,13 @@ returns-clause-counts c =
 
 pub returns-clause-puts : goal.returns-clause-puts
 returns-clause-puts c =
-    let r = c.args.self.now in
+    let r = c.args.cursor.now in
     let t = c.args.part.now.scan in
     let n = c.args.part.now.limit in
     let number : r.number < intervals_of t.head = search (rules, arith, c.requires.stands.number) in
     let some : 0 < mcus_of t.head = search (rules, arith) in
     let interval = c.requires.interval in
-    let all : r.mcu ≡ mcus_in t.head r.number = omega (arith, c.requires.stands.at.few, c.if-self-mcus.false, c.mcus-2.ensures, ap (λ (i : IntervalValue). i.mcus) interval) in
+    let all : r.mcu ≡ mcus_in t.head r.number = omega (arith, c.requires.stands.at.few, c.if-cursor-mcus.false, c.mcus-2.ensures, ap (λ (i : IntervalValue). i.mcus) interval) in
     let tells : (p : PieceValue) → IsOutcome p → p.interval ≡ interval_of t r.number → p.is_sound ≡ c.is_sound-is_sound.result = outcome_tells (interval_of t r.number) c.is_sound-is_sound.result (subst (TellsSound c.is_sound-is_sound.result) interval c.is_sound-is_sound.ensures) in
     let put : 0 < length c.args.marks.now → slice_index c.put_mark.new.marks r.number ≡ mark_byte (cond c.is_sound-is_sound.result Sound Damaged) = λ there. search (rules, c.put_mark.ensures.put there) in
     subst (λ (to : ℕ). PutsMarks t n r.number to c.args.marks.now c.put_mark.new.marks) (sym (ends_with t.head r.number r.mcu some number all))

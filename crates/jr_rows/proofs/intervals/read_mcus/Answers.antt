@@ -17,14 +17,15 @@ use Rattle.jr_piece.specs.Strips.{units_before}
 use Rattle.jr_piece.specs.Units.{CodesUnits}
 use Rattle.jr_piece.proofs.Parts.{kept_before, put_there}
 use Rattle.jr_rows.specs.Bands.{unit_shown}
-use Rattle.jr_rows.specs.Cursors.{IsCursorOf, IsPlaceAfter, mcus_to}
+use Rattle.jr_piece.specs.Cursors.{IsPlaceAfter}
+use Rattle.jr_rows.specs.Cursors.{IsCursorOf, mcus_to}
 use Rattle.jr_rows.specs.MarkBytes.{PutsMarks}
 use Rattle.jr_rows.specs.Rows.{CountsMarks, GivesBehind, GivesMcus, intervals_before}
-use Rattle.jr_rows.proofs.CursorSteps.{IsReady, decoded, ended}
+use Rattle.jr_rows.proofs.RowCursors.{IsReady, decoded, ended}
 use Rattle.jr_rows.proofs.IntervalPlaces.{ends_few, first_few}
 use Rattle.jr_rows.proofs.PutMarks.{puts_both, puts_none}
 use Rattle.jr_rows.proofs.ReadRows.{counts_both, counts_none, gives_there, shown_more}
-use Rattle.jr_rows.proofs.cursor.Cursor.read_mcus.Goals as goal
+use Rattle.jr_rows.proofs.intervals.read_mcus.Goals as goal
 
 -- the MCUs that an interval has left, at most those that are still to be read
 some_within : (some left mcus done : ℕ) → some ≡ min left (mcus - done) → done ≤ mcus → done + some ≤ mcus
@@ -54,7 +55,7 @@ part_size start end done some per at to = let sum = add-mul done some per in ome
 pub ready-requires-clause-more : goal.ready-requires-clause-more
 ready-requires-clause-more c =
     let t = c.args.part.now.scan in
-    let at = c.intervals.self in
+    let at = c.intervals.cursor in
     let is : c.scan-scan.result.now ≡ t = c.scan-scan.ensures in
     let some : 0 < mcus_of t.head = search (rules, arith) in
     let few = first_few t.head c.args.part.now.limit some in
@@ -63,15 +64,15 @@ ready-requires-clause-more c =
 pub read-requires-clause-same : goal.read-requires-clause-same
 read-requires-clause-same c =
     let t = c.args.part.now.scan in
-    let r = c.ready.new.self in
+    let r = c.ready.new.cursor in
     let interval : c.fork.result ≡ interval_of t r.number = c.fork.ensures ∙ c.interval_ref-interval.ensures ∙ ap (λ (s : ScanValue). interval_of s r.number) c.scan-scan.ensures in
     subst (λ (i : IntervalValue). IfSome c.of_interval-own.result (λ g. AreGuessesOf i g.now)) (sym interval) (c.of_interval-own.ensures t c.requires.same)
 
-pub marked-more-requires-clause-decoded : goal.marked-more-requires-clause-decoded
-marked-more-requires-clause-decoded c =
+pub mark_ended-more-requires-clause-decoded : goal.mark_ended-more-requires-clause-decoded
+mark_ended-more-requires-clause-decoded c =
     let t = c.args.part.now.scan in
-    let at = c.intervals.self in
-    let r = c.ready.new.self in
+    let at = c.intervals.cursor in
+    let r = c.ready.new.cursor in
     let e = c.ready.ensures in
     let ready : IsReady t at r c.ready.result = subst (λ (s : ScanValue). IsReady s at r c.ready.result) c.scan-scan.ensures (record { number = e.number; some = e.some; left_is = e.left; to = e.to }) in
     let least : c.min-some.result ≡ min c.ready.result (c.args.mcus - c.intervals.done) = c.min-some.ensures in
@@ -82,14 +83,14 @@ pub with-marked-requires : goal.with-marked-requires
 with-marked-requires c =
     let t = c.args.part.now.scan in
     let n = c.args.part.now.limit in
-    let at = c.intervals.self in
-    let r = c.ready.new.self in
+    let at = c.intervals.cursor in
+    let r = c.ready.new.cursor in
     let e = c.ready.ensures in
     let ready : IsReady t at r c.ready.result = subst (λ (s : ScanValue). IsReady s at r c.ready.result) c.scan-scan.ensures (record { number = e.number; some = e.some; left_is = e.left; to = e.to }) in
     let here = c.read.ensures.number ∙ ended t n at r c.ready.result ready in
     let few = ends_few t.head (mcus_to t.head c.read.new.self) in
     let room : intervals_of t.head < 2 ^ 32 = search (rules, arith) in
-    omega (arith, c.intervals.invariant.counts.few, c.marked-more.ensures.counts.few, here, few, room)
+    omega (arith, c.intervals.invariant.counts.few, c.mark_ended-more.ensures.counts.few, here, few, room)
 
 pub intervals-preserved : goal.intervals-preserved
 intervals-preserved c =
@@ -98,10 +99,10 @@ intervals-preserved c =
     let h = t.head in
     let n = blocks_of h in
     let keep = c.intervals.invariant in
-    let at = c.intervals.self in
+    let at = c.intervals.cursor in
     let done = c.intervals.done in
-    let from = mcus_to h c.args.self.now in
-    let r = c.ready.new.self in
+    let from = mcus_to h c.args.cursor.now in
+    let r = c.ready.new.cursor in
     let e = c.ready.ensures in
     let ready : IsReady t at r c.ready.result = subst (λ (s : ScanValue). IsReady s at r c.ready.result) c.scan-scan.ensures (record { number = e.number; some = e.some; left_is = e.left; to = e.to }) in
     let least : c.min-some.result ≡ min c.ready.result (c.args.mcus - done) = c.min-some.ensures in
@@ -131,8 +132,8 @@ intervals-preserved c =
     subst (λ (m : ℕ). GivesBehind t limit m (done * n) mcus new) (ready.to ∙ keep.moved) (gives_there t limit r mcus done sub new positive ready.number lt (omega (arith, least, ready.left_is)) long codes part) in
     let to = mcus_to h c.read.new.self in
     let here = c.read.ensures.number ∙ ended t limit at r c.ready.result ready in
-    let counts = subst (λ (m : ℕ). CountsMarks t limit m (intervals_before h to) c.marked-more.result) here c.marked-more.ensures.counts in
-    let puts = subst (λ (m : ℕ). PutsMarks t limit m (intervals_before h to) c.intervals.marks c.marked-more.new.marks) here c.marked-more.ensures.puts in
+    let counts = subst (λ (m : ℕ). CountsMarks t limit m (intervals_before h to) c.mark_ended-more.result) here c.mark_ended-more.ensures.counts in
+    let puts = subst (λ (m : ℕ). PutsMarks t limit m (intervals_before h to) c.intervals.marks c.mark_ended-more.new.marks) here c.mark_ended-more.ensures.puts in
     let number = ap (λ (k : ℕ). k * h.restart) c.read.ensures.number in
     record {
       within = omega (arith, least, keep.within, c.intervals-test.true);
@@ -144,21 +145,21 @@ intervals-preserved c =
       moved = omega (arith, number, c.read.ensures.mcu, ready.to, keep.moved);
       gives = λ b first. shown_more n done mcus from (unit_shown b) (unit_of h old) (unit_of h new) positive (keep.gives b first)
           (λ k l. ap (λ z. samples z (quantiser_of h (component h k))) (kept k l)) (gave b first);
-      counts = counts_both t limit _ _ _ c.intervals.marked c.marked-more.result c.with-marked.result keep.counts counts c.with-marked.ensures.sound c.with-marked.ensures.damaged;
+      counts = counts_both t limit _ _ _ c.intervals.marked c.mark_ended-more.result c.with-marked.result keep.counts counts c.with-marked.ensures.sound c.with-marked.ensures.damaged;
       places = λ there. puts.long ∙ keep.places (omega (arith, there, puts.long));
-      puts = puts_both t limit _ _ _ c.args.marks.now c.intervals.marks c.marked-more.new.marks (omega (arith, keep.counts.few)) keep.puts puts;
+      puts = puts_both t limit _ _ _ c.args.marks.now c.intervals.marks c.mark_ended-more.new.marks (omega (arith, keep.counts.few)) keep.puts puts;
     }
 
 pub returns-clause-gives : goal.returns-clause-gives
 returns-clause-gives c =
     let t = c.args.part.now.scan in
     let all : c.intervals.done ≡ c.args.mcus = omega (arith, c.intervals.invariant.within, c.intervals-test.false) in
-    subst (λ (n : ℕ). GivesMcus t c.args.part.now.limit (mcus_to t.head c.args.self.now) n c.intervals.blocks) all c.intervals.invariant.gives
+    subst (λ (n : ℕ). GivesMcus t c.args.part.now.limit (mcus_to t.head c.args.cursor.now) n c.intervals.blocks) all c.intervals.invariant.gives
 
-pub marked-more-requires-clause-stands : goal.marked-more-requires-clause-stands
-marked-more-requires-clause-stands c =
+pub mark_ended-more-requires-clause-stands : goal.mark_ended-more-requires-clause-stands
+mark_ended-more-requires-clause-stands c =
     let t = c.args.part.now.scan in
-    let r = c.ready.new.self in
+    let r = c.ready.new.cursor in
     let next = c.read.new.self in
     let interval : c.fork.result ≡ interval_of t r.number = c.fork.ensures ∙ c.interval_ref-interval.ensures ∙ ap (λ (s : ScanValue). interval_of s r.number) c.scan-scan.ensures in
     record {
@@ -185,7 +186,7 @@ pub intervals-smaller : goal.intervals-smaller
 intervals-smaller c = falls c.min-some.result c.ready.result c.args.mcus c.intervals.done c.min-some.ensures c.ready.ensures.some c.intervals-test.true
 
 pub ready-requires-clause-stands : goal.ready-requires-clause-stands
-ready-requires-clause-stands c = subst (λ (s : ScanValue). IsCursorOf s c.intervals.self) (sym c.scan-scan.ensures) c.intervals.invariant.stands
+ready-requires-clause-stands c = subst (λ (s : ScanValue). IsCursorOf s c.intervals.cursor) (sym c.scan-scan.ensures) c.intervals.invariant.stands
 
 pub overflow_sub-mcus : goal.overflow_sub-mcus
 overflow_sub-mcus c = c.intervals.invariant.within
@@ -210,12 +211,12 @@ units_to-end-requires-clause-short c = c.order-per_mcu.ensures.few
 
 pub read-requires-clause-at : goal.read-requires-clause-at
 read-requires-clause-at c =
-    let r = c.ready.new.self in
+    let r = c.ready.new.cursor in
     subst (λ (i : IntervalValue). IsPlaceAfter i r.mcu r.place) (sym (c.fork.ensures ∙ c.interval_ref-interval.ensures)) c.ready.ensures.stands.at
 
 pub read-requires-clause-few : goal.read-requires-clause-few
 read-requires-clause-few c =
-    let r = c.ready.new.self in
+    let r = c.ready.new.cursor in
     let few = some_left r.mcu c.min-some.result c.ready.result _ _ c.min-some.ensures c.ready.ensures.left in
     subst (λ (i : IntervalValue). r.mcu + c.min-some.result ≤ i.mcus) (sym (c.fork.ensures ∙ c.interval_ref-interval.ensures)) few
 
@@ -243,24 +244,24 @@ slice_bounds-read-end c =
     let room = c.intervals.invariant.long ∙ c.requires.room ∙ ap (λ (k : ℕ). c.args.mcus * k) (sym per_is) in
     omega (arith, c.units_to-end.ensures.within, room)
 
-pub marked-more-requires-clause-interval : goal.marked-more-requires-clause-interval
-marked-more-requires-clause-interval c =
+pub mark_ended-more-requires-clause-interval : goal.mark_ended-more-requires-clause-interval
+mark_ended-more-requires-clause-interval c =
     let t = c.args.part.now.scan in
-    c.interval_ref-interval.ensures ∙ ap (λ (s : ScanValue). interval_of s c.ready.new.self.number) c.scan-scan.ensures ∙ ap (λ (k : ℕ). interval_of t k) (sym c.read.ensures.number)
+    c.interval_ref-interval.ensures ∙ ap (λ (s : ScanValue). interval_of s c.ready.new.cursor.number) c.scan-scan.ensures ∙ ap (λ (k : ℕ). interval_of t k) (sym c.read.ensures.number)
 
-pub marked-more-requires-clause-some : goal.marked-more-requires-clause-some
-marked-more-requires-clause-some c =
+pub mark_ended-more-requires-clause-some : goal.mark_ended-more-requires-clause-some
+mark_ended-more-requires-clause-some c =
     let some = some_read c.min-some.result c.ready.result c.args.mcus c.intervals.done c.min-some.ensures c.ready.ensures.some c.intervals-test.true in
-    behind_it c.read.new.self.mcu c.ready.new.self.mcu c.min-some.result c.read.ensures.mcu some
+    behind_it c.read.new.self.mcu c.ready.new.cursor.mcu c.min-some.result c.read.ensures.mcu some
 
-pub marked-more-requires-clause-places : goal.marked-more-requires-clause-places
-marked-more-requires-clause-places c = c.intervals.invariant.places
+pub mark_ended-more-requires-clause-places : goal.mark_ended-more-requires-clause-places
+mark_ended-more-requires-clause-places c = c.intervals.invariant.places
 
 pub returns-clause-stands : goal.returns-clause-stands
 returns-clause-stands c = c.intervals.invariant.stands
 
 pub returns-clause-moved : goal.returns-clause-moved
-returns-clause-moved c = c.intervals.invariant.moved ∙ ap (λ (n : ℕ). mcus_to c.args.part.now.scan.head c.args.self.now + n) (all_read _ _ c.intervals.invariant.within c.intervals-test.false)
+returns-clause-moved c = c.intervals.invariant.moved ∙ ap (λ (n : ℕ). mcus_to c.args.part.now.scan.head c.args.cursor.now + n) (all_read _ _ c.intervals.invariant.within c.intervals-test.false)
 
 pub returns-clause-counts : goal.returns-clause-counts
 returns-clause-counts c = c.intervals.invariant.counts

@@ -1,15 +1,15 @@
 use Rattle.std.proofs.Common.{rules, arith, ap, zero-add, ◌∙◌, ◌≡◌, ℕ, ◌+◌, ◌-◌, ◌<◌, length}
 use Rattle.jr_head.specs.HeadValue.{HeadValue}
 use Rattle.jr_scan.specs.ScanValue.{intervals_of, mcus_in}
-use Rattle.jr_rows.specs.declared.cursor.Cursor.{Cursor}
+use Rattle.jr_piece.specs.declared.cursor.Cursor.{Cursor}
 use Rattle.jr_rows.proofs.IntervalPlaces.{next_there}
 use Rattle.jr_rows.proofs.RowCursors.{start_to, starts}
-use Rattle.jr_rows.proofs.cursor.Cursor.ready.Goals as goal
+use Rattle.jr_rows.proofs.intervals.ready.Goals as goal
 
 pub mcus_in-requires-2 : goal.mcus_in-requires-2
 mcus_in-requires-2 c =
     let h = c.args.scan.now.head in
-    let r = c.args.self.now in
+    let r = c.args.cursor.now in
     let number : r.number < intervals_of h = omega (arith, c.requires.stands.number, c.intervals.ensures.value, c.intervals.ensures.count) in
     let left : c.mcus_in.result ≡ mcus_in h r.number = c.mcus_in.ensures.value ∙ ap (λ (x : HeadValue). mcus_in x r.number) c.head-2.ensures.value in
     let ended : r.mcu ≡ mcus_in h r.number = omega (arith, left, c.requires.stands.at.few, c.if-left-gt0.false) in
@@ -19,7 +19,7 @@ mcus_in-requires-2 c =
 pub returns-clause-stands : goal.returns-clause-stands
 returns-clause-stands c =
     let h = c.args.scan.now.head in
-    let r = c.args.self.now in
+    let r = c.args.cursor.now in
     let number : r.number < intervals_of h = omega (arith, c.requires.stands.number, c.intervals.ensures.value, c.intervals.ensures.count) in
     let left : c.mcus_in.result ≡ mcus_in h r.number = c.mcus_in.ensures.value ∙ ap (λ (x : HeadValue). mcus_in x r.number) c.head-2.ensures.value in
     let ended : r.mcu ≡ mcus_in h r.number = omega (arith, left, c.requires.stands.at.few, c.if-left-gt0.false) in
@@ -30,7 +30,7 @@ returns-clause-stands c =
 pub returns-clause-number : goal.returns-clause-number
 returns-clause-number c =
     let h = c.args.scan.now.head in
-    let r = c.args.self.now in
+    let r = c.args.cursor.now in
     let number : r.number < intervals_of h = omega (arith, c.requires.stands.number, c.intervals.ensures.value, c.intervals.ensures.count) in
     let left : c.mcus_in.result ≡ mcus_in h r.number = c.mcus_in.ensures.value ∙ ap (λ (x : HeadValue). mcus_in x r.number) c.head-2.ensures.value in
     let ended : r.mcu ≡ mcus_in h r.number = omega (arith, left, c.requires.stands.at.few, c.if-left-gt0.false) in
@@ -40,7 +40,7 @@ returns-clause-number c =
 pub returns-clause-to : goal.returns-clause-to
 returns-clause-to c =
     let h = c.args.scan.now.head in
-    let r = c.args.self.now in
+    let r = c.args.cursor.now in
     let number : r.number < intervals_of h = omega (arith, c.requires.stands.number, c.intervals.ensures.value, c.intervals.ensures.count) in
     let left : c.mcus_in.result ≡ mcus_in h r.number = c.mcus_in.ensures.value ∙ ap (λ (x : HeadValue). mcus_in x r.number) c.head-2.ensures.value in
     let ended : r.mcu ≡ mcus_in h r.number = omega (arith, left, c.requires.stands.at.few, c.if-left-gt0.false) in
@@ -56,11 +56,11 @@ within number all own most lt e is = omega (arith, lt, e, is)
 
 pub returns-then-left-gt0-clause-left : goal.returns-then-left-gt0-clause-left
 returns-then-left-gt0-clause-left c =
-    let left = c.mcus_in.ensures.value ∙ ap (λ (x : HeadValue). mcus_in x c.args.self.now.number) c.head-2.ensures.value in
-    left_of c.args.self.now.mcu c.mcus_in.result _ left c.if-left-gt0.true
+    let left = c.mcus_in.ensures.value ∙ ap (λ (x : HeadValue). mcus_in x c.args.cursor.now.number) c.head-2.ensures.value in
+    left_of c.args.cursor.now.mcu c.mcus_in.result _ left c.if-left-gt0.true
 
 pub returns-then-left-gt0-clause-number : goal.returns-then-left-gt0-clause-number
-returns-then-left-gt0-clause-number c = within c.args.self.now.number c.intervals.result _ _ c.requires.stands.number c.intervals.ensures.value c.intervals.ensures.count
+returns-then-left-gt0-clause-number c = within c.args.cursor.now.number c.intervals.result _ _ c.requires.stands.number c.intervals.ensures.value c.intervals.ensures.count
 
 pub returns-then-left-gt0-clause-stands : goal.returns-then-left-gt0-clause-stands
 returns-then-left-gt0-clause-stands c = c.requires.stands

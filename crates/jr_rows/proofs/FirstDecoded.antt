@@ -1,4 +1,4 @@
--- Boards on which the first intervals of a scan are marked.
+-- A scan whose first intervals are decoded.
 use Rattle.std.proofs.Common.{◌≡◌, ◌≢◌, ℕ, ◌+◌, ◌<◌, ◌≤◌, Bool, true, false, cond, inl, inr, length, map, Option, Some, None, refl, sym, ap, subst, ◌∙◌, arith}
 use Rattle.std.specs.List.{count_by, range_with_len}
 use Rattle.std.proofs.Math.Dec.{leb}
@@ -13,13 +13,12 @@ use Rattle.jr_scan.specs.ScanValue.{ScanValue, IsSameScan, interval_of}
 use Rattle.jr_piece.specs.PieceValue.{PieceValue}
 use Rattle.jr_piece.specs.Outcome.{HasOutcome}
 use Rattle.jr_picture.specs.declared.mark.Mark.TheVariants.{Blank, Sound, Damaged}
-use Rattle.jr_picture.specs.BoardValue.{BoardValue}
-use Rattle.jr_picture.specs.Boards.{IsPieceOf, IsLawfulBoard, piece_at, mark_of, marks_of, mark_at}
+use Rattle.jr_picture.specs.DecodedScan.{DecodedScan, IsPieceOf, IsDecodedScan, piece_at, mark_of, marks_of, mark_at}
 use Rattle.jr_picture.specs.Headline.{least}
 use Rattle.jr_picture.specs.Headline.{AreCounts, ShowsFirst, is_sound, is_damaged}
 use Rattle.jr_picture.specs.Samples.{samples_of}
-use Rattle.jr_picture.proofs.BoardPictures.{first_marked, picture, same_picture}
-use Rattle.jr_rows.specs.Rows.{HasFirst}
+use Rattle.jr_picture.proofs.DecodedPictures.{first_marked, picture, same_picture}
+use Rattle.jr_rows.specs.Rows.{DecodesFirst}
 
 -- no more intervals are to be decoded than there are
 pub least_few : (first : Option ℕ) (n : ℕ) → least first n ≤ n
@@ -38,7 +37,7 @@ module _ (each : (i : IntervalValue) → HasOutcome i) (scan : ScanValue) (n : �
   abbrev posted_at : ℕ → Option PieceValue
   posted_at i = cond (leb n i) None (Some (outcome_at i))
 
-  abbrev board : BoardValue
+  abbrev board : DecodedScan
   board = record { scan = scan; pieces = map posted_at (range_with_len 0 (length scan.intervals)) }
 
   is_piece : (i : ℕ) → i < length scan.intervals → IsPieceOf scan i (outcome_at i)
@@ -81,7 +80,7 @@ module _ (each : (i : IntervalValue) → HasOutcome i) (scan : ScanValue) (n : �
     ]
   ]
 
-  lawful : IsLawfulBoard board
+  lawful : IsDecodedScan board
   lawful = record { places = length-map-range_with_len posted_at 0 (length scan.intervals); each = each_piece }
 
   blank_at : (i : ℕ) → n ≤ i → mark_at board i ≡ Blank
@@ -90,14 +89,14 @@ module _ (each : (i : IntervalValue) → HasOutcome i) (scan : ScanValue) (n : �
     | inr beyond ↦ ap mark_of (past i beyond)
   ]
 
-  -- a board with the first n intervals marked
-  pub first_board : n ≤ length scan.intervals → (b : BoardValue) × HasFirst scan n b
-  first_board few =
+  -- the scan with its first n intervals decoded
+  pub first_decoded : n ≤ length scan.intervals → (b : DecodedScan) × DecodesFirst scan n b
+  first_decoded few =
       let marked : (i : ℕ) → i < n → mark_at board i ≢ Blank = λ i lt e. not_blank (outcome_at i).is_sound (sym (ap mark_of (there i (omega (arith, lt, few)) ∙ posted i lt)) ∙ e) in
       (board, record { scan_is = refl; lawful = lawful; first = first_marked board n marked blank_at })
 
--- what such a board shows is an image of the scan
-module _ (scan : ScanValue) (n : ℕ) (b : BoardValue) (f : HasFirst scan n b) where
+-- its samples are an image of the scan
+module _ (scan : ScanValue) (n : ℕ) (b : DecodedScan) (f : DecodesFirst scan n b) where
   same_scan : IsSameScan b.scan scan
   same_scan = (ap (λ (s : ScanValue). s.head) f.scan_is, ap (λ (s : ScanValue). s.intervals) f.scan_is)
 

@@ -1,4 +1,4 @@
--- What a valid board shows is an image.
+-- A decoded scan is an image.
 use Rattle.std.proofs.Common.{◌≡◌, ◌≢◌, ℕ, zero, suc, ◌+◌, ◌-◌, ◌*◌, ◌/◌, ◌%◌, ◌<◌, ◌≤◌, min, Bool, true, false, cond, inl, inr, Option, Some, None, List, [], ◌∷◌, map, length, get_or, refl, sym, ap, subst, ◌∙◌, arith}
 use Rattle.std.specs.Prelude.{ℤ, slice_get, slice_index}
 use Rattle.std.specs.List.{count_by}
@@ -24,8 +24,7 @@ use Rattle.jr_piece.specs.PieceValue.{PieceValue}
 use Rattle.jr_piece.specs.Outcome.{AreSamples, IsDamaged, unit_of}
 use Rattle.jr_picture.specs.declared.mark.Mark.{Mark}
 use Rattle.jr_picture.specs.declared.mark.Mark.TheVariants.{Blank, Sound, Damaged}
-use Rattle.jr_picture.specs.BoardValue.{BoardValue}
-use Rattle.jr_picture.specs.Boards.{IsLawfulBoard, piece_at, mark_at, mark_of, marks_of, is_sound_piece, is_damaged_piece}
+use Rattle.jr_picture.specs.DecodedScan.{DecodedScan, IsDecodedScan, piece_at, mark_at, mark_of, marks_of, is_sound_piece, is_damaged_piece}
 use Rattle.jr_picture.specs.Headline.{interval_number, within_interval, spot_of, unit_number, place_in, Holds, Shows, mark_in, IsPicture, AreFirst, is_sound, is_damaged}
 use Rattle.jr_picture.specs.Samples.{sample_in, sample_of_piece, samples_of}
 
@@ -61,7 +60,7 @@ unit_few h s mcu block e =
     let here : unit_number h s < mcus_in h (interval_number h s.mcu) * blocks_of h = omega (arith, whole, block) in
     subst (λ (k : ℕ). unit_number h s < mcus_in h (interval_number h s.mcu) * k) (sym e) here
 
--- a unit of the samples, as the board shows it
+-- a unit of the samples of a decoded scan
 unit_shown : (h : HeadValue) (zs : List (List ℤ)) (us : List (List ℕ)) (unit place : ℕ) → AreSamples h zs us → unit < length zs → sample_in (slice_get us unit) place ≡ slice_index (unit_of h zs unit) place
 unit_shown h zs us unit place s few =
     ap (λ (o : Option (List ℕ)). sample_in o place) (slice_get-get_or us unit [] (omega (arith, s.count, few))) ∙ ap (λ (l : List ℕ). slice_index l place) (s.each unit few)
@@ -76,8 +75,8 @@ interval_by i h data_of = record { number = i; mcus = mcus_in h i; bytes = get_o
 pub same_interval : (a s : ScanValue) (i : ℕ) → IsSameScan a s → scans.interval_of a i ≡ scans.interval_of s i
 same_interval a s i same = ap (λ (h : HeadValue). interval_by i h a.intervals) same.0 ∙ ap (interval_by i s.head) same.1
 
--- the interval of a piece on a valid board
-pub interval_is : (b : BoardValue) (s : ScanValue) (i : ℕ) (p : PieceValue) → IsLawfulBoard b → IsSameScan b.scan s → piece_at b i ≡ Some p → p.interval ≡ scans.interval_of s i
+-- the interval of a piece of a decoded scan
+pub interval_is : (b : DecodedScan) (s : ScanValue) (i : ℕ) (p : PieceValue) → IsDecodedScan b → IsSameScan b.scan s → piece_at b i ≡ Some p → p.interval ≡ scans.interval_of s i
 interval_is b s i p lawful same e =
     let of = lawful.each i p e in
     of.interval.1 ∙ ap (scans.interval_of b.scan) of.number ∙ same_interval b.scan s i same
@@ -86,12 +85,12 @@ interval_is b s i p lawful same e =
 abbrev pub shown_by : HeadValue → List (Option PieceValue) → ℕ → ℕ → ℕ → ℕ
 shown_by h ps c x y = sample_of_piece h.kind c (get_or ps (interval_number h (spot_of h c x y).mcu) None) (unit_number h (spot_of h c x y)) (place_in (spot_of h c x y))
 
-pub shown_is : (b : BoardValue) (c x y : ℕ) → samples_of b c x y ≡ shown_by b.scan.head b.pieces c x y
+pub shown_is : (b : DecodedScan) (c x y : ℕ) → samples_of b c x y ≡ shown_by b.scan.head b.pieces c x y
 unfolding samples_of
 shown_is b c x y = refl
 
 -- the samples of interval i, from its posted piece or none
-shown_there : (b : BoardValue) (c x y i : ℕ) (q : Option PieceValue) → interval_number b.scan.head (spot_of b.scan.head c x y).mcu ≡ i → piece_at b i ≡ q
+shown_there : (b : DecodedScan) (c x y i : ℕ) (q : Option PieceValue) → interval_number b.scan.head (spot_of b.scan.head c x y).mcu ≡ i → piece_at b i ≡ q
     → samples_of b c x y ≡ sample_of_piece b.scan.head.kind c q (unit_number b.scan.head (spot_of b.scan.head c x y)) (place_in (spot_of b.scan.head c x y))
 shown_there b c x y i q e f =
     let h = b.scan.head in
@@ -99,7 +98,7 @@ shown_there b c x y i q e f =
     shown_is b c x y ∙ ap (λ (n : ℕ). sample_of_piece h.kind c (get_or b.pieces n None) (unit_number h spot) (place_in spot)) e
     ∙ ap (λ (p : Option PieceValue). sample_of_piece h.kind c p (unit_number h spot) (place_in spot)) f
 
-module _ (b : BoardValue) (lawful : IsLawfulBoard b) (head : heads.IsLawful b.scan.head) where
+module _ (b : DecodedScan) (lawful : IsDecodedScan b) (head : heads.IsLawful b.scan.head) where
   -- a sample that an interval holds lies in one of its data units
   unit_there : (i c x y : ℕ) → Holds (scans.interval_of b.scan i) c x y → unit_number b.scan.head (spot_of b.scan.head c x y) < mcus_in b.scan.head i * length (order_of b.scan.head)
   unit_there i c x y held =
@@ -147,8 +146,8 @@ marks_at [] i = refl
 marks_at (p ∷ ps) zero = refl
 marks_at (p ∷ ps) (suc i) = marks_at ps i
 
--- what a valid board shows is an image of its scan
-pub picture : (b : BoardValue) → IsLawfulBoard b → heads.IsLawful b.scan.head → IsPicture b.scan (marks_of b) (samples_of b)
+-- the samples of a decoded scan are an image of it
+pub picture : (b : DecodedScan) → IsDecodedScan b → heads.IsLawful b.scan.head → IsPicture b.scan (marks_of b) (samples_of b)
 picture b l h = record {
   count = length-map b.pieces mark_of ∙ l.places;
   each = λ i. subst (λ (m : Mark). Shows m (scans.interval_of b.scan i) (samples_of b)) (sym (marks_at b.pieces i)) (shows b l h i (piece_at b i) refl);
@@ -189,7 +188,7 @@ damaged_counts (p ∷ ps) =
     omega (arith, damaged_one p, damaged_counts ps, sum_by-cons (λ (m : Mark). cond (is_damaged m) 1 0) (mark_of p) (map mark_of ps), sum_by-cons (λ (q : Option PieceValue). cond (is_damaged_piece q) 1 0) p ps)
 
 -- marks by the pieces at their positions
-pub first_marked : (b : BoardValue) (n : ℕ) → ((i : ℕ) → i < n → mark_at b i ≢ Blank) → ((i : ℕ) → n ≤ i → mark_at b i ≡ Blank) → AreFirst n (marks_of b)
+pub first_marked : (b : DecodedScan) (n : ℕ) → ((i : ℕ) → i < n → mark_at b i ≢ Blank) → ((i : ℕ) → n ≤ i → mark_at b i ≡ Blank) → AreFirst n (marks_of b)
 first_marked b n marked blank = record {
   marked = λ i lt. subst (λ (m : Mark). m ≢ Blank) (sym (marks_at b.pieces i)) (marked i lt);
   blank = λ i le. marks_at b.pieces i ∙ blank i le;

@@ -2,7 +2,7 @@
 
 ghost use Rattle.std.specs.Prelude.{◌≡◌, ◌≤◌, length};
 ghost use Rattle.jr_picture.specs.Headline.{least};
-ghost use Rattle.jr_rows.specs.FirstIntervalsValue.{FirstIntervalsValue};
+ghost use Rattle.jr_picture.specs.FirstIntervalsValue.{FirstIntervalsValue};
 
 use jr_scan::Scan;
 use std::marker::Model;
@@ -16,7 +16,7 @@ pub struct FirstIntervals<'a> {
 
 impl<'a> Model for FirstIntervals<'a> {
     ghost use Rattle.std.specs.Prelude.{◌≤◌, length};
-    ghost use Rattle.jr_rows.specs.FirstIntervalsValue.{FirstIntervalsValue};
+    ghost use Rattle.jr_picture.specs.FirstIntervalsValue.{FirstIntervalsValue};
 
     ghost Value = { FirstIntervalsValue };
 

@@ -1,9 +1,0 @@
-use Rattle.std.proofs.Common.{◌≡◌, ◌*◌, ◌≤◌}
-use Rattle.jr_rows.specs.Groups.{lines_before}
-use Rattle.jr_rows.proofs.row_lines.lines_before.Given as goal
-
-abbrev pub invariant-loop-k : goal.invariant-loop-k
-invariant-loop-k l = record {
-  value : l.lines ≡ lines_before l.head l.k;
-  few : l.lines ≤ 32 * l.k;
-}
