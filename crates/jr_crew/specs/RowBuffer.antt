@@ -1,16 +1,12 @@
 -- What is known of memory for a row of MCUs: by the part of a scan that is decoded.
-use Rattle.std.specs.Prelude.{ℕ, ◌*◌, ◌<◌, ◌≤◌, List, length, take, Option, Some, None}
+use Rattle.std.specs.Prelude.{ℕ, ◌*◌, ◌<◌, ◌≤◌, List, length, take, Option}
 use Rattle.jr_head.specs.Geometry.{mcus_down, vertical_max}
 use Rattle.jr_paint.specs.Lines.{line_room, line_size}
-use Rattle.jr_rows.specs.FirstIntervalsValue.{FirstIntervalsValue}
+use Rattle.jr_picture.specs.FirstIntervalsValue.{FirstIntervalsValue}
+use Rattle.jr_work.specs.Guessing.{OfPart}
 use Rattle.jr_crew.specs.RowBufferValue.{CodedRowValue, PaintedValue}
 use Rattle.jr_rows.specs.Rows.{AreRead, CountsRow, HasRowRoom, HasSampleRoom, ShowsLines, line_count}
 use Rattle.jr_rows.specs.RowsValue.{RowValue, SampleRowValue}
-
--- of the part that a proof knows of this holds
-abbrev pub OfPart : Option FirstIntervalsValue → (FirstIntervalsValue → Type 0) → Type 0
-OfPart None P = ⊥
-OfPart (Some part) P = P part
 
 -- the lines of a row of MCUs fit
 abbrev pub HasRoom : Option FirstIntervalsValue → List ℕ → Type 0

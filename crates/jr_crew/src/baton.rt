@@ -5,24 +5,24 @@ ghost use Rattle.jr_scan.specs.Guesses.{AreGuessesOf};
 ghost use Rattle.jr_scan.specs.ScanValue.{interval_of};
 ghost use Rattle.jr_rows.specs.Rows.{AreRowsOf};
 
-use crate::one_first_intervals::OneFirstIntervals;
 use crate::paint_room::PaintRoom;
 use crate::row_buffer::{CodedRow, Painted, RowBuffer};
-use jr_picture::Gate;
-use jr_rows::{FirstIntervals, IntervalGuesses, Rows, announce, intervals_of_row, shape_of};
+use jr_picture::{FirstIntervals, Gate};
+use jr_rows::{IntervalGuesses, Rows, announce, intervals_of_row, shape_of};
 use jr_scan::Guesses;
+use jr_work::OneScan;
 use std::alloc::Global;
 use std::marker::{Model, PhantomData};
 
 /// The remaining rows of a scan, which one thread at a time reads, and the speculative reads that it uses.
 #[derive(Drop)]
-pub(crate) struct Baton<S: OneFirstIntervals> {
+pub(crate) struct Baton<S: OneScan> {
     rows: Rows,
     guesses: IntervalGuesses,
     of: PhantomData<S>,
 }
 
-impl<S: OneFirstIntervals> Model for Baton<S> {
+impl<S: OneScan> Model for Baton<S> {
     ghost use Rattle.std.specs.Prelude.{ℕ};
     ghost use Rattle.jr_crew.specs.Crew.{HaveNext};
 
@@ -34,7 +34,7 @@ impl<S: OneFirstIntervals> Model for Baton<S> {
 }
 
 /// Returns these rows, if one is left.
-fn baton_over<S: OneFirstIntervals>(part: &FirstIntervals<'_>, rows: Rows) -> Option<Baton<S>>
+fn baton_over<S: OneScan>(part: &FirstIntervals<'_>, rows: Rows) -> Option<Baton<S>>
     requires part { S.part ≡ Some part.now }
     requires rows { AreRowsOf part.now rows }
 {
@@ -49,7 +49,7 @@ fn baton_over<S: OneFirstIntervals>(part: &FirstIntervals<'_>, rows: Rows) -> Op
     })
 }
 
-impl<S: OneFirstIntervals> Baton<S> {
+impl<S: OneScan> Baton<S> {
     /// Returns all rows of the scan.
     pub(crate) fn of(part: &FirstIntervals<'_>) -> Option<Baton<S>>
         requires { S.part ≡ Some part.now }
@@ -97,8 +97,8 @@ impl<S: OneFirstIntervals> Baton<S> {
         }
     }
 
-    /// Reports the intervals that begin in the next row to the gate, and skips the row. Returns the rows starting at that row, and
-    /// those after it.
+    /// Reports the intervals that begin in the next row to the gate, and skips the row. Returns the rows starting at
+    /// that row, and those after it.
     pub(crate) fn skip<G: Gate>(
         self,
         part: &FirstIntervals<'_>,

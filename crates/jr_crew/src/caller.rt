@@ -3,10 +3,10 @@
 ghost use Rattle.std.specs.Prelude.{◌≡◌};
 
 use crate::crew::Crew;
-use crate::one_first_intervals::OneFirstIntervals;
 use crate::paint_room::PaintRoom;
 use jr_picture::Gate;
 use jr_rows::{Marked, RowPainter, shape_of};
+use jr_work::OneScan;
 use jr_work::tuning::MAX_TASKS;
 use std::marker::Model;
 use std::sync::Wait;
@@ -14,7 +14,7 @@ use std::sync::Wait;
 /// The calling thread: it takes row after row from a crew, and reads and paints if the row that comes next is not
 /// painted yet.
 #[derive(Drop)]
-pub(crate) struct Caller<'a, 'b, R: Wait, G: Gate, S: OneFirstIntervals> {
+pub(crate) struct Caller<'a, 'b, R: Wait, G: Gate, S: OneScan> {
     crew: &'b Crew<'a, S>,
     rt: &'b R,
     gate: &'b G,
@@ -22,7 +22,7 @@ pub(crate) struct Caller<'a, 'b, R: Wait, G: Gate, S: OneFirstIntervals> {
     room: PaintRoom<S>,
 }
 
-impl<'a, 'b, R: Wait, G: Gate, S: OneFirstIntervals> Model for Caller<'a, 'b, R, G, S> {
+impl<'a, 'b, R: Wait, G: Gate, S: OneScan> Model for Caller<'a, 'b, R, G, S> {
     ghost use Rattle.std.specs.Prelude.{◌≡◌, Some};
     ghost use Rattle.jr_rows.specs.RowsValue.{RowsValue};
 
@@ -33,7 +33,7 @@ impl<'a, 'b, R: Wait, G: Gate, S: OneFirstIntervals> Model for Caller<'a, 'b, R,
     ghost invariant = { λ c. S.part ≡ Some c.crew.now };
 }
 
-impl<'a, 'b, R: Wait, G: Gate, S: OneFirstIntervals> Caller<'a, 'b, R, G, S> {
+impl<'a, 'b, R: Wait, G: Gate, S: OneScan> Caller<'a, 'b, R, G, S> {
     /// Returns a caller that has written nothing yet.
     pub(crate) fn of(
         crew: &'b Crew<'a, S>,
@@ -69,7 +69,7 @@ impl<'a, 'b, R: Wait, G: Gate, S: OneFirstIntervals> Caller<'a, 'b, R, G, S> {
     }
 }
 
-impl<R: Wait, G: Gate, S: OneFirstIntervals> RowPainter for Caller<'_, '_, R, G, S> {
+impl<R: Wait, G: Gate, S: OneScan> RowPainter for Caller<'_, '_, R, G, S> {
     ghost at = { λ c. c };
 
     fn paint(&mut self, pixels: &mut Vec<u8>, from: usize, to: usize) -> Marked {

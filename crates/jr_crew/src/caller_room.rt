@@ -5,21 +5,22 @@ ghost use Rattle.jr_head.specs.Geometry.{vertical_max};
 ghost use Rattle.jr_paint.specs.Lines.{line_size};
 ghost use Rattle.jr_paint.specs.declared.header.TheConstants.{HEADER_ROOM};
 
-use crate::one_first_intervals::OneFirstIntervals;
 use crate::paint_room::PaintRoom;
 use jr_base::Memory;
-use jr_rows::{FirstIntervals, room_for};
+use jr_picture::FirstIntervals;
+use jr_rows::room_for;
+use jr_work::OneScan;
 use std::alloc::Global;
 
 /// Memory that the calling thread decodes, paints and writes rows by.
 #[derive(Drop)]
-pub(crate) struct CallerRoom<S: OneFirstIntervals> {
+pub(crate) struct CallerRoom<S: OneScan> {
     pub(crate) paint: PaintRoom<S>,
     /// For the lines of a row of MCUs, and for the header.
     pub(crate) pixels: Vec<u8>,
 }
 
-impl<S: OneFirstIntervals> CallerRoom<S> {
+impl<S: OneScan> CallerRoom<S> {
     /// Allocates what the calling thread works with.
     pub(crate) fn open(alloc: Global, part: &FirstIntervals<'_>) -> Result<CallerRoom<S>, Memory>
         requires { S.part ≡ Some part.now }

@@ -7,66 +7,62 @@ ghost use Rattle.jr_paint.specs.declared.header.TheConstants.{HEADER_ROOM};
 
 use crate::baton::Baton;
 use crate::caller_room::CallerRoom;
-use crate::one_first_intervals::OneFirstIntervals;
 use crate::paint_room::PaintRoom;
 use crate::row_buffer::{Painted, RowBuffer};
-use crate::row_queue::{BegunRow, RowQueue, RowTask, Waiter};
+use crate::row_work::{BegunRow, RowWork, UnfinishedRow};
 use jr_base::Memory;
-use jr_picture::Gate;
-use jr_rows::{FirstIntervals, intervals_of_row};
+use jr_picture::{FirstIntervals, Gate};
+use jr_rows::intervals_of_row;
 use jr_work::tuning::ROW_BUFFERS_OF_WORKER;
-use jr_work::{GuessTask, ScanGuess};
+use jr_work::{OneScan, SharedWork, Task, WorkQueue};
 use std::alloc::Global;
 use std::marker::Model;
-use std::sync::{Condvar, Mutex, Wait};
+use std::sync::Wait;
 
 /// What the threads share.
 ///
-/// A thread takes its next task from the queue, and does it outside of the lock. No row begins before the calling thread has
-/// all memory that it needs. A row is begun with a `RowBuffer`, so at most as many rows are in work. Each thread
-/// allocates its row buffers as it starts; one gets memory for blocks when a row first waits in it to be painted.
+/// No row begins before the calling thread has all memory that it needs. A row is begun with a `RowBuffer`, so at most
+/// as many rows are in work. Each thread allocates its row buffers as it starts; one gets memory for blocks when a row
+/// first waits in it to be painted.
 ///
-/// If rows are whole intervals, each thread decodes and paints rows by itself. Otherwise one thread at a time has the reader. If
-/// speculative reads that others have made ahead of it cover the next row, it skips the row. The row then waits, with a copy of
-/// the reader at its start and its row buffer, for a free thread, which decodes and paints it some MCUs at a time. If none covers it,
-/// the thread reads the row, and its blocks wait in the row buffer for a free thread that paints them. Painted rows wait for their turn
-/// to be written.
+/// If rows are whole intervals, each thread decodes and paints rows by itself. Otherwise one thread at a time has the
+/// reader. If speculative reads that others have made ahead of it cover the next row, it skips the row. The row then
+/// waits, with a copy of the reader at its start and its row buffer, for a free thread, which decodes and paints it
+/// some MCUs at a time. If none covers it, the thread reads the row, and its blocks wait in the row buffer for a free
+/// thread that paints them. Painted rows wait for their turn to be written.
 #[derive(Drop)]
-pub(crate) struct Crew<'a, S: OneFirstIntervals> {
+pub(crate) struct Crew<'a, S: OneScan> {
     alloc: Global,
     part: FirstIntervals<'a>,
-    queue: Mutex<RowQueue<S>>,
-    /// Signalled when a thread has read a row or returned a row buffer, or all is over, if a thread waits.
-    has_task: Condvar,
-    /// Signalled when the row is painted for which the calling thread waits, or one is read and no other thread waits
-    /// for it.
-    has_row: Condvar,
+    /// The calling thread waits for a task, or for the row that is written next.
+    shared: SharedWork<S, RowWork<S>>,
 }
 
-impl<'a, S: OneFirstIntervals> Model for Crew<'a, S> {
+impl<'a, S: OneScan> Model for Crew<'a, S> {
     ghost use Rattle.std.specs.Prelude.{◌≡◌, Some};
-    ghost use Rattle.jr_rows.specs.FirstIntervalsValue.{FirstIntervalsValue};
+    ghost use Rattle.jr_picture.specs.FirstIntervalsValue.{FirstIntervalsValue};
 
     ghost Value = { FirstIntervalsValue };
 
     ghost view = { λ c. c.part };
 
-    ghost invariant = { λ c. (S.part ≡ Some c.part) × (S.scan ≡ Some c.part.scan) };
+    ghost invariant = { λ c. S.part ≡ Some c.part };
 }
 
-impl<'a, S: OneFirstIntervals> Crew<'a, S> {
+impl<'a, S: OneScan> Crew<'a, S> {
     /// Returns a crew that has done nothing yet.
-    pub(crate) fn of(alloc: Global, part: FirstIntervals<'a>, queue: RowQueue<S>) -> Crew<'a, S>
-        requires part { S.part ≡ Some part }
-        requires scan { S.scan ≡ Some part.scan }
+    pub(crate) fn of(
+        alloc: Global,
+        part: FirstIntervals<'a>,
+        queue: WorkQueue<S, RowWork<S>>,
+    ) -> Crew<'a, S>
+        requires { S.part ≡ Some part }
         ensures { result ≡ part.entry }
     {
         Crew {
             alloc,
             part,
-            queue: Mutex::new(queue),
-            has_task: Condvar::new(),
-            has_row: Condvar::new(),
+            shared: SharedWork::of(queue),
         }
     }
 
@@ -85,8 +81,7 @@ impl<'a, S: OneFirstIntervals> Crew<'a, S> {
         let Ok(room) = CallerRoom::open(self.alloc, &self.part) else {
             return Err(Memory);
         };
-        self.queue.lock(rt).start(Baton::of(&self.part));
-        self.has_task.notify_all();
+        self.shared.start(rt, &self.part, Baton::of(&self.part));
         Ok(room)
     }
 
@@ -98,102 +93,79 @@ impl<'a, S: OneFirstIntervals> Crew<'a, S> {
         &self.part
     }
 
-    /// Waits for a task and returns it; frees memory if there is no other task. `None` if nothing is left.
-    pub(crate) fn task<R: Wait>(&self, rt: &R) -> Option<RowTask<S>> {
-        let scan = self.part.scan();
-        let mut queue = self.queue.lock(rt);
-        queue.waiting = queue.waiting.saturating_add(1);
-        let mut queue = self.has_task.wait_while(rt, queue, |queue| {
-            queue.has_no_task(scan) && !queue.has_spare()
-        });
-        queue.waiting = queue.waiting.saturating_sub(1);
-        if let Some(task) = queue.task(&self.part) {
-            return Some(task);
-        }
-        let spare = queue.spare(self.alloc)?;
-        Some(RowTask::GiveBack(spare))
+    /// Waits for a task and returns it. `None` if nothing is left to do.
+    pub(crate) fn task<R: Wait>(&self, rt: &R) -> Option<Task<S, RowWork<S>>> {
+        self.shared.task(rt, &self.part)
     }
 
     /// Waits until the calling thread has something to do or this row is painted, and returns what to do. `None` if the
     /// row is painted or nothing is left.
-    pub(crate) fn task_before<R: Wait>(&self, rt: &R, row: u32) -> Option<RowTask<S>> {
-        let scan = self.part.scan();
-        let mut queue = self.queue.lock(rt);
-        queue.set_awaited(Some(row));
-        let mut queue = self.has_row.wait_while(
+    pub(crate) fn task_before<R: Wait>(&self, rt: &R, row: u32) -> Option<Task<S, RowWork<S>>> {
+        let part = &self.part;
+        let mut queue = self.shared.queue.lock(rt);
+        queue.is_awaited = true;
+        queue.work.set_next(row);
+        let mut queue = self.shared.for_caller.wait_while(
             rt,
             queue,
-            |queue| !queue.has(row) && queue.has_no_task(scan),
+            |queue| !queue.work.has(row) && queue.has_no_task(part),
         );
-        queue.set_awaited(None);
-        if queue.has(row) {
+        queue.is_awaited = false;
+        if queue.work.has(row) {
             None
         } else {
-            queue.task(&self.part)
+            queue.task(part)
         }
     }
 
     /// Keeps a painted row.
     fn put_painted<R: Wait>(&self, rt: &R, painted: Painted<S>) {
-        let is_awaited = self.queue.lock(rt).put_painted(painted);
-        if is_awaited {
-            self.has_row.notify_one();
+        let mut queue = self.shared.queue.lock(rt);
+        let is_next = queue.work.put_painted(painted);
+        if is_next && queue.is_awaited {
+            self.shared.for_caller.notify_one();
         }
     }
 
     /// Reads a row, and paints it if rows are whole intervals or memory for its blocks cannot be
     /// allocated; otherwise it waits for a free thread.
     fn read<R: Wait, G: Gate>(&self, rt: &R, gate: &G, row: BegunRow<S>, room: &mut PaintRoom<S>) {
-        row.baton.announce(&self.part, gate);
-        if intervals_of_row(self.part.scan().head()).is_some() {
-            return self.finish(rt, row, room);
+        let part = &self.part;
+        row.baton.announce(part, gate);
+        if intervals_of_row(part.scan().head()).is_some() {
+            if row.baton.behind(part).is_none() {
+                self.shared.put(rt, part, None, None);
+            }
+            return self.finish(rt, UnfinishedRow::Skipped(row), room);
         }
         let BegunRow { baton, buffer } = row;
-        let (read, behind) = baton.read(self.alloc, &self.part, buffer, room);
+        let (read, behind) = baton.read(self.alloc, part, buffer, room);
         match read {
-            Ok(coded) => {
-                let waiter = self.queue.lock(rt).put_coded(&self.part, coded, behind);
-                self.wake(waiter);
-            }
+            Ok(coded) => self
+                .shared
+                .put(rt, part, Some(UnfinishedRow::Coded(coded)), behind),
             Err(painted) => {
-                let waiter = self.queue.lock(rt).put_behind(&self.part, behind);
-                self.wake(waiter);
+                self.shared.put(rt, part, None, behind);
                 self.put_painted(rt, painted);
             }
         }
     }
 
-    /// Reads and paints a row, whose intervals were reported to the gate.
-    fn finish<R: Wait>(&self, rt: &R, row: BegunRow<S>, room: &mut PaintRoom<S>) {
-        let BegunRow { baton, buffer } = row;
-        self.put_painted(rt, baton.finish(&self.part, buffer, room));
-    }
-
-    /// Wakes a thread that waits for something to do.
-    fn wake(&self, waiter: Option<Waiter>) {
-        match waiter {
-            Some(Waiter::Worker) => self.has_task.notify_one(),
-            Some(Waiter::Caller) => self.has_row.notify_one(),
-            None => (),
-        }
+    /// Paints a row; if it was skipped, whose intervals were reported to the gate, reads it first.
+    fn finish<R: Wait>(&self, rt: &R, row: UnfinishedRow<S>, room: &mut PaintRoom<S>) {
+        let painted = match row {
+            UnfinishedRow::Skipped(row) => row.baton.finish(&self.part, row.buffer, room),
+            UnfinishedRow::Coded(coded) => coded.paint(&self.part, room),
+        };
+        self.put_painted(rt, painted);
     }
 
     /// Skips a row, which then waits for a free thread.
     fn skip<R: Wait, G: Gate>(&self, rt: &R, gate: &G, row: BegunRow<S>) {
-        let (baton, behind) = row.baton.skip(&self.part, gate);
-        let skipped = BegunRow {
-            baton,
-            buffer: row.buffer,
-        };
-        let waiter = self.queue.lock(rt).put_skipped(&self.part, skipped, behind);
-        self.wake(waiter);
-    }
-
-    /// Makes a speculative read.
-    fn speculate<R: Wait>(&self, rt: &R, task: GuessTask<S>) {
-        let made = task.make(self.part.scan());
-        let waiter = self.queue.lock(rt).put_guess(made);
-        self.wake(waiter);
+        let BegunRow { baton, buffer } = row;
+        let (baton, behind) = baton.skip(&self.part, gate);
+        let skipped = UnfinishedRow::Skipped(BegunRow { baton, buffer });
+        self.shared.put(rt, &self.part, Some(skipped), behind);
     }
 
     /// Does what is to be done.
@@ -201,31 +173,20 @@ impl<'a, S: OneFirstIntervals> Crew<'a, S> {
         &self,
         rt: &R,
         gate: &G,
-        task: RowTask<S>,
+        task: Task<S, RowWork<S>>,
         room: &mut PaintRoom<S>,
     ) {
         match task {
-            RowTask::Begin(row, true) => self.skip(rt, gate, row),
-            RowTask::Begin(row, false) => self.read(rt, gate, row, room),
-            RowTask::Finish(row) => self.finish(rt, row, room),
-            RowTask::Paint(coded) => self.put_painted(rt, coded.paint(&self.part, room)),
-            RowTask::Speculate(task) => self.speculate(rt, task),
-            RowTask::BringGuess(most) => self.bring_guess(rt, most),
-            RowTask::GiveBack(spare) => drop(spare),
-        }
-    }
-
-    /// Brings a buffer for a speculative read of at most `most` MCUs. If allocation fails there are fewer speculative
-    /// reads.
-    fn bring_guess<R: Wait>(&self, rt: &R, most: u32) {
-        if let Ok(room) = ScanGuess::open(self.alloc, self.part.scan(), most, true) {
-            self.queue.lock(rt).guesses.bring(room);
+            Task::Begin(row, true) => self.skip(rt, gate, row),
+            Task::Begin(row, false) => self.read(rt, gate, row, room),
+            Task::Finish(row) => self.finish(rt, row, room),
+            Task::Assist(assist) => self.shared.assist(rt, self.alloc, &self.part, assist),
         }
     }
 
     /// Does what can be done at once, if there is something.
     fn do_ready<R: Wait, G: Gate>(&self, rt: &R, gate: &G, room: &mut PaintRoom<S>) {
-        let task = self.queue.lock(rt).task(&self.part);
+        let task = self.shared.queue.lock(rt).task(&self.part);
         if let Some(task) = task {
             self.run(rt, gate, task, room);
         }
@@ -245,7 +206,7 @@ impl<'a, S: OneFirstIntervals> Crew<'a, S> {
         for _ in 0..ROW_BUFFERS_OF_WORKER {
             self.do_ready(rt, gate, &mut room);
             self.do_ready(rt, gate, &mut room);
-            let is_lacking = self.queue.lock(rt).lacks_buffer();
+            let is_lacking = self.shared.queue.lock(rt).work.lacks_buffer();
             if is_lacking && let Ok(buffer) = RowBuffer::open(self.alloc, &self.part) {
                 self.give_back(rt, buffer);
             }
@@ -257,24 +218,25 @@ impl<'a, S: OneFirstIntervals> Crew<'a, S> {
     pub(crate) fn painted<R: Wait>(&self, rt: &R, row: u32) -> Painted<S>
         ensures { result.row ≡ row }
     {
-        let mut queue = self.queue.lock(rt);
-        queue.set_awaited(Some(row));
-        let mut queue = self.has_row.wait_while(rt, queue, |queue| !queue.has(row));
-        queue.set_awaited(None);
-        queue.take(row)
+        let mut queue = self.shared.queue.lock(rt);
+        queue.is_awaited = true;
+        queue.work.set_next(row);
+        let mut queue = self
+            .shared
+            .for_caller
+            .wait_while(rt, queue, |queue| !queue.work.has(row));
+        queue.is_awaited = false;
+        queue.work.take(row)
     }
 
     /// Returns a row buffer to the queue, so that another row can be read.
     pub(crate) fn give_back<R: Wait>(&self, rt: &R, buffer: RowBuffer<S>) {
-        let is_waited_for = self.queue.lock(rt).give_back(buffer);
-        if is_waited_for {
-            self.has_task.notify_one();
-        }
+        self.shared.queue.lock(rt).work.give_back(buffer);
+        self.shared.wake(rt, &self.part);
     }
 
     /// Ends the work.
     pub(crate) fn end<R: Wait>(&self, rt: &R) {
-        self.queue.lock(rt).end();
-        self.has_task.notify_all();
+        self.shared.end(rt);
     }
 }

@@ -7,11 +7,10 @@ mod caller;
 mod caller_room;
 mod crew;
 mod crew_size;
-mod one_first_intervals;
 mod paint_room;
 mod row;
 mod row_buffer;
-mod row_queue;
+mod row_work;
 mod sending;
 mod sharing;
 

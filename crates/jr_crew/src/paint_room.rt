@@ -2,16 +2,17 @@
 
 ghost use Rattle.std.specs.Prelude.{◌≡◌, Some};
 
-use crate::one_first_intervals::OneFirstIntervals;
 use jr_base::Memory;
 use jr_paint::line_room;
-use jr_rows::{FirstIntervals, SampleRow};
+use jr_picture::FirstIntervals;
+use jr_rows::SampleRow;
+use jr_work::OneScan;
 use std::alloc::Global;
 use std::marker::{Model, PhantomData};
 
 /// Memory for the samples of a row of MCUs of the scan, and for painting its lines. Each thread has its own.
 #[derive(Drop)]
-pub struct PaintRoom<S: OneFirstIntervals> {
+pub struct PaintRoom<S: OneScan> {
     /// For a row that is already read, and that has its samples in its row buffer.
     pub(crate) bytes: Vec<u8>,
     /// For a row that is read, transformed and painted at once.
@@ -19,7 +20,7 @@ pub struct PaintRoom<S: OneFirstIntervals> {
     of: PhantomData<S>,
 }
 
-impl<S: OneFirstIntervals> Model for PaintRoom<S> {
+impl<S: OneScan> Model for PaintRoom<S> {
     ghost use Rattle.std.specs.Prelude.{ℕ, length};
     ghost use Rattle.jr_crew.specs.RowBuffer.{HasLineRoom, HasSamples};
 
@@ -30,7 +31,7 @@ impl<S: OneFirstIntervals> Model for PaintRoom<S> {
     ghost invariant = { λ r. HasLineRoom S.part (length r.bytes.items) × HasSamples S.part r.work };
 }
 
-impl<S: OneFirstIntervals> PaintRoom<S> {
+impl<S: OneScan> PaintRoom<S> {
     /// Allocates what painting needs.
     pub fn open(alloc: Global, part: &FirstIntervals<'_>) -> Result<PaintRoom<S>, Memory>
         requires { S.part ≡ Some part.now }

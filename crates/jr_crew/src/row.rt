@@ -3,14 +3,15 @@
 ghost use Rattle.std.specs.Prelude.{◌≡◌, ◌*◌, ◌<◌, ◌≤◌, length, take, IfOk, IfSome};
 ghost use Rattle.jr_head.specs.Geometry.{mcus_across, mcus_down, vertical_max};
 ghost use Rattle.jr_paint.specs.Lines.{line_room, line_size};
-ghost use Rattle.jr_picture.specs.BoardValue.{BoardValue};
+ghost use Rattle.jr_picture.specs.DecodedScan.{DecodedScan};
 ghost use Rattle.jr_rows.specs.Bands.{ShowsMcus};
 ghost use Rattle.jr_rows.specs.Groups.{units_in};
-ghost use Rattle.jr_rows.specs.Rows.{HasFirst, HasRowRoom, AreRead, ShowsLines, line_count};
+ghost use Rattle.jr_rows.specs.Rows.{DecodesFirst, HasRowRoom, AreRead, ShowsLines, line_count};
 
 use jr_base::{Coefficients, Memory};
 use jr_head::Head;
-use jr_rows::{FirstIntervals, RowLines, coded_of_row, lines_of, paint_row, shape_of};
+use jr_picture::FirstIntervals;
+use jr_rows::{RowLines, coded_of_row, lines_of, paint_row, shape_of};
 use jr_scan::Scan;
 use std::alloc::Global;
 use std::marker::Model;
@@ -57,7 +58,7 @@ impl Row {
         requires read { AreRead scan.now limit row self.old.blocks }
         ensures blocks { self.new.blocks ≡ self.old.blocks }
         ensures room { HasRowRoom scan.now.head self.new }
-        ensures units { (b : BoardValue) → HasFirst scan.now limit b → ShowsMcus b (row * mcus_across scan.now.head) (units_in scan.now.head self.new.lines.groups) }
+        ensures units { (b : DecodedScan) → DecodesFirst scan.now limit b → ShowsMcus b (row * mcus_across scan.now.head) (units_in scan.now.head self.new.lines.groups) }
     {
         let head = scan.head();
         // By its contract an MCU has a data unit.

@@ -6,13 +6,12 @@ ghost use Rattle.jr_paint.specs.Lines.{line_size};
 ghost use Rattle.jr_rows.specs.Cursors.{AreGuessesIn};
 ghost use Rattle.jr_rows.specs.Rows.{AreRowsOf, CountsRow, HasSampleRoom, ShowsLines, line_count};
 
-use crate::one_first_intervals::OneFirstIntervals;
 use crate::paint_room::PaintRoom;
 use crate::row::Row;
 use jr_base::Memory;
-use jr_rows::{
-    FirstIntervals, IntervalGuesses, Marked, Rows, SampleRow, bytes_of_row, lines_of, shape_of,
-};
+use jr_picture::FirstIntervals;
+use jr_rows::{IntervalGuesses, Marked, Rows, SampleRow, bytes_of_row, lines_of, shape_of};
+use jr_work::OneScan;
 use std::alloc::Global;
 use std::marker::{Model, PhantomData};
 use std::mem;
@@ -47,13 +46,13 @@ fn decode_first(
 
 /// Memory for the lines of a row of MCUs of the scan, and for its blocks and samples, if a row has been read by it.
 #[derive(Drop)]
-pub struct RowBuffer<S: OneFirstIntervals> {
+pub struct RowBuffer<S: OneScan> {
     work: Option<Row>,
     pixels: Vec<u8>,
     of: PhantomData<S>,
 }
 
-impl<S: OneFirstIntervals> Model for RowBuffer<S> {
+impl<S: OneScan> Model for RowBuffer<S> {
     ghost use Rattle.std.specs.Prelude.{IfSome};
     ghost use Rattle.jr_crew.specs.RowBufferValue.{RowBufferValue};
     ghost use Rattle.jr_crew.specs.RowBuffer.{HasRoom, HasWork};
@@ -65,7 +64,7 @@ impl<S: OneFirstIntervals> Model for RowBuffer<S> {
     ghost invariant = { λ b. IfSome b.work (HasWork S.part) × HasRoom S.part b.pixels.items };
 }
 
-impl<S: OneFirstIntervals> RowBuffer<S> {
+impl<S: OneScan> RowBuffer<S> {
     /// Returns an empty row buffer.
     pub fn open(alloc: Global, part: &FirstIntervals<'_>) -> Result<RowBuffer<S>, Memory>
         requires { S.part ≡ Some part.now }
@@ -154,7 +153,7 @@ impl<S: OneFirstIntervals> RowBuffer<S> {
 
 /// A row of MCUs of the scan, read and not yet painted, and the marks of the intervals that end in it.
 #[derive(Drop)]
-pub struct CodedRow<S: OneFirstIntervals> {
+pub struct CodedRow<S: OneScan> {
     row: u32,
     marked: Marked,
     work: Row,
@@ -163,7 +162,7 @@ pub struct CodedRow<S: OneFirstIntervals> {
     of: PhantomData<S>,
 }
 
-impl<S: OneFirstIntervals> Model for CodedRow<S> {
+impl<S: OneScan> Model for CodedRow<S> {
     ghost use Rattle.jr_crew.specs.RowBufferValue.{CodedRowValue};
     ghost use Rattle.jr_crew.specs.RowBuffer.{HasRoom, HasWork, IsRead};
 
@@ -174,7 +173,7 @@ impl<S: OneFirstIntervals> Model for CodedRow<S> {
     ghost invariant = { λ c. HasWork S.part c.work × HasRoom S.part c.pixels.items × IsRead S.part (record { row = c.row; marked = c.marked; work = c.work }) };
 }
 
-impl<S: OneFirstIntervals> CodedRow<S> {
+impl<S: OneScan> CodedRow<S> {
     /// Transforms and paints the row.
     pub fn paint(self, part: &FirstIntervals<'_>, room: &mut PaintRoom<S>) -> Painted<S>
         requires { S.part ≡ Some part.now }
@@ -194,7 +193,7 @@ impl<S: OneFirstIntervals> CodedRow<S> {
 
 /// The lines of a row of MCUs of the scan, and the marks of the intervals that end in it.
 #[derive(Drop)]
-pub struct Painted<S: OneFirstIntervals> {
+pub struct Painted<S: OneScan> {
     row: u32,
     marked: Marked,
     work: Option<Row>,
@@ -203,7 +202,7 @@ pub struct Painted<S: OneFirstIntervals> {
     of: PhantomData<S>,
 }
 
-impl<S: OneFirstIntervals> Model for Painted<S> {
+impl<S: OneScan> Model for Painted<S> {
     ghost use Rattle.std.specs.Prelude.{IfSome};
     ghost use Rattle.jr_crew.specs.RowBufferValue.{PaintedValue};
     ghost use Rattle.jr_crew.specs.RowBuffer.{HasRoom, HasWork, IsPainted};
@@ -215,7 +214,7 @@ impl<S: OneFirstIntervals> Model for Painted<S> {
     ghost invariant = { λ p. IfSome p.work (HasWork S.part) × HasRoom S.part p.pixels.items × IsPainted S.part (record { row = p.row; marked = p.marked; pixels = p.pixels.items }) };
 }
 
-impl<S: OneFirstIntervals> Painted<S> {
+impl<S: OneScan> Painted<S> {
     /// Returns the row's number.
     pub fn row(&self) -> u32
         ensures { result ≡ self.now.row }

@@ -10,17 +10,16 @@ ghost use Rattle.jr_rows.specs.Stream.{IsSentBy};
 use crate::caller::Caller;
 use crate::caller_room::CallerRoom;
 use crate::crew::Crew;
-use crate::one_first_intervals::OneFirstIntervals;
 use jr_base::{Tally, WriteFault};
 use jr_picture::Gate;
 use jr_rows::{Marked, write_rows};
 use jr_work::tuning::MAX_TASKS;
-use jr_work::{Beside, Help};
+use jr_work::{Beside, Help, OneScan};
 use std::io::Write;
 use std::sync::Wait;
 
 /// Writes what the worker pool paints, in the calling thread, with its memory.
-fn send<R: Wait, W: Write, G: Gate, S: OneFirstIntervals>(
+fn send<R: Wait, W: Write, G: Gate, S: OneScan>(
     crew: &Crew<'_, S>,
     rt: &R,
     gate: &G,
@@ -44,13 +43,13 @@ fn send<R: Wait, W: Write, G: Gate, S: OneFirstIntervals>(
 
 /// What another thread needs to decode and paint rows.
 #[derive(Drop)]
-pub(crate) struct Helping<'s, 'a, R: Wait, G: Gate, S: OneFirstIntervals> {
+pub(crate) struct Helping<'s, 'a, R: Wait, G: Gate, S: OneScan> {
     pub(crate) crew: &'s Crew<'a, S>,
     pub(crate) rt: &'s R,
     pub(crate) gate: &'s G,
 }
 
-impl<'s, 'a, R: Wait, G: Gate, S: OneFirstIntervals> Help for Helping<'s, 'a, R, G, S> {
+impl<'s, 'a, R: Wait, G: Gate, S: OneScan> Help for Helping<'s, 'a, R, G, S> {
     /// Allocates memory of its own, then reads and paints rows until none is left. If allocation
     /// fails, the others work without this thread.
     fn help(&self) {
@@ -69,7 +68,7 @@ impl<'s, 'a, R: Wait, G: Gate, S: OneFirstIntervals> Help for Helping<'s, 'a, R,
 
 /// What the calling thread needs to write rows.
 #[derive(Drop)]
-pub(crate) struct Sending<'s, 'w, 'a, R: Wait, W: Write, G: Gate, S: OneFirstIntervals> {
+pub(crate) struct Sending<'s, 'w, 'a, R: Wait, W: Write, G: Gate, S: OneScan> {
     pub(crate) crew: &'s Crew<'a, S>,
     pub(crate) rt: &'s R,
     pub(crate) gate: &'s G,
@@ -78,7 +77,7 @@ pub(crate) struct Sending<'s, 'w, 'a, R: Wait, W: Write, G: Gate, S: OneFirstInt
     pub(crate) out: &'w mut Tally<W>,
 }
 
-impl<'s, 'w, 'a, R: Wait, W: Write, G: Gate, S: OneFirstIntervals> Beside
+impl<'s, 'w, 'a, R: Wait, W: Write, G: Gate, S: OneScan> Beside
     for Sending<'s, 'w, 'a, R, W, G, S> {
     /// The result, `None` if allocation failed, and the writer.
     type Answer = (Option<Result<Marked, WriteFault>>, &'w mut Tally<W>);

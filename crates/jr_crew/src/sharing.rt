@@ -8,19 +8,18 @@ ghost use Rattle.jr_picture.specs.Writing.{WritesPicture, BeginsPicture};
 
 use crate::crew::Crew;
 use crate::crew_size::crew_size;
-use crate::one_first_intervals::OneFirstIntervals;
 use crate::row_buffer::Painted;
-use crate::row_queue::RowQueue;
+use crate::row_work::RowWork;
 use crate::sending::{Helping, Sending};
 use jr_base::{Memory, Tally};
-use jr_picture::{Counts, Gate, PictureError};
-use jr_rows::{FirstIntervals, counts_of, intervals_of_row, shape_of, write_scan};
+use jr_picture::{Counts, FirstIntervals, Gate, PictureError};
+use jr_rows::{counts_of, intervals_of_row, shape_of, write_scan};
 use jr_scan::Scan;
 use jr_work::tuning::{
     MAX_COUNTED, MIN_MCUS_OF_BUFFER, MIN_READERS, MIN_READS, READS_OF_ROW_WORKER,
     ROW_BUFFERS_OF_WORKER,
 };
-use jr_work::{GuessQueue, run_beside, windows_of};
+use jr_work::{BufferSize, GuessQueue, OneScan, WorkQueue, run_beside, windows_of};
 use std::alloc::Global;
 use std::io::Write;
 use std::marker::Brand;
@@ -28,10 +27,7 @@ use std::sync::Wait;
 use std::thread::Threads;
 
 /// Allocates `count` slots for painted rows, at least one.
-fn open_slots<S: OneFirstIntervals>(
-    alloc: Global,
-    count: u32,
-) -> Result<Vec<Option<Painted<S>>>, Memory>
+fn open_slots<S: OneScan>(alloc: Global, count: u32) -> Result<Vec<Option<Painted<S>>>, Memory>
     ensures { IfOk result (λ v. 0 < length v.items) }
 {
     let Ok(mut slots) = Vec::with_capacity(alloc, count as usize) else {
@@ -79,35 +75,46 @@ fn mcus_of_guess(scan: &Scan) -> u32 {
 }
 
 /// Opens a queue of at most `guesses` speculative reads. A step of the reader is a row of MCUs.
-fn open_guesses<S: OneFirstIntervals>(
+fn open_guesses<S: OneScan>(
     alloc: Global,
     part: &FirstIntervals<'_>,
     guesses: u32,
 ) -> Result<GuessQueue<S>, Memory> {
     let across = shape_of(part.scan().head()).across;
-    let most = mcus_of_guess(part.scan());
-    GuessQueue::open(alloc, part.scan(), part.limit(), guesses, across, most)
+    let size = BufferSize {
+        mcus: mcus_of_guess(part.scan()),
+        keeps_blocks: true,
+    };
+    GuessQueue::open(alloc, part, part.limit(), guesses, across, size)
 }
 
 /// Opens a queue of `count` row buffers, of which the calling thread brings `own`.
-fn open_queue<S: OneFirstIntervals>(
+fn open_queue<S: OneScan>(
     alloc: Global,
     part: &FirstIntervals<'_>,
     count: u32,
     own: u32,
-) -> Result<RowQueue<S>, Memory> {
+) -> Result<WorkQueue<S, RowWork<S>>, Memory> {
     let Ok(painted) = open_slots(alloc, count) else {
         return Err(Memory);
     };
     let Ok(guesses) = open_guesses(alloc, part, guesses_of(part, count)) else {
         return Err(Memory);
     };
-    RowQueue::open(alloc, count, count.saturating_sub(own), guesses, painted)
+    let Ok(work) = RowWork::open(alloc, count, count.saturating_sub(own), painted) else {
+        return Err(Memory);
+    };
+    let mut queue = WorkQueue::of(alloc, guesses, work);
+    if queue.reserve(count as usize).is_err() {
+        drop(queue);
+        return Err(Memory);
+    }
+    Ok(queue)
 }
 
 /// Does what `write_scan_by` does, with a type for the part that is decoded, so that what the threads share under locks
 /// is known to be of it.
-fn write_as<R: Threads + Wait + Sync, W: Write, G: Gate + Sync, S: OneFirstIntervals + Send>(
+fn write_as<R: Threads + Wait + Sync, W: Write, G: Gate + Sync, S: OneScan + Send>(
     rt: &R,
     alloc: Global,
     part: FirstIntervals<'_>,
@@ -116,7 +123,6 @@ fn write_as<R: Threads + Wait + Sync, W: Write, G: Gate + Sync, S: OneFirstInter
     out: &mut Tally<W>,
 ) -> Result<Counts, PictureError>
     requires part { S.part ≡ Some part }
-    requires scan { S.scan ≡ Some part.scan }
     requires unfailed { has_failed out.old ≡ false }
     requires some { 1 ≤ workers }
     requires few { workers ≤ MAX_WORKERS }
@@ -162,7 +168,7 @@ fn write_as<R: Threads + Wait + Sync, W: Write, G: Gate + Sync, S: OneFirstInter
 /// a buffer for one, three for each thread at most: the blocks of a row and a quarter of MCUs, or of 512 MCUs if a row
 /// may have fewer bits than a speculative read. A row that waits to be painted uses memory for its blocks and samples,
 /// which stays with its row buffer; if allocation fails, the row is painted before the next one is read. Once the last row
-/// has begun, threads that would wait free what no thread needs any more.
+/// has begun, threads that have nothing else to do free what no thread needs any more, and end.
 ///
 /// If a row has whole intervals, each worker decodes and paints its rows by itself. Otherwise one at a time has the
 /// reader. With three workers and more, if an interval has some 128 KB of data, the others read ahead speculatively. A

@@ -1,49 +1,32 @@
 -- What spells the first bytes of data.
-use Rattle.std.proofs.Common.{◌≡◌, ℕ, ◌+◌, ◌-◌, ◌≤◌, List, [], ◌++◌, length, take, drop, refl, sym, ap, subst, ◌∙◌, length-append, length-drop, slice_range, arith}
+use Rattle.std.proofs.Common.{◌≡◌, ℕ, ◌+◌, ◌-◌, ◌<◌, ◌≤◌, List, [], ◌++◌, length, take, drop, sym, ap, subst, ◌∙◌, inl, inr, length-drop, slice_range, arith}
+use Rattle.std.proofs.lemmas.Bool.{cases_lt}
 use Rattle.std.proofs.lemmas.List.{append-nil, drop-drop, drop-take, length-take-le, take-append-drop, take-take}
-use Rattle.std.proofs.Math.Seq.{drop-append_seam, take-append_seam, take-add}
+use Rattle.std.proofs.Math.Seq.{drop-append_seam, take-append_seam}
 use Rattle.jr_cut.specs.Cut.{IsRaw, IsStop}
-use Rattle.jr_cut.proofs.Cuts.{raw_none, rest_is}
-use Rattle.jr_cut.proofs.Segments.{raw_append}
 use Rattle.jr_cut.proofs.Spellings.{further, up_to_stop}
 use Rattle.jr_damage.specs.declared.segments.CodedSpan.{CodedSpan}
 use Rattle.jr_damage.specs.Offsets.{BeginsByte}
 
--- `read` bytes are read, and these `found` bytes are their data
-pub record HasFound (raw : List ℕ) (read found : ℕ) : Type 0 where
-  pub bytes : List ℕ
-  pub long : length bytes ≡ found
-  pub is : IsRaw (take read raw) bytes
+-- if the first n bytes of `raw` spell `found`, at most k bytes, and fewer only up to a stop, they spell the first k bytes of all its data
+module _ (raw bytes found : List ℕ) (n k : ℕ) (all : IsRaw raw bytes) (is : IsRaw (take n raw) found) (few : length found ≤ k) (stop : length found < k → IsStop (drop n raw)) where
+  parts : take n raw ++ drop n raw ≡ raw ++ []
+  parts = take-append-drop n raw ∙ sym (append-nil raw)
 
-pub nothing_found : (raw : List ℕ) → HasFound raw 0 0
-nothing_found raw = record { bytes = []; long = refl; is = raw_none }
+  exact : k ≤ length bytes → length found ≡ k
+  exact there = elim (cases_lt (length found) k) [
+    | inl less ↦ absurd (omega (arith, there, less, up_to_stop (take n raw) found raw bytes (drop n raw) [] is all parts (stop less)))
+    | inr ge ↦ omega (arith, few, ge)
+  ]
 
-pub more_found : (raw bytes : List ℕ) (read found n : ℕ) → HasFound raw read found → IsRaw (take n (take (length raw - read) (drop read raw))) bytes → HasFound raw (read + n) (found + length bytes)
-more_found raw bytes read found n h is =
-    let behind = subst (λ (x : List ℕ). IsRaw (take n x) bytes) (rest_is raw read) is in
-    record {
-      bytes = h.bytes ++ bytes;
-      long = omega (arith, h.long, length-append h.bytes bytes);
-      is = subst (λ (x : List ℕ). IsRaw x (h.bytes ++ bytes)) (sym (take-add read n raw)) (raw_append (take read raw) h.bytes (take n (drop read raw)) bytes h.is behind);
-    }
-
-module _ (raw bytes : List ℕ) (read count : ℕ) (h : HasFound raw read count) (all : IsRaw raw bytes) where
-  parts : take read raw ++ drop read raw ≡ raw ++ []
-  parts = take-append-drop read raw ∙ sym (append-nil raw)
-
-  pub first_found : count ≤ length bytes → IsRaw (take read raw) (take count bytes) × IsRaw (drop read raw) (drop count bytes)
-  first_found few =
-      let f = further (take read raw) h.bytes raw bytes (drop read raw) [] h.is all parts (omega (arith, h.long, few)) in
-      let front : take count bytes ≡ h.bytes = ap (λ (k : ℕ). take k bytes) (sym h.long) ∙ ap (take (length h.bytes)) f.is ∙ take-append_seam h.bytes f.added in
-      let back : drop count bytes ≡ f.added = ap (λ (k : ℕ). drop k bytes) (sym h.long) ∙ ap (drop (length h.bytes)) f.is ∙ drop-append_seam h.bytes f.added in
-      let rest : drop read raw ≡ f.raw = f.spelled ∙ append-nil f.raw in
-      (subst (IsRaw (take read raw)) (sym front) h.is, subst (λ (x : List ℕ). IsRaw x (drop count bytes)) (sym rest) (subst (IsRaw f.raw) (sym back) f.raw_is))
-
-  pub all_found : IsStop (drop read raw) → length bytes ≤ count
-  all_found stop = omega (arith, h.long, up_to_stop (take read raw) h.bytes raw bytes (drop read raw) [] h.is all parts stop)
-
-pub stop_behind : (raw : List ℕ) (read n : ℕ) → IsStop (drop n (take (length raw - read) (drop read raw))) → IsStop (drop (read + n) raw)
-stop_behind raw read n stop = subst IsStop (drop-drop n read raw) (subst (λ (x : List ℕ). IsStop (drop n x)) (rest_is raw read) stop)
+  pub first_found : k ≤ length bytes → IsRaw (take n raw) (take k bytes) × IsRaw (drop n raw) (drop k bytes)
+  first_found there =
+      let long = exact there in
+      let f = further (take n raw) found raw bytes (drop n raw) [] is all parts (omega (arith, long, there)) in
+      let front : take k bytes ≡ found = ap (λ (j : ℕ). take j bytes) (sym long) ∙ ap (take (length found)) f.is ∙ take-append_seam found f.added in
+      let back : drop k bytes ≡ f.added = ap (λ (j : ℕ). drop j bytes) (sym long) ∙ ap (drop (length found)) f.is ∙ drop-append_seam found f.added in
+      let rest : drop n raw ≡ f.raw = f.spelled ∙ append-nil f.raw in
+      (subst (IsRaw (take n raw)) (sym front) is, subst (λ (x : List ℕ). IsRaw x (drop k bytes)) (sym rest) (subst (IsRaw f.raw) (sym back) f.raw_is))
 
 -- the first n bytes of a segment, which spell the first k of its data
 pub begins_byte : (file : List ℕ) (span : CodedSpan) (bytes : List ℕ) (k n : ℕ) → span.start ≤ span.end → span.end ≤ length file → n ≤ length (slice_range file span.start span.end)

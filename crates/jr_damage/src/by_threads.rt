@@ -6,11 +6,12 @@ ghost use Rattle.jr_damage.specs.Verdicts.{IsVerdictOf};
 use crate::damage::step_of;
 use crate::shared_scan::SharedScan;
 use crate::verdict::{Verdict, check_by, check_scan};
+use jr_picture::FirstIntervals;
 use jr_scan::Scan;
 use jr_work::tuning::{
     MAX_COUNTED, MIN_READS_OF_CHECK, READS_OF_CHECKER, STEPS_OF_BUFFER, WAITING_READS_OF_CHECK,
 };
-use jr_work::{Beside, GuessQueue, Help, OneScan, run_beside, windows_of};
+use jr_work::{Beside, BufferSize, GuessQueue, Help, OneScan, run_beside, windows_of};
 use std::alloc::Global;
 use std::marker::Brand;
 use std::sync::Wait;
@@ -54,45 +55,44 @@ impl<'s, 'a, R: Wait, S: OneScan> Beside for Reading<'s, 'a, R, S> {
 struct Guessing<'s, 'a, R: Wait, S: OneScan> {
     scan: &'s SharedScan<'a, S>,
     rt: &'s R,
-    alloc: Global,
 }
 
 impl<'s, 'a, R: Wait, S: OneScan> Help for Guessing<'s, 'a, R, S> {
     fn help(&self) {
-        self.scan.work(self.rt, self.alloc);
+        self.scan.work(self.rt);
     }
 }
 
-/// Does what `check_scan_by` does, with a type for the scan, so that what the threads share under a lock is known to be
+/// Does what `check_scan_by` does, with a type for the part, so that what the threads share under a lock is known to be
 /// of it.
 fn check_as<R: Threads + Wait + Sync, S: OneScan + Send>(
     rt: &R,
     alloc: Global,
-    scan: &Scan,
+    part: FirstIntervals<'_>,
     helpers: u32,
 ) -> Verdict
-    requires { S.scan ≡ Some scan.now }
-    ensures { IsVerdictOf scan.now (length scan.now.intervals) result }
+    requires { S.part ≡ Some part }
+    ensures { IsVerdictOf part.entry.scan (length part.entry.scan.intervals) result }
 {
+    let scan = part.scan();
     let room = helpers.saturating_add(WAITING_READS_OF_CHECK);
     let step = step_of(scan.head());
-    let most = step.saturating_mul(STEPS_OF_BUFFER);
+    let size = BufferSize {
+        mcus: step.saturating_mul(STEPS_OF_BUFFER),
+        keeps_blocks: false,
+    };
     let guesses: Result<GuessQueue<S>, _> = GuessQueue::open(
         alloc,
-        scan,
-        scan.intervals(),
+        &part,
+        part.limit(),
         room,
         step,
-        most,
+        size,
     );
     match guesses {
         Ok(guesses) => {
-            let shared = SharedScan::of(scan, guesses);
-            let guessing = Guessing {
-                scan: &shared,
-                rt,
-                alloc,
-            };
+            let shared = SharedScan::of(alloc, part, guesses);
+            let guessing = Guessing { scan: &shared, rt };
             run_beside(rt, helpers, &guessing, Reading { scan: &shared, rt })
         }
         Err(_) => check_scan(scan),
@@ -114,5 +114,5 @@ pub fn check_scan_by<R: Threads + Wait + Sync>(
     if helpers == 0 {
         return check_scan(scan);
     }
-    check_as::<R, Brand>(rt, alloc, scan, helpers)
+    check_as::<R, Brand>(rt, alloc, FirstIntervals::of(scan, None), helpers)
 }

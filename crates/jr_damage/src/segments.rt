@@ -6,7 +6,8 @@ ghost use Rattle.jr_cut.specs.Cut.{IsStop};
 ghost use Rattle.jr_scan.specs.ScanValue.{ScanValue, intervals_of};
 ghost use Rattle.jr_damage.specs.Coded.{EndsAfter, GoesOnAfter, IsNextAt, IsSegmentOf, IsSpelledAt};
 
-use jr_cut::{Stop, fill_count, segment_length, stop_at, unstuff_segment};
+use jr_base::marker::fill_count;
+use jr_cut::{Stop, segment_length, stop_at, unstuff_segment};
 
 /// The bytes of a file from one offset up to another: those that code an interval, with their stuffing and without the
 /// markers before and after them.

@@ -19,7 +19,7 @@ use Rattle.jr_piece.specs.Units.{grey_unit}
 use Rattle.jr_piece.proofs.Outcomes.{one_outcome}
 use Rattle.jr_piece.proofs.ScanLaws.{one_decoding, one_front, shorter_front}
 use Rattle.jr_piece.proofs.Strips.{final}
-use Rattle.jr_picture.specs.Boards.{IsPieceOf}
+use Rattle.jr_picture.specs.DecodedScan.{IsPieceOf}
 use Rattle.jr_view.specs.ViewValue.{ViewValue}
 use Rattle.jr_view.specs.Views.{AddsMcus, IsAmong, IsSameAt, first_mcu_of, first_of_strip, has_seen, size_of, unit_at}
 use Rattle.jr_view.specs.Parts.{IsPartOfPicture, ShowsOwn}

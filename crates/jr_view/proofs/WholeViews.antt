@@ -24,11 +24,10 @@ use Rattle.jr_piece.specs.Units.{grey_unit}
 use Rattle.jr_piece.proofs.ScanLaws.{outcome}
 use Rattle.jr_picture.specs.declared.mark.Mark.{Mark}
 use Rattle.jr_picture.specs.declared.mark.Mark.TheVariants.{Blank, Damaged, Sound}
-use Rattle.jr_picture.specs.BoardValue.{BoardValue}
-use Rattle.jr_picture.specs.Boards.{IsLawfulBoard, IsPieceOf, mark_of, marks_of, piece_at}
+use Rattle.jr_picture.specs.DecodedScan.{DecodedScan, IsDecodedScan, IsPieceOf, mark_of, marks_of, piece_at}
 use Rattle.jr_picture.specs.Headline.{AreFirst, Holds, IsPicture, Shows, ShowsFirst, unit_number}
 use Rattle.jr_picture.specs.Samples.{sample_in, sample_of_piece, samples_of}
-use Rattle.jr_picture.proofs.BoardPictures.{block_there, first_marked, picture, shown_is}
+use Rattle.jr_picture.proofs.DecodedPictures.{block_there, first_marked, picture, shown_is}
 use Rattle.jr_picture.proofs.Pictures.{one_picture}
 use Rattle.jr_view.specs.ViewValue.{ViewValue}
 use Rattle.jr_view.specs.Views.{sample_in_view}
@@ -39,7 +38,7 @@ abbrev pub own : ScanValue → ℕ → PieceValue
 own scan i = (outcome (interval_of scan i)).0
 
 -- a board with all of them
-abbrev pub whole : ScanValue → BoardValue
+abbrev pub whole : ScanValue → DecodedScan
 whole scan = record { scan = scan; pieces = map (λ i. Some (own scan i)) (range_with_len 0 (length scan.intervals)) }
 
 own_at : (scan : ScanValue) (i : ℕ) → i < length scan.intervals → piece_at (whole scan) i ≡ Some (own scan i)
@@ -62,7 +61,7 @@ abbrev value_or : PieceValue → Option PieceValue → PieceValue
 value_or d None = d
 value_or d (Some p) = p
 
-lawful : (scan : ScanValue) → IsLawfulBoard (whole scan)
+lawful : (scan : ScanValue) → IsDecodedScan (whole scan)
 lawful scan = record {
   places = length-map-range_with_len (λ j. Some (own scan j)) 0 (length scan.intervals);
   each = λ i p e. elim (cases_lt i (length scan.intervals)) [

@@ -4,7 +4,7 @@ use Rattle.jr_head.specs.Geometry.{blocks_of, mcus_of}
 use Rattle.jr_head.specs.Intervals.{interval_number, intervals_of}
 use Rattle.jr_piece.specs.PieceValue.{PieceValue}
 use Rattle.jr_piece.specs.Units.{grey_unit}
-use Rattle.jr_picture.specs.Boards.{IsPieceOf}
+use Rattle.jr_picture.specs.DecodedScan.{IsPieceOf}
 use Rattle.jr_view.specs.ViewValue.{ViewValue}
 use Rattle.jr_view.specs.Views.{ShowsPiece, has_seen, unit_at}
 

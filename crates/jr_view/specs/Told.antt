@@ -5,7 +5,7 @@ use Rattle.jr_scan.specs.ScanValue.{ScanValue}
 use Rattle.jr_piece.specs.PieceValue.{PieceValue}
 use Rattle.jr_piece.specs.StripValue.{StripValue}
 use Rattle.jr_piece.specs.Strips.{IsStrip}
-use Rattle.jr_picture.specs.Boards.{IsPieceOf}
+use Rattle.jr_picture.specs.DecodedScan.{IsPieceOf}
 
 -- it is shown a strip or a piece, or is asked whether it is done
 pub data Notice : Type 0 where

@@ -10,9 +10,8 @@ use mir.Val.{bool_byte}
 use native.Mathlib.Decide.{ℕ_discrete}
 use Rattle.jr_scan.specs.ScanValue.{ScanValue}
 use Rattle.jr_piece.specs.PieceValue.{PieceValue}
-use Rattle.jr_picture.specs.BoardValue.{BoardValue}
+use Rattle.jr_picture.specs.DecodedScan.{DecodedScan, is_sound_piece, is_damaged_piece, IsFor, IsPieceOf}
 use Rattle.jr_piece.specs.Outcome.{IsOutcome}
-use Rattle.jr_picture.specs.Boards.{is_sound_piece, is_damaged_piece, IsFor, IsPieceOf}
 use Rattle.jr_wall.specs.Kept.{KeepsCounts, shared_piece}
 
 pub no_piece : (n i : ℕ) → get_or (replicate {A = Option PieceValue} n None) i None ≡ None
@@ -45,7 +44,7 @@ count_set test ps n p h none e =
     omega arith
 
 -- one more piece is posted: its mark counts, and the counts fit
-pub record Posted (b : BoardValue) (n : ℕ) (p : PieceValue) (sound damaged : ℕ) : Type 0 where
+pub record Posted (b : DecodedScan) (n : ℕ) (p : PieceValue) (sound damaged : ℕ) : Type 0 where
   pub kept : KeepsCounts (record { scan = b.scan; pieces = set b.pieces n (Some p) }) sound damaged
   pub sound_fits : sound < 2 ^ 32
   pub damaged_fits : damaged < 2 ^ 32
@@ -58,7 +57,7 @@ turned : (b : Bool) → let n : ℕ = cond (cond b false true) 1 0 in n ≡ bool
 turned true = refl
 turned false = refl
 
-pub posts : (b : BoardValue) (n : ℕ) (p : PieceValue) (sound damaged more less : ℕ) → KeepsCounts b sound damaged → n ≡ p.interval.number → IsFor p.interval b.scan → IsOutcome p → get_or b.pieces n None ≡ None
+pub posts : (b : DecodedScan) (n : ℕ) (p : PieceValue) (sound damaged more less : ℕ) → KeepsCounts b sound damaged → n ≡ p.interval.number → IsFor p.interval b.scan → IsOutcome p → get_or b.pieces n None ≡ None
     → more ≡ bool_byte p.is_sound → less ≡ bool_byte (not p.is_sound) → Posted b n p (sound + more) (damaged + less)
 posts b n p sound damaged more less k is for outcome none m l =
     let places = k.lawful.places in

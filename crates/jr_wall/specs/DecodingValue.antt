@@ -1,7 +1,8 @@
 -- What contracts see of a decoding: the scan, the desk that hands out its first intervals, and the cells.
-use Rattle.std.specs.Prelude.{◌≡◌, ℕ, List, Option, None, slice_index_or}
+use Rattle.std.specs.Prelude.{◌≡◌, ℕ, List, length, Option, None, slice_index_or}
 use Rattle.std.specs.Option.{IfSome}
 use Rattle.jr_scan.specs.ScanValue.{ScanValue}
+use Rattle.jr_picture.specs.FirstIntervalsValue.{FirstIntervalsValue}
 use Rattle.jr_cells.specs.Values.{DeskValue}
 use Rattle.jr_cells.specs.StripCellsValue.{StripCellsValue}
 
@@ -19,3 +20,7 @@ AreNumbered strips = (i : ℕ) → IfSome (slice_index_or strips i None) (λ c. 
 -- the cells of the strips of interval i
 abbrev pub strips_at : DecodingValue → ℕ → Option StripCellsValue
 strips_at d i = slice_index_or d.strips i None
+
+-- all intervals of a scan
+abbrev pub whole : ScanValue → FirstIntervalsValue
+whole scan = record { scan = scan; limit = length scan.intervals }

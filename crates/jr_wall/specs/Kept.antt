@@ -4,8 +4,7 @@ use Rattle.std.specs.declared.sync.Arc.{Arc}
 use Rattle.std.specs.Arc.{arc_value}
 use Rattle.std.specs.declared.alloc.Global.{Global}
 use Rattle.jr_piece.specs.PieceValue.{PieceValue}
-use Rattle.jr_picture.specs.BoardValue.{BoardValue}
-use Rattle.jr_picture.specs.Boards.{IsLawfulBoard, is_sound_piece, is_damaged_piece}
+use Rattle.jr_picture.specs.DecodedScan.{DecodedScan, IsDecodedScan, is_sound_piece, is_damaged_piece}
 
 -- the piece that an Arc holds
 abbrev pub shared_piece : Option (Arc PieceValue Global) → Option PieceValue
@@ -13,8 +12,8 @@ shared_piece None = None
 shared_piece (Some p) = Some (arc_value p)
 
 -- what the fields of a board keep
-pub record KeepsCounts (b : BoardValue) (sound damaged : ℕ) : Type 0 where
-  pub lawful : IsLawfulBoard b
+pub record KeepsCounts (b : DecodedScan) (sound damaged : ℕ) : Type 0 where
+  pub lawful : IsDecodedScan b
   pub few : length b.pieces < 2 ^ 32
   pub sound_is : sound ≡ count_by is_sound_piece b.pieces
   pub damaged_is : damaged ≡ count_by is_damaged_piece b.pieces

@@ -7,7 +7,7 @@ ghost use Rattle.std.specs.Option.{option_copied};
 ghost use Rattle.std.specs.Arc.{arc_value};
 ghost use Rattle.std.specs.Fn.{FnOnceReturnsAt};
 ghost use Rattle.jr_base.specs.declared.limits.TheConstants.{MAX_WORKERS};
-ghost use Rattle.jr_wall.specs.DecodingValue.{strips_at};
+ghost use Rattle.jr_wall.specs.DecodingValue.{strips_at, whole};
 ghost use Rattle.jr_wall.specs.Decoded.{IsDecoded};
 ghost use Rattle.jr_picture.specs.Headline.{least};
 
@@ -18,7 +18,7 @@ use crate::sweeping::{sweep, usable};
 use crate::workers::{hang, make_piece};
 use jr_cells::{Cells, Desk, Seat, Sight, StripCells};
 use jr_code::Memory;
-use jr_picture::Gate;
+use jr_picture::{FirstIntervals, Gate};
 use jr_piece::Piece;
 use jr_scan::Scan;
 use jr_work::{Job, OneScan};
@@ -100,6 +100,13 @@ impl Decoding {
         &self.scan
     }
 
+    /// Returns the whole scan, as what its workers share knows it.
+    fn part(&self) -> FirstIntervals<'_>
+        ensures { result ≡ whole self.now.scan }
+    {
+        FirstIntervals::of(&self.scan, None)
+    }
+
     /// Returns the board that the workers post on.
     pub fn board(&self) -> &Mutex<Board> {
         &self.board
@@ -161,7 +168,7 @@ impl Decoding {
         F: FnOnce(&Decoding) -> T,
         S: OneScan + Send,
     >(&self, rt: &R, seats: Vec<Seat>, own: Option<Seat>, gate: &G, jobs: &Jobs<S>, beside: F) -> T
-        requires scan { S.scan ≡ Some self.now.scan }
+        requires part { S.part ≡ Some (whole self.now.scan) }
         requires seats { All (λ s. s.desk ≡ self.now.desk) seats.items }
         requires own { IfSome own (λ s. s.desk ≡ self.now.desk) }
         requires beside { F.IsAlwaysCallable beside }
@@ -171,13 +178,13 @@ impl Decoding {
             thread::scope_env(),
             rt,
             |scope| -> T
-                requires { F.IsAlwaysCallable beside × All (λ s. s.desk ≡ self.now.desk) seats.items × IfSome own (λ s. s.desk ≡ self.now.desk) × (S.scan ≡ Some self.now.scan) }
+                requires { F.IsAlwaysCallable beside × All (λ s. s.desk ≡ self.now.desk) seats.items × IfSome own (λ s. s.desk ≡ self.now.desk) × (S.part ≡ Some (whole self.now.scan)) }
                 ensures { FnOnceReturnsAt F.FnOnce beside self.entry.now result }
             {
                 for mut seat in seats {
                     let _ = scope.spawn(
                         move ||
-                            requires { (seat.desk ≡ self.now.desk) × (S.scan ≡ Some self.now.scan) }
+                            requires { (seat.desk ≡ self.now.desk) × (S.part ≡ Some (whole self.now.scan)) }
                         { self.work_with(rt, &mut seat, gate, jobs) },
                     );
                 }
@@ -210,7 +217,7 @@ impl Decoding {
         gate: &G,
         jobs: &Jobs<S>,
     )
-        requires scan { S.scan ≡ Some self.now.scan }
+        requires part { S.part ≡ Some (whole self.now.scan) }
         requires desk { seat.old.desk ≡ self.now.desk }
         ensures ended { seat.new.ended ≡ true }
         ensures desk { seat.new.desk ≡ seat.old.desk }
@@ -235,11 +242,11 @@ impl Decoding {
         gate: &G,
         jobs: &Jobs<S>,
     ) -> Option<Arc<Piece>>
-        requires scan { S.scan ≡ Some self.now.scan }
+        requires part { S.part ≡ Some (whole self.now.scan) }
         requires number { number < length self.now.scan.intervals }
     {
         if let Some(cells) = self.strips(number)
-            && let Some(job) = jobs.claimed(self.alloc, &self.scan, number)
+            && let Some(job) = jobs.claimed(self.alloc, &self.part(), number)
         {
             return self.share(rt, gate, &job, cells);
         }
@@ -255,7 +262,7 @@ impl Decoding {
         jobs: &Jobs<S>,
         sight: &mut Option<Sight>,
     )
-        requires scan { S.scan ≡ Some self.now.scan }
+        requires part { S.part ≡ Some (whole self.now.scan) }
         requires sight { IfSome sight.old (λ s. s.cells ≡ self.now.cells) }
     {
         let count = jobs.count();
@@ -279,16 +286,17 @@ impl Decoding {
         job: &Job<S>,
         cells: &StripCells,
     ) -> Option<Arc<Piece>>
-        requires { S.scan ≡ Some self.now.scan }
+        requires { S.part ≡ Some (whole self.now.scan) }
     {
+        let part = self.part();
         let mut sight = cells.sight().ok();
         for _ in 0..job.interval().mcus() {
-            let Some(strip) = job.step(rt, self.alloc, &self.scan) else {
+            let Some(strip) = job.step(rt, self.alloc, &part) else {
                 break;
             };
             hang_strip(cells, strip, &mut sight);
         }
-        let piece = job.piece(rt, self.alloc, &self.scan)?;
+        let piece = job.piece(rt, self.alloc, &part)?;
         gate.made(&piece);
         Arc::new(self.alloc, piece).ok()
     }
@@ -329,7 +337,7 @@ fn run_as<
     F: FnOnce(&Decoding) -> T,
     S: OneScan + Send,
 >(decoding: &Decoding, rt: &R, seats: Vec<Seat>, own: Option<Seat>, gate: &G, beside: F) -> T
-    requires scan { S.scan ≡ Some decoding.now.scan }
+    requires part { S.part ≡ Some (whole decoding.now.scan) }
     requires seats { All (λ s. s.desk ≡ decoding.now.desk) seats.items }
     requires own { IfSome own (λ s. s.desk ≡ decoding.now.desk) }
     requires beside { F.IsAlwaysCallable beside }
@@ -342,7 +350,7 @@ fn run_as<
     } else {
         Jobs::shared(
             decoding.alloc,
-            &decoding.scan,
+            &decoding.part(),
             decoding.strips.as_slice(),
             workers,
         )
@@ -352,7 +360,7 @@ fn run_as<
 
 /// Does what `work_with` does, with a type for the scan.
 fn work_as<R: Wait, G: Gate, S: OneScan>(decoding: &Decoding, rt: &R, seat: &mut Seat, gate: &G)
-    requires scan { S.scan ≡ Some decoding.now.scan }
+    requires part { S.part ≡ Some (whole decoding.now.scan) }
     requires desk { seat.old.desk ≡ decoding.now.desk }
     ensures ended { seat.new.ended ≡ true }
     ensures desk { seat.new.desk ≡ seat.old.desk }

@@ -3,7 +3,7 @@
 ghost use Rattle.std.specs.Prelude.{ℕ, List};
 ghost use Rattle.jr_scan.specs.ScanValue.{IsSameScan, ScanValue};
 ghost use Rattle.jr_picture.specs.declared.mark.Mark.{Mark};
-ghost use Rattle.jr_picture.specs.Boards.{marks_of};
+ghost use Rattle.jr_picture.specs.DecodedScan.{marks_of};
 ghost use Rattle.jr_picture.specs.Headline.{IsPicture, AreCounts};
 ghost use Rattle.jr_picture.specs.Samples.{samples_of};
 

@@ -3,7 +3,7 @@
 ghost use Rattle.std.specs.Prelude.{◌≡◌, ◌<◌, ◌≤◌, length, Some};
 
 use jr_cells::StripCells;
-use jr_scan::Scan;
+use jr_picture::FirstIntervals;
 use jr_work::{Job, OneScan};
 use std::alloc::Global;
 use std::sync::Arc;
@@ -20,30 +20,35 @@ pub(crate) enum Jobs<S: OneScan> {
 }
 
 /// Opens a job of interval i for `workers` workers. `None` if allocation fails.
-fn job_of<S: OneScan>(alloc: Global, scan: &Scan, i: u32, workers: usize) -> Option<Arc<Job<S>>>
-    requires scan { S.scan ≡ Some scan.now }
-    requires i { i < length scan.now.intervals }
+fn job_of<S: OneScan>(
+    alloc: Global,
+    part: &FirstIntervals<'_>,
+    i: u32,
+    workers: usize,
+) -> Option<Arc<Job<S>>>
+    requires part { S.part ≡ Some part.now }
+    requires i { i < length part.now.scan.intervals }
 {
-    Arc::new(alloc, Job::open(alloc, scan, i, workers).ok()?).ok()
+    Arc::new(alloc, Job::open(alloc, part, i, workers).ok()?).ok()
 }
 
 impl<S: OneScan> Jobs<S> {
     /// Opens jobs for the intervals that have cells of strips, each for `workers` workers.
     pub(crate) fn shared(
         alloc: Global,
-        scan: &Scan,
+        part: &FirstIntervals<'_>,
         strips: &[Option<StripCells>],
         workers: usize,
     ) -> Jobs<S>
-        requires scan { S.scan ≡ Some scan.now }
-        requires strips { length strips.now ≤ length scan.now.intervals }
+        requires part { S.part ≡ Some part.now }
+        requires strips { length strips.now ≤ length part.now.scan.intervals }
     {
         // By its contract an interval's number fits into 32 bits.
-        let _all = scan.intervals();
+        let _all = part.scan().intervals();
         let mut jobs = Vec::new(alloc);
         for i in 0..strips.len() {
             let job = match strips[i] {
-                Some(_) => job_of(alloc, scan, i as u32, workers),
+                Some(_) => job_of(alloc, part, i as u32, workers),
                 None => None,
             };
             if jobs.push(job).is_err() {
@@ -71,13 +76,18 @@ impl<S: OneScan> Jobs<S> {
 
     /// Returns the job by which a long interval i is decoded that a worker has claimed. `None` if it is decoded as a
     /// whole.
-    pub(crate) fn claimed(&self, alloc: Global, scan: &Scan, i: u32) -> Option<Arc<Job<S>>>
-        requires scan { S.scan ≡ Some scan.now }
-        requires i { i < length scan.now.intervals }
+    pub(crate) fn claimed(
+        &self,
+        alloc: Global,
+        part: &FirstIntervals<'_>,
+        i: u32,
+    ) -> Option<Arc<Job<S>>>
+        requires part { S.part ≡ Some part.now }
+        requires i { i < length part.now.scan.intervals }
     {
         match self {
             Jobs::Shared(jobs) => Arc::try_clone(jobs.get(i as usize)?.as_ref()?).ok(),
-            Jobs::Own => job_of(alloc, scan, i, 1),
+            Jobs::Own => job_of(alloc, part, i, 1),
             Jobs::Whole => None,
         }
     }

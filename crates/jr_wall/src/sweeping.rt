@@ -4,7 +4,7 @@ ghost use Rattle.std.specs.Prelude.{◌≡◌, ◌≢◌, ◌<◌, ◌≤◌, �
 ghost use Rattle.std.specs.Arc.{arc_value};
 ghost use Rattle.jr_picture.specs.declared.mark.Mark.TheVariants.{Blank};
 ghost use Rattle.jr_scan.specs.ScanValue.{IsSameScan};
-ghost use Rattle.jr_picture.specs.Boards.{mark_at};
+ghost use Rattle.jr_picture.specs.DecodedScan.{mark_at};
 ghost use Rattle.jr_wall.specs.Decoded.{IsDecoded};
 
 use crate::board::Board;

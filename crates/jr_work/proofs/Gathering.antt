@@ -9,7 +9,8 @@ use Rattle.std.specs.Arc.{arc_value}
 use Rattle.std.proofs.lemmas.List.Elements.{All-append}
 use Rattle.std.proofs.lemmas.List.{map-append}
 use Rattle.jr_scan.specs.IntervalValue.{IntervalValue}
-use Rattle.jr_scan.specs.ScanValue.{ScanValue, HasInterval, interval_of}
+use Rattle.jr_scan.specs.ScanValue.{HasInterval, interval_of}
+use Rattle.jr_picture.specs.FirstIntervalsValue.{FirstIntervalsValue}
 use Rattle.jr_work.specs.Sharing.{IsOneOf}
 use Rattle.jr_piece.specs.PieceValue.{PieceValue}
 use Rattle.jr_piece.specs.StripValue.{StripValue}
@@ -33,10 +34,10 @@ tells_end true i k sound damaged w = (w, (w.0, sound refl w.0 w.1.front))
 tells_end false i k sound damaged w = (w, damaged refl w)
 
 -- an interval of a known scan is that scan's interval of its number
-pub its_interval : (known : Option ScanValue) (s : ScanValue) (i : IntervalValue) (n : ℕ) → known ≡ Some s → IsOneOf known i → n ≡ i.number → (n < length s.intervals) × (i ≡ interval_of s n)
-its_interval known s i n is own e =
-    let of : HasInterval s i = subst (λ (k : Option ScanValue). IsOneOf k i) is own in
-    (omega (arith, e, of.0), of.1 ∙ ap (interval_of s) (sym e))
+pub its_interval : (known : Option FirstIntervalsValue) (p : FirstIntervalsValue) (i : IntervalValue) (n : ℕ) → known ≡ Some p → IsOneOf known i → n ≡ i.number → (n < length p.scan.intervals) × (i ≡ interval_of p.scan n)
+its_interval known p i n is own e =
+    let of : HasInterval p.scan i = subst (λ (k : Option FirstIntervalsValue). IsOneOf k i) is own in
+    (omega (arith, e, of.0), of.1 ∙ ap (interval_of p.scan) (sym e))
 
 -- the interval that was returned, if memory sufficed for it
 pub taken : {E : Type 0} (r : Result IntervalValue E) (x j : IntervalValue) → Some x ≡ result_ok r → IfOk r (λ v. v ≡ j) → x ≡ j

@@ -1,12 +1,14 @@
 -- What several workers know of a long interval that they decode together.
-use Rattle.std.specs.Prelude.{◌≡◌, Option, Some, None}
+use Rattle.std.specs.Prelude.{◌≡◌, Option}
 use Rattle.std.specs.Option.{IfSome}
 use Rattle.std.specs.declared.sync.Arc.{Arc}
 use Rattle.std.specs.declared.alloc.Global.{Global}
 use Rattle.std.specs.Arc.{arc_value}
 use Rattle.jr_scan.specs.Guesses.{AreGuessesOf}
 use Rattle.jr_scan.specs.IntervalValue.{IntervalValue}
-use Rattle.jr_scan.specs.ScanValue.{ScanValue, HasInterval}
+use Rattle.jr_scan.specs.ScanValue.{HasInterval}
+use Rattle.jr_picture.specs.FirstIntervalsValue.{FirstIntervalsValue}
+use Rattle.jr_work.specs.Guessing.{OfPart}
 use Rattle.jr_piece.specs.StripValue.{StripValue}
 use Rattle.jr_piece.specs.Strips.{TellsEnd}
 use Rattle.jr_work.specs.declared.reading.End.{End}
@@ -16,18 +18,17 @@ use Rattle.jr_work.specs.declared.waiting_strip.WaitingStrip.{WaitingStrip}
 use Rattle.jr_work.specs.declared.waiting_strip.WaitingStrip.TheVariants.{Coded, Placed}
 
 -- the interval is one of the scan's, if there is one
-abbrev pub IsOneOf : Option ScanValue → IntervalValue → Type 0
-IsOneOf None i = ⊥
-IsOneOf (Some s) i = HasInterval s i
+abbrev pub IsOneOf : Option FirstIntervalsValue → IntervalValue → Type 0
+IsOneOf known i = OfPart known (λ part. HasInterval part.scan i)
 
 -- a position is empty, or holds a strip of the interval
 abbrev pub IsEmptyOrOf : IntervalValue → Option (Arc StripValue Global) → Type 0
 IsEmptyOrOf i slot = IfSome slot (λ s. (arc_value s).interval ≡ i)
 
 -- the end of the scan's interval of that number
-pub record IsEndOf (scan : Option ScanValue) (e : End) : Type 0 where
+pub record IsEndOf (known : Option FirstIntervalsValue) (e : End) : Type 0 where
   pub interval : IntervalValue
-  pub own : IsOneOf scan interval
+  pub own : IsOneOf known interval
   pub number : interval.number ≡ e.number
   pub ends : TellsEnd interval e.front e.is_sound
 
@@ -41,6 +42,6 @@ HasItsGuesses (Coded s) = Unit {0}
 HasItsGuesses (Placed s guesses) = AreGuessesOf s.interval guesses
 
 -- what follows is of an interval of the scan
-abbrev pub IsNextOf : Option ScanValue → Next → Type 0
-IsNextOf scan (Strip s) = IsOneOf scan (interval_of_strip s) × HasItsGuesses s
-IsNextOf scan (Ended e) = IsEndOf scan e
+abbrev pub IsNextOf : Option FirstIntervalsValue → Next → Type 0
+IsNextOf known (Strip s) = IsOneOf known (interval_of_strip s) × HasItsGuesses s
+IsNextOf known (Ended e) = IsEndOf known e

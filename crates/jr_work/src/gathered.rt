@@ -40,7 +40,7 @@ impl<S: OneScan> Model for Gathered<S> {
 
     ghost view = { λ g. arc_value g.interval };
 
-    ghost invariant = { λ g. (0 < g.each) × IsOneOf S.scan (arc_value g.interval) × All (IsEmptyOrOf (arc_value g.interval)) g.strips.items × IfSome g.end (λ e. TellsEnd (arc_value g.interval) e.front e.is_sound) };
+    ghost invariant = { λ g. (0 < g.each) × IsOneOf S.part (arc_value g.interval) × All (IsEmptyOrOf (arc_value g.interval)) g.strips.items × IfSome g.end (λ e. TellsEnd (arc_value g.interval) e.front e.is_sound) };
 }
 
 /// Returns the strips of all positions; `None` if a position is empty.
@@ -69,7 +69,7 @@ fn put(places: &mut Vec<Option<Arc<Strip>>>, place: usize, strip: Arc<Strip>) ->
 impl<S: OneScan> Gathered<S> {
     /// Returns the strips of an interval of which none is decoded yet.
     pub(crate) fn of(alloc: Global, interval: Arc<Interval>) -> Gathered<S>
-        requires { IsOneOf S.scan (arc_value interval) }
+        requires { IsOneOf S.part (arc_value interval) }
         ensures { result ≡ arc_value interval }
     {
         let each = strip_mcus(&interval);
@@ -86,7 +86,7 @@ impl<S: OneScan> Gathered<S> {
 
     /// Keeps a strip of this interval at its index; ignores a strip of another interval.
     pub(crate) fn keep(&mut self, strip: Arc<Strip>) -> Result<(), Memory>
-        requires { IsOneOf S.scan (arc_value strip).interval }
+        requires { IsOneOf S.part (arc_value strip).interval }
         ensures { self.new ≡ self.old }
     {
         if strip.number() != self.interval.number() {
@@ -100,7 +100,7 @@ impl<S: OneScan> Gathered<S> {
 
     /// Notes where this interval ends, until its strips are taken.
     pub(crate) fn close(&mut self, end: End)
-        requires { IsEndOf S.scan end }
+        requires { IsEndOf S.part end }
         ensures { self.new ≡ self.old }
     {
         if !self.is_given && end.number == self.interval.number() {
@@ -110,7 +110,7 @@ impl<S: OneScan> Gathered<S> {
 
     /// Takes the interval's number, all strips and the end, once they are there. They are returned once.
     pub(crate) fn take(&mut self, alloc: Global) -> Option<(u32, Vec<Arc<Strip>>, End)>
-        ensures own { IsOneOf S.scan self.old }
+        ensures own { IsOneOf S.part self.old }
         ensures number { IfSome result (λ r. r.0 ≡ self.old.number) }
         ensures strips { IfSome result (λ r. AreOf self.old (shared_strips r.1.items)) }
         ensures end { IfSome result (λ r. TellsEnd self.old r.2.front r.2.is_sound) }

@@ -1,18 +1,18 @@
 //! Speculative reads ahead of a reader of a scan, and buffers for them.
 
-ghost use Rattle.std.specs.Prelude.{◌≡◌, ◌*◌, ◌/◌, ◌<◌, Some, IfOk, length, true, false};
+ghost use Rattle.std.specs.Prelude.{◌≡◌, ◌*◌, ◌/◌, ◌<◌, Some, IfOk, length};
 ghost use Rattle.jr_work.specs.declared.tuning.TheConstants.{MIN_BITS_OF_READ};
 ghost use Rattle.jr_scan.specs.ScanValue.{interval_of};
 ghost use Rattle.jr_scan.specs.Guesses.{AreGuessesOf};
 
-use crate::choice::{Choice, Steps};
 use crate::guess_slot::GuessSlot;
 use crate::guess_task::GuessTask;
 use crate::one_scan::OneScan;
-use crate::scan_guess::ScanGuess;
+use crate::scan_guess::{BufferSize, ScanGuess};
 use crate::tuning::MIN_BITS_OF_READ;
 use crate::window::{Window, bits_of};
 use jr_base::Memory;
+use jr_picture::FirstIntervals;
 use jr_scan::{Guesses, Scan};
 use std::alloc::Global;
 
@@ -41,8 +41,8 @@ pub struct GuessQueue<S: OneScan> {
     slots: Vec<GuessSlot<S>>,
     /// Number of buffers that no thread brings yet.
     lacking: u32,
-    /// Number of MCUs that fit into a buffer.
-    most: u32,
+    /// Size of a buffer.
+    size: BufferSize,
     /// Position of the reader: its interval and bit.
     at: (u32, u64),
     /// Start of the next speculative read.
@@ -53,7 +53,7 @@ pub struct GuessQueue<S: OneScan> {
 
 impl<S: OneScan> GuessQueue<S> {
     /// Opens a queue of at most `guesses` speculative reads of the first `limit` intervals, for which threads bring
-    /// buffers of `most` MCUs each. The reader is at the start, and its steps are of `step` MCUs. A speculative read
+    /// buffers of this size. The reader is at the start, and its steps are of `step` MCUs. A speculative read
     /// has about the bits of one step, so its buffer holds more.
     ///
     /// # Errors
@@ -61,11 +61,11 @@ impl<S: OneScan> GuessQueue<S> {
     /// `Memory` if allocation fails.
     pub fn open(
         alloc: Global,
-        scan: &Scan,
+        part: &FirstIntervals<'_>,
         limit: u32,
         guesses: u32,
         step: u32,
-        most: u32,
+        size: BufferSize,
     ) -> Result<GuessQueue<S>, Memory>
         ensures { IfOk result (λ q. q.at ≡ (0, 0)) }
     {
@@ -73,15 +73,15 @@ impl<S: OneScan> GuessQueue<S> {
             limit,
             slots: Vec::with_capacity(alloc, guesses as usize)?,
             lacking: guesses,
-            most,
+            size,
             at: (0, 0),
             next: (0, 0),
-            step_bits: bits_of_step(scan, step),
+            step_bits: bits_of_step(part.scan(), step),
         })
     }
 
     /// Returns a queue of no speculative reads.
-    pub fn none(alloc: Global) -> GuessQueue<S>
+    pub(crate) fn none(alloc: Global) -> GuessQueue<S>
         ensures { result.at ≡ (0, 0) }
     {
         let start = (0, 0);
@@ -89,7 +89,7 @@ impl<S: OneScan> GuessQueue<S> {
             limit: 0,
             slots: Vec::new(alloc),
             lacking: 0,
-            most: 0,
+            size: BufferSize::none(),
             at: start,
             next: start,
             step_bits: MIN_BITS_OF_READ,
@@ -97,46 +97,44 @@ impl<S: OneScan> GuessQueue<S> {
     }
 
     /// Returns whether one more buffer is of use: no thread brings one yet, and there are bits to read ahead.
-    fn wants_room(&self, scan: &Scan) -> bool {
-        self.lacking > 0 && self.next_window(scan).is_some()
+    pub(crate) fn wants_room(&self, part: &FirstIntervals<'_>) -> bool {
+        self.lacking > 0 && self.next_window(part).is_some()
     }
 
-    /// Returns the number of MCUs of a buffer that a thread is to bring; `None` if there are all buffers, or others
+    /// Returns the size of a buffer that a thread is to bring; `None` if there are all buffers, or others
     /// bring them.
-    pub fn lacks_room(&mut self) -> Option<u32>
+    pub(crate) fn lacks_room(&mut self) -> Option<BufferSize>
         ensures { self.new.at ≡ self.old.at }
     {
         if self.lacking == 0 {
             return None;
         }
         self.lacking -= 1;
-        Some(self.most)
+        Some(self.size)
     }
 
     /// Takes one more buffer, which a thread brings.
-    pub fn bring(&mut self, room: ScanGuess<S>)
+    pub(crate) fn bring(&mut self, room: ScanGuess<S>)
         ensures { self.new.at ≡ self.old.at }
     {
         drop(self.slots.push(GuessSlot::of(room)));
     }
 
-    /// Frees the buffers; no speculative read is made any more.
-    pub(crate) fn end(&mut self)
+    /// Takes a buffer, once no speculative read is made any more.
+    pub(crate) fn spare(&mut self) -> Option<GuessSlot<S>>
         ensures { self.new.at ≡ self.old.at }
     {
-        self.limit = 0;
-        self.lacking = 0;
-        self.slots.clear();
+        self.slots.pop()
     }
 
     /// Notes that the reader is at this bit of an interval.
-    pub fn reach(&mut self, scan: &Scan, number: u32, bit: u64)
+    pub fn reach(&mut self, part: &FirstIntervals<'_>, number: u32, bit: u64)
         ensures { self.new.at ≡ (number, bit) }
     {
         let bits = if number == self.at.0 {
             bit.saturating_sub(self.at.1)
         } else if self.at.1 == 0 {
-            bits_of(scan, self.at.0)
+            bits_of(part.scan(), self.at.0)
         } else {
             0
         };
@@ -154,9 +152,9 @@ impl<S: OneScan> GuessQueue<S> {
     }
 
     /// Returns a bit near the end of the next step, if it is as long as the last one; `None` if the data end before.
-    fn next_end(&self, scan: &Scan) -> Option<u64> {
+    fn next_end(&self, part: &FirstIntervals<'_>) -> Option<u64> {
         let end = self.at.1.saturating_add(self.step_bits);
-        if end < bits_of(scan, self.at.0) {
+        if end < bits_of(part.scan(), self.at.0) {
             Some(end)
         } else {
             None
@@ -165,9 +163,9 @@ impl<S: OneScan> GuessQueue<S> {
 
     /// Returns whether a speculative read has an MCU that starts where the reader is, and one covers the end of its
     /// next step: then the step needs no reading.
-    fn has_next(&self, scan: &Scan) -> bool {
+    pub(crate) fn has_next(&self, part: &FirstIntervals<'_>) -> bool {
         let (number, bit) = self.at;
-        let has_end = match self.next_end(scan) {
+        let has_end = match self.next_end(part) {
             Some(end) => self.slots.iter().any(|slot| slot.is_ready(number, end)),
             None => true,
         };
@@ -175,9 +173,9 @@ impl<S: OneScan> GuessQueue<S> {
     }
 
     /// Returns whether a thread makes a speculative read that can serve the reader's next step.
-    pub fn makes_next(&self, scan: &Scan) -> bool {
+    pub fn makes_next(&self, part: &FirstIntervals<'_>) -> bool {
         let (number, bit) = self.at;
-        let end = self.next_end(scan).unwrap_or(bit);
+        let end = self.next_end(part).unwrap_or(bit);
         self.slots.iter().any(|slot| slot.is_made(number, bit) || slot.is_made(number, end))
     }
 
@@ -189,11 +187,11 @@ impl<S: OneScan> GuessQueue<S> {
 
     /// Returns the bits of the next speculative read: past those of the others, and past the reader's next step, which
     /// it makes meanwhile; as many as the last step had, and up to half as many more if the interval ends there.
-    fn next_window(&self, scan: &Scan) -> Option<Window> {
+    fn next_window(&self, part: &FirstIntervals<'_>) -> Option<Window> {
         let (number, bit) = self
             .next
             .max((self.at.0, self.at.1.saturating_add(self.step_bits)));
-        let (number, from) = if bit < bits_of(scan, number) {
+        let (number, from) = if bit < bits_of(part.scan(), number) {
             (number, bit)
         } else {
             (number.saturating_add(1), 0)
@@ -201,7 +199,7 @@ impl<S: OneScan> GuessQueue<S> {
         if number >= self.limit {
             return None;
         }
-        let all = bits_of(scan, number);
+        let all = bits_of(part.scan(), number);
         let to = from.saturating_add(self.step_bits);
         let is_last = to.saturating_add(self.step_bits / 2) >= all;
         Some(Window {
@@ -212,40 +210,15 @@ impl<S: OneScan> GuessQueue<S> {
     }
 
     /// Returns whether another speculative read can be made.
-    pub fn can_guess(&self, scan: &Scan) -> bool {
-        self.free_slot().is_some() && self.next_window(scan).is_some()
-    }
-
-    /// Chooses what a worker does next: it skips a step, or reads one, if it can, so that reading continues; otherwise
-    /// it finishes one; and it makes a speculative read, or brings a buffer for one, if nothing else is to be done. A
-    /// step for which a speculative read is being made waits for it, and for nothing else.
-    pub fn choice(&self, scan: &Scan, steps: Steps) -> Choice
-        ensures wait { result ≡ Choice.Wait → (steps.has_unfinished ≡ false) × (steps.is_over ≡ false) }
-        ensures end { result ≡ Choice.End → (steps.has_unfinished ≡ false) × (steps.is_over ≡ true) }
-    {
-        if steps.can_begin && !steps.is_over && !self.makes_next(scan) {
-            return if self.has_next(scan) {
-                Choice::Skip
-            } else {
-                Choice::Read
-            };
-        }
-        if steps.has_unfinished {
-            Choice::Finish
-        } else if steps.is_over {
-            Choice::End
-        } else if self.can_guess(scan) || (steps.brings_buffers && self.wants_room(scan)) {
-            Choice::Speculate
-        } else {
-            Choice::Wait
-        }
+    pub(crate) fn can_guess(&self, part: &FirstIntervals<'_>) -> bool {
+        self.free_slot().is_some() && self.next_window(part).is_some()
     }
 
     /// Takes the next speculative read, for a thread to make.
-    pub fn take(&mut self, scan: &Scan) -> Option<GuessTask<S>>
+    pub fn take(&mut self, part: &FirstIntervals<'_>) -> Option<GuessTask<S>>
         ensures { self.new.at ≡ self.old.at }
     {
-        let (Some(place), Some(window)) = (self.free_slot(), self.next_window(scan)) else {
+        let (Some(place), Some(window)) = (self.free_slot(), self.next_window(part)) else {
             return None;
         };
         self.next = (window.number, window.to);
@@ -263,7 +236,7 @@ impl<S: OneScan> GuessQueue<S> {
     }
 
     /// Keeps a speculative read that is made.
-    pub fn put(&mut self, made: GuessTask<S>)
+    pub(crate) fn put(&mut self, made: GuessTask<S>)
         ensures { self.new.at ≡ self.old.at }
     {
         let GuessTask { place, guess, .. } = made;
@@ -274,9 +247,9 @@ impl<S: OneScan> GuessQueue<S> {
 
     /// Returns the speculative reads for the next step of a reader in interval `number`, if it is not much longer than
     /// the last one; none if the reader is not there.
-    pub fn for_next(&self, scan: &Scan, number: u32) -> Guesses
-        requires { S.scan ≡ Some scan.now }
-        ensures { AreGuessesOf (interval_of scan.now number) result }
+    pub fn for_next(&self, part: &FirstIntervals<'_>, number: u32) -> Guesses
+        requires { S.part ≡ Some part.now }
+        ensures { AreGuessesOf (interval_of part.now.scan number) result }
     {
         let (at, bit) = self.at;
         let to = bit.saturating_add(self.step_bits.saturating_add(self.step_bits / 2));

@@ -11,7 +11,7 @@ use std::mem::replace;
 
 /// The buffer of a speculative read, and the bits that it covers.
 #[derive(Drop)]
-pub(crate) struct GuessSlot<S: OneScan> {
+pub struct GuessSlot<S: OneScan> {
     window: Window,
     /// None while a thread makes it.
     guess: Option<ScanGuess<S>>,
@@ -72,8 +72,8 @@ impl<S: OneScan> GuessSlot<S> {
 
     /// Adds the speculative read of this slot, if it is of the interval, to those of the interval.
     pub(crate) fn put_into(&self, number: u32, guesses: Guesses) -> Guesses
-        requires { AreGuesses S.scan number guesses }
-        ensures { AreGuesses S.scan number result }
+        requires { AreGuesses S.part number guesses }
+        ensures { AreGuesses S.part number result }
     {
         match &self.guess {
             Some(guess) => guess.put_into(number, guesses),

@@ -5,7 +5,7 @@ ghost use Rattle.std.specs.Prelude.{◌≡◌, Some};
 use crate::one_scan::OneScan;
 use crate::scan_guess::ScanGuess;
 use crate::window::Window;
-use jr_scan::Scan;
+use jr_picture::FirstIntervals;
 
 /// The buffer of a speculative read that a thread makes outside of the lock, its bits, and its index in the queue.
 #[derive(Drop)]
@@ -17,10 +17,10 @@ pub struct GuessTask<S: OneScan> {
 
 impl<S: OneScan> GuessTask<S> {
     /// Reads MCUs starting at the first of its bits, as if one started there and each prediction were 0.
-    pub fn make(self, scan: &Scan) -> GuessTask<S>
-        requires { S.scan ≡ Some scan.now }
+    pub fn make(self, part: &FirstIntervals<'_>) -> GuessTask<S>
+        requires { S.part ≡ Some part.now }
     {
-        let guess = self.guess.read(scan, self.window);
+        let guess = self.guess.read(part, self.window);
         GuessTask {
             place: self.place,
             window: self.window,

@@ -6,17 +6,18 @@ ghost use Rattle.std.specs.Arc.{arc_value};
 ghost use Rattle.jr_work.specs.Sharing.{IsOneOf};
 
 use crate::gathered::Gathered;
-use crate::progress::{Progress, ScanStrip, StripTask};
-use crate::reading::{Reading, strip_mcus};
+use crate::reading::{Next, Reading, strip_mcus};
+use crate::strip_work::{ScanStrip, StripWork};
 use crate::tuning::{MAX_TASKS, MIN_READERS, MIN_READS, READS_OF_STRIP_WORKER, STEPS_OF_BUFFER};
-use crate::{GuessQueue, GuessTask, OneScan, ScanGuess, windows_of};
+use crate::{BufferSize, GuessQueue, OneScan, SharedWork, Task, WorkQueue, windows_of};
 use jr_base::limits::MAX_WORKERS;
 use jr_code::Memory;
+use jr_picture::FirstIntervals;
 use jr_piece::{Piece, Strip};
-use jr_scan::{Interval, Scan};
+use jr_scan::Interval;
 use std::alloc::Global;
 use std::marker::Model;
-use std::sync::{Arc, Condvar, Mutex, Wait};
+use std::sync::{Arc, Wait};
 
 /// An interval that several workers decode, a strip at a time, each by a free worker. One of them reads strip after
 /// strip. With three and more, others read ahead speculatively: a strip that these reads cover is skipped, and read
@@ -25,9 +26,7 @@ use std::sync::{Arc, Condvar, Mutex, Wait};
 #[derive(Drop)]
 pub struct Job<S: OneScan> {
     interval: Arc<Interval>,
-    progress: Mutex<Progress<S>>,
-    /// Signalled when a worker has read a strip, or all, or made a speculative read.
-    has_read: Condvar,
+    shared: SharedWork<S, StripWork<S>>,
 }
 
 impl<S: OneScan> Model for Job<S> {
@@ -39,46 +38,51 @@ impl<S: OneScan> Model for Job<S> {
 
     ghost view = { λ j. arc_value j.interval };
 
-    ghost invariant = { λ j. IsOneOf S.scan (arc_value j.interval) };
+    ghost invariant = { λ j. IsOneOf S.part (arc_value j.interval) };
 }
 
 /// Opens a queue of speculative reads of interval i of a scan, which is read in steps of `step` MCUs, by `workers`
 /// workers, which bring the buffers. It makes none if they are not worth their work, or if allocation fails.
 fn open_guesses<S: OneScan>(
     alloc: Global,
-    scan: &Scan,
+    part: &FirstIntervals<'_>,
     i: u32,
     step: u32,
     workers: usize,
 ) -> GuessQueue<S>
-    requires { i < length scan.now.intervals }
+    requires { i < length part.now.scan.intervals }
 {
-    let windows = windows_of(scan, i);
+    let windows = windows_of(part.scan(), i);
     if workers < MIN_READERS as usize || windows < MIN_READS {
         return GuessQueue::none(alloc);
     }
     let most = workers.min(MAX_WORKERS as usize) as u32 * READS_OF_STRIP_WORKER;
     let count = windows.min(u64::from(most)) as u32;
-    let most = step.saturating_mul(STEPS_OF_BUFFER);
-    let limit = i.saturating_add(1);
-    let Ok(mut queue) = GuessQueue::open(alloc, scan, limit, count, step, most) else {
-        return GuessQueue::none(alloc);
+    let size = BufferSize {
+        mcus: step.saturating_mul(STEPS_OF_BUFFER),
+        keeps_blocks: true,
     };
-    if i > 0 {
-        queue.reach(scan, i, 0);
+    let limit = i.saturating_add(1);
+    match GuessQueue::open(alloc, part, limit, count, step, size) {
+        Ok(queue) => queue,
+        Err(_) => GuessQueue::none(alloc),
     }
-    queue
 }
 
 impl<S: OneScan> Job<S> {
     /// Opens a job of interval i of a scan for `workers` workers, of which nothing is done yet. `Err` if allocation
     /// fails.
-    pub fn open(alloc: Global, scan: &Scan, i: u32, workers: usize) -> Result<Job<S>, Memory>
-        requires scan { S.scan ≡ Some scan.now }
-        requires i { i < length scan.now.intervals }
-        ensures { IfOk result (λ j. j ≡ interval_of scan.now i) }
+    pub fn open(
+        alloc: Global,
+        part: &FirstIntervals<'_>,
+        i: u32,
+        workers: usize,
+    ) -> Result<Job<S>, Memory>
+        requires part { S.part ≡ Some part.now }
+        requires i { i < length part.now.scan.intervals }
+        ensures { IfOk result (λ j. j ≡ interval_of part.now.scan i) }
     {
-        let Ok(interval) = scan.interval(i) else {
+        let Ok(interval) = part.scan().interval(i) else {
             return Err(Memory);
         };
         let interval = Arc::new(alloc, interval)?;
@@ -86,14 +90,14 @@ impl<S: OneScan> Job<S> {
             return Err(Memory);
         };
         let reading = Reading::of(read);
-        let guesses = open_guesses(alloc, scan, i, strip_mcus(&interval), workers);
+        let guesses = open_guesses(alloc, part, i, strip_mcus(&interval), workers);
         let gathered = Gathered::of(alloc, kept);
-        let most_waiting = workers.saturating_sub(1).max(1);
-        let progress = Progress::of(alloc, reading, guesses, gathered, most_waiting);
+        let work = StripWork::of(alloc, gathered, workers.saturating_sub(1).max(1));
+        let mut queue = WorkQueue::of(alloc, guesses, work);
+        queue.put(part, None, Some(reading));
         Ok(Job {
             interval,
-            progress: Mutex::new(progress),
-            has_read: Condvar::new(),
+            shared: SharedWork::of(queue),
         })
     }
 
@@ -104,55 +108,35 @@ impl<S: OneScan> Job<S> {
         &self.interval
     }
 
-    /// Waits for a task and returns it. `None` if none is left.
-    fn task<R: Wait>(&self, rt: &R, scan: &Scan) -> Option<StripTask<S>>
-        requires { S.scan ≡ Some scan.now }
+    /// Reads a strip or skips it; it then waits for a free worker.
+    fn read<R: Wait>(
+        &self,
+        rt: &R,
+        alloc: Global,
+        part: &FirstIntervals<'_>,
+        mut reading: Reading<S>,
+    )
+        requires { S.part ≡ Some part.now }
     {
-        let progress = self.progress.lock(rt);
-        let mut progress = self
-            .has_read
-            .wait_while(rt, progress, |progress| progress.has_no_task(scan));
-        progress.task(scan)
-    }
-
-    /// Reads a strip or skips it, and wakes a worker that waits for one.
-    fn read<R: Wait>(&self, rt: &R, alloc: Global, scan: &Scan, mut reading: Reading<S>) {
-        let next = reading.next(alloc);
-        let is_over = self.progress.lock(rt).put(scan, reading, next);
-        if is_over {
-            self.has_read.notify_all();
-        } else {
-            self.has_read.notify_one();
-        }
-    }
-
-    /// Brings a buffer for speculative reads if some are lacking: so an interval that no worker decodes yet uses none,
-    /// and if allocation fails others make those that have one.
-    fn bring<R: Wait>(&self, rt: &R, alloc: Global, scan: &Scan)
-        requires { S.scan ≡ Some scan.now }
-    {
-        let lacking = self.progress.lock(rt).lacks_guess();
-        if let Some(most) = lacking
-            && let Ok(room) = ScanGuess::open(alloc, scan, most, true)
-        {
-            self.progress.lock(rt).bring_guess(room);
-            self.has_read.notify_one();
-        }
-    }
-
-    /// Makes a speculative read, and wakes a worker that may wait for it.
-    fn speculate<R: Wait>(&self, rt: &R, scan: &Scan, task: GuessTask<S>)
-        requires { S.scan ≡ Some scan.now }
-    {
-        let made = task.make(scan);
-        self.progress.lock(rt).put_guess(made);
-        self.has_read.notify_one();
+        let (step, reader) = match reading.next(alloc) {
+            Ok(Next::Strip(strip)) => (Some(ScanStrip::of(strip)), Some(reading)),
+            Ok(Next::End(end)) => {
+                drop(reading);
+                self.shared.queue.lock(rt).work.gathered.close(end);
+                (None, None)
+            }
+            Err(Memory) => {
+                drop(reading);
+                (None, None)
+            }
+        };
+        self.shared.put(rt, part, step, reader);
     }
 
     /// Returns the samples of a strip.
     fn transform(&self, alloc: Global, waiting: &ScanStrip<S>) -> Result<Arc<Strip>, Memory>
         ensures interval { IfOk result (λ s. (arc_value s).interval ≡ self.now) }
-        ensures own { IfOk result (λ s. IsOneOf S.scan (arc_value s).interval) }
+        ensures own { IfOk result (λ s. IsOneOf S.part (arc_value s).interval) }
     {
         let Ok(strip) = waiting.decode(alloc) else {
             return Err(Memory);
@@ -181,34 +165,32 @@ impl<S: OneScan> Job<S> {
         let Ok(same) = Arc::try_clone(&strip) else {
             return Err(Memory);
         };
-        self.progress.lock(rt).keep(same, blocks)?;
+        self.shared.queue.lock(rt).work.keep(same, blocks)?;
         Ok(strip)
-    }
-
-    /// Ends the work of all workers, since allocation failed.
-    fn give_up<R: Wait>(&self, rt: &R) {
-        self.progress.lock(rt).give_up();
-        self.has_read.notify_all();
     }
 
     /// Decodes a strip, as other workers may do at the same time. `None` if nothing is left to do for this one, or if
     /// allocation fails.
-    pub fn step<R: Wait>(&self, rt: &R, alloc: Global, scan: &Scan) -> Option<Arc<Strip>>
-        requires { S.scan ≡ Some scan.now }
+    pub fn step<R: Wait>(
+        &self,
+        rt: &R,
+        alloc: Global,
+        part: &FirstIntervals<'_>,
+    ) -> Option<Arc<Strip>>
+        requires { S.part ≡ Some part.now }
         ensures { IfSome result (λ s. (arc_value s).interval ≡ self.now) }
     {
-        self.bring(rt, alloc, scan);
         for _ in 0..MAX_TASKS {
-            let Some(task) = self.task(rt, scan) else {
+            let Some(task) = self.shared.task(rt, part) else {
                 return None;
             };
             match task {
-                StripTask::Begin(reading) => self.read(rt, alloc, scan, reading),
-                StripTask::Speculate(task) => self.speculate(rt, scan, task),
-                StripTask::Finish(waiting) => {
+                Task::Begin(reading, _skips) => self.read(rt, alloc, part, reading),
+                Task::Assist(assist) => self.shared.assist(rt, alloc, part, assist),
+                Task::Finish(waiting) => {
                     let strip = self.decode(rt, alloc, waiting).ok();
                     if strip.is_none() {
-                        self.give_up(rt);
+                        self.shared.end(rt);
                     }
                     return strip;
                 }
@@ -218,15 +200,15 @@ impl<S: OneScan> Job<S> {
     }
 
     /// Returns the interval's piece, once all strips are decoded; it is returned once.
-    pub fn piece<R: Wait>(&self, rt: &R, alloc: Global, scan: &Scan) -> Option<Piece>
-        requires { S.scan ≡ Some scan.now }
+    pub fn piece<R: Wait>(&self, rt: &R, alloc: Global, part: &FirstIntervals<'_>) -> Option<Piece>
+        requires { S.part ≡ Some part.now }
         ensures { IfSome result (λ p. p.interval ≡ self.now) }
     {
-        let (number, strips, end) = self.progress.lock(rt).take(alloc)?;
+        let (number, strips, end) = self.shared.queue.lock(rt).work.gathered.take(alloc)?;
         if number != self.interval.number() {
             return None;
         }
-        let interval = scan.interval(number).ok()?;
+        let interval = part.scan().interval(number).ok()?;
         Piece::of_strips(interval, strips, end.front, end.is_sound).ok()
     }
 }

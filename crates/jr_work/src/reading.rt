@@ -91,13 +91,13 @@ impl<S: OneScan> Model for Reading<S> {
 
     ghost view = { λ r. r.reader.interval };
 
-    ghost invariant = { λ r. IsOneOf S.scan r.reader.interval × (0 < r.each) × AreGuessesOf r.reader.interval r.guesses };
+    ghost invariant = { λ r. IsOneOf S.part r.reader.interval × (0 < r.each) × AreGuessesOf r.reader.interval r.guesses };
 }
 
 impl<S: OneScan> Reading<S> {
     /// Returns a reader of an interval of which nothing is read yet.
     pub(crate) fn of(interval: Arc<Interval>) -> Reading<S>
-        requires { IsOneOf S.scan (arc_value interval) }
+        requires { IsOneOf S.part (arc_value interval) }
         ensures { result ≡ arc_value interval }
     {
         let each = strip_mcus(&interval);
@@ -138,7 +138,7 @@ impl<S: OneScan> Reading<S> {
 
     /// Reads the next strip, or skips it.
     pub(crate) fn next(&mut self, alloc: Global) -> Result<Next, Memory>
-        ensures { IfOk result (IsNextOf S.scan) }
+        ensures { IfOk result (IsNextOf S.part) }
     {
         let reader = &mut self.reader;
         if let Some(strip) = next_strip(alloc, reader, &self.guesses, self.each)? {

@@ -6,10 +6,30 @@ ghost use Rattle.jr_work.specs.Guessing.{AreGuesses};
 use crate::one_scan::OneScan;
 use crate::window::Window;
 use jr_base::Memory;
-use jr_scan::{Guess, Guesses, Scan};
+use jr_picture::FirstIntervals;
+use jr_scan::{Guess, Guesses};
 use std::alloc::Global;
 use std::marker::{Model, PhantomData};
 use std::sync::Arc;
+
+/// The size of a buffer for a speculative read.
+#[derive(Clone, Copy)]
+pub struct BufferSize {
+    /// Maximum number of MCUs.
+    pub mcus: u32,
+    /// Whether the blocks of MCUs are kept. If not, a reader can skip the MCUs, but not read them.
+    pub keeps_blocks: bool,
+}
+
+impl BufferSize {
+    /// Returns the size of a buffer for nothing.
+    pub(crate) fn none() -> BufferSize {
+        BufferSize {
+            mcus: 0,
+            keeps_blocks: false,
+        }
+    }
+}
 
 /// A speculative read of an interval of the scan, or a buffer for one. Several threads may read it.
 #[derive(Drop)]
@@ -27,23 +47,23 @@ impl<S: OneScan> Model for ScanGuess<S> {
 
     ghost view = { λ g. arc_value g.guess };
 
-    ghost invariant = { λ g. HasGuessOf S.scan (arc_value g.guess) };
+    ghost invariant = { λ g. HasGuessOf S.part (arc_value g.guess) };
 }
 
 impl<S: OneScan> ScanGuess<S> {
-    /// Allocates a buffer for a speculative read of at most `most` MCUs. If their blocks are not kept, a reader can skip
-    /// the MCUs, but not read them.
+    /// Allocates a buffer of this size.
     pub fn open(
         alloc: Global,
-        scan: &Scan,
-        most: u32,
-        keeps_blocks: bool,
+        part: &FirstIntervals<'_>,
+        size: BufferSize,
     ) -> Result<ScanGuess<S>, Memory>
-        requires { S.scan ≡ Some scan.now }
+        requires { S.part ≡ Some part.now }
     {
+        let scan = part.scan();
         // By its contract a scan has an interval.
         let _some = scan.intervals();
-        let Ok(guess) = Guess::open(alloc, &scan.interval_ref(0), most, keeps_blocks) else {
+        let Ok(guess) = Guess::open(alloc, &scan.interval_ref(0), size.mcus, size.keeps_blocks)
+        else {
             return Err(Memory);
         };
         let Ok(guess) = Arc::new(alloc, guess) else {
@@ -66,9 +86,10 @@ impl<S: OneScan> ScanGuess<S> {
     }
 
     /// Makes the speculative read of these bits.
-    pub(crate) fn read(self, scan: &Scan, window: Window) -> ScanGuess<S>
-        requires { S.scan ≡ Some scan.now }
+    pub(crate) fn read(self, part: &FirstIntervals<'_>, window: Window) -> ScanGuess<S>
+        requires { S.part ≡ Some part.now }
     {
+        let scan = part.scan();
         let mut guess = self.guess;
         if window.number < scan.intervals()
             && let Some(room) = Arc::get_mut(&mut guess)
@@ -83,8 +104,8 @@ impl<S: OneScan> ScanGuess<S> {
 
     /// Adds this speculative read, if it is of the interval, to those of the interval.
     pub(crate) fn put_into(&self, number: u32, guesses: Guesses) -> Guesses
-        requires { AreGuesses S.scan number guesses }
-        ensures { AreGuesses S.scan number result }
+        requires { AreGuesses S.part number guesses }
+        ensures { AreGuesses S.part number result }
     {
         if self.guess.number() != number {
             return guesses;

@@ -1,4 +1,4 @@
-use Rattle.std.proofs.Common.{rules, sym, subst, take, drop, inl, inr, arith}
+use Rattle.std.proofs.Common.{rules, sym, subst, inl, inr, arith}
 use Rattle.std.proofs.lemmas.List.{take_rest}
 use Rattle.jr_cut.specs.Cut.{IsStop}
 use Rattle.jr_cut.proofs.Following.{restart_within}

@@ -2,9 +2,9 @@ use Rattle.std.proofs.Common.{◌<◌, sym, subst, rules}
 use Rattle.jr_head.specs.HeadValue.{HeadValue}
 use Rattle.jr_head.specs.Geometry.{components_of}
 use Rattle.jr_paint.specs.Geometry.{samples_across, samples_down}
-use Rattle.jr_picture.specs.Boards.{marks_of}
+use Rattle.jr_picture.specs.DecodedScan.{marks_of}
 use Rattle.jr_picture.specs.Samples.{samples_of}
-use Rattle.jr_picture.proofs.BoardPictures.{same_picture}
+use Rattle.jr_picture.proofs.DecodedPictures.{same_picture}
 use Rattle.jr_wall.specs.Glimpses.{IsGlimpse}
 use Rattle.jr_wall.proofs.glimpse.glimpse_of.Goals as goal
 

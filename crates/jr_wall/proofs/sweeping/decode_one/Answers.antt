@@ -3,7 +3,7 @@ use Rattle.std.specs.Arc.{arc_value}
 use Rattle.jr_scan.specs.IntervalValue.{IntervalValue}
 use Rattle.jr_scan.specs.ScanValue.{interval_of}
 use Rattle.jr_piece.specs.PieceValue.{PieceValue}
-use Rattle.jr_picture.specs.Boards.{mark_at}
+use Rattle.jr_picture.specs.DecodedScan.{mark_at}
 use Rattle.jr_wall.proofs.Sweeps.{is_for, not_refused, posted_mark, posted_others, posted_places, posted_scan}
 use Rattle.jr_wall.proofs.sweeping.decode_one.Goals as goal
 

@@ -2,8 +2,7 @@ use Rattle.std.proofs.Common.{◌≡◌, ℕ, ◌<◌, ◌≤◌, Bool, false, n
 use Rattle.std.proofs.lemmas.Bool.{cases_lt, false≢true}
 use Rattle.std.proofs.lemmas.List.{get_or_past}
 use denote.Enum.Bare.{sameb}
-use Rattle.jr_picture.specs.BoardValue.{BoardValue}
-use Rattle.jr_picture.specs.Boards.{mark_at, mark_of}
+use Rattle.jr_picture.specs.DecodedScan.{DecodedScan, mark_at, mark_of}
 use Rattle.jr_picture.specs.declared.mark.Mark.{Mark}
 use Rattle.jr_picture.specs.contracts.mark.Mark.{the_type}
 use Rattle.jr_picture.specs.declared.mark.Mark.TheVariants.{Blank, Sound, Damaged}
@@ -16,7 +15,7 @@ blank_of Sound b f e = absurd (false≢true (sym f ∙ e))
 blank_of Damaged b f e = absurd (false≢true (sym f ∙ e))
 
 -- past the last interval every mark is blank
-all_left : (b : BoardValue) (n i : ℕ) → length b.pieces ≤ i → ((k : ℕ) → n ≤ k → k < i → mark_at b k ≡ Blank) → (k : ℕ) → n ≤ k → mark_at b k ≡ Blank
+all_left : (b : DecodedScan) (n i : ℕ) → length b.pieces ≤ i → ((k : ℕ) → n ≤ k → k < i → mark_at b k ≡ Blank) → (k : ℕ) → n ≤ k → mark_at b k ≡ Blank
 all_left b n i end below k le = elim (cases_lt k i) [
   | inl lt ↦ below k le lt
   | inr ge ↦ ap mark_of (get_or_past b.pieces k _ (omega (arith, end, ge)))

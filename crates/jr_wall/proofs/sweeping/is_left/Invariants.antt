@@ -1,6 +1,6 @@
 use Rattle.std.proofs.Common.{◌≡◌, ◌<◌, ◌≤◌, ℕ}
 use Rattle.jr_picture.specs.declared.mark.Mark.TheVariants.{Blank}
-use Rattle.jr_picture.specs.Boards.{mark_at}
+use Rattle.jr_picture.specs.DecodedScan.{mark_at}
 use Rattle.jr_wall.proofs.sweeping.is_left.Given as goal
 
 abbrev pub invariant-loop-i : goal.invariant-loop-i

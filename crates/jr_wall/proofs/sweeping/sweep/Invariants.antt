@@ -1,7 +1,7 @@
 use Rattle.std.proofs.Common.{◌≡◌, ◌≢◌, ◌<◌, ◌≤◌, ℕ, length}
 use Rattle.jr_scan.specs.ScanValue.{IsSameScan}
 use Rattle.jr_picture.specs.declared.mark.Mark.TheVariants.{Blank}
-use Rattle.jr_picture.specs.Boards.{mark_at}
+use Rattle.jr_picture.specs.DecodedScan.{mark_at}
 use Rattle.jr_wall.proofs.sweeping.sweep.Given as goal
 
 abbrev pub invariant-loop-i : goal.invariant-loop-i

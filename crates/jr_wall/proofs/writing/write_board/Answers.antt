@@ -5,16 +5,15 @@ use Rattle.jr_head.specs.HeadValue.{HeadValue}
 use Rattle.jr_head.specs.Geometry.{IsLawful}
 use Rattle.jr_paint.specs.Text.{text_of}
 use Rattle.jr_scan.specs.ScanValue.{ScanValue}
-use Rattle.jr_picture.specs.BoardValue.{BoardValue}
-use Rattle.jr_picture.specs.Boards.{marks_of}
+use Rattle.jr_picture.specs.DecodedScan.{DecodedScan, marks_of}
 use Rattle.jr_picture.specs.Headline.{IsPicture, ShowsFirst, least}
 use Rattle.jr_picture.specs.Samples.{samples_of}
-use Rattle.jr_picture.proofs.BoardPictures.{same_picture}
+use Rattle.jr_picture.proofs.DecodedPictures.{same_picture}
 use Rattle.jr_wall.specs.Decoded.{IsDecoded}
 use Rattle.jr_wall.proofs.writing.write_board.Goals as goal
 
 -- the image of a decoded board
-shows_first : (s : ScanValue) (n : ℕ) (b : BoardValue) → IsLawful s.head → IsDecoded s n b → IsPicture b.scan (marks_of b) (samples_of b) → ShowsFirst s n (marks_of b) (samples_of b)
+shows_first : (s : ScanValue) (n : ℕ) (b : DecodedScan) → IsLawful s.head → IsDecoded s n b → IsPicture b.scan (marks_of b) (samples_of b) → ShowsFirst s n (marks_of b) (samples_of b)
 shows_first s n b lawful decoded picture = record { lawful = lawful; picture = same_picture b.scan s (marks_of b) (samples_of b) decoded.same picture; first = decoded.first }
 
 pub returns-in-Ok-write_netpbm-clause-painted : goal.returns-in-Ok-write_netpbm-clause-painted

@@ -3,12 +3,12 @@ use Rattle.std.proofs.lemmas.List.{length-take-le}
 use Rattle.jr_head.specs.HeadValue.{HeadValue}
 use Rattle.jr_head.specs.Geometry.{mcus_across, mcus_down}
 use Rattle.jr_paint.specs.Lines.{line_room}
-use Rattle.jr_picture.specs.BoardValue.{BoardValue}
+use Rattle.jr_picture.specs.DecodedScan.{DecodedScan}
 use Rattle.jr_scan.specs.ScanValue.{ScanValue}
 use Rattle.jr_rows.specs.Bands.{ShowsMcus}
 use Rattle.jr_rows.specs.Groups.{units_in}
 use Rattle.jr_rows.specs.RowLines.{HasLines}
-use Rattle.jr_rows.specs.Rows.{AreRead, HasFirst, HasRowRoom, ShowsLines, line_count}
+use Rattle.jr_rows.specs.Rows.{AreRead, DecodesFirst, HasRowRoom, ShowsLines, line_count}
 use Rattle.jr_rows.specs.RowsValue.{RowValue}
 use Rattle.jr_rows.proofs.PaintedRows.{shows}
 use Rattle.jr_crew.proofs.RowBuffers.{first_lines, lines_fit}
@@ -79,7 +79,7 @@ returns-clause-lines c =
     let s = c.scan-scan.result.now in
     let n = c.limit-limit.result in
     let new = c.paint_row.new.pixels in
-    let units = subst (λ (r : RowValue). (b : BoardValue) → HasFirst s n b → ShowsMcus b (row * mcus_across s.head) (units_in s.head r.lines.groups)) (sym c.self.view_is) c.transform.ensures.units in
+    let units = subst (λ (r : RowValue). (b : DecodedScan) → DecodesFirst s n b → ShowsMcus b (row * mcus_across s.head) (units_in s.head r.lines.groups)) (sym c.self.view_is) c.transform.ensures.units in
     let shown = shows s n row hd c.self.inside.lines.groups new c.head-head.ensures.value units c.paint_row.ensures in
     let there = subst (λ (x : ScanValue). ShowsLines x n row new) c.scan-scan.ensures shown in
     first_lines t c.args.part.now.limit row _ new c.args.pixels.now fit.0 fit.1 c.paint_row.auto.pixels (subst (λ (k : ℕ). ShowsLines t k row new) c.limit-limit.ensures.value there)

@@ -1,7 +1,7 @@
 use Rattle.std.proofs.Common.{rules, arith, sym, subst, ◌≡◌, ℕ, ◌*◌, ◌≤◌, Option, List, length}
 use Rattle.jr_head.specs.Geometry.{vertical_max}
 use Rattle.jr_paint.specs.Lines.{line_room, line_size}
-use Rattle.jr_rows.specs.FirstIntervalsValue.{FirstIntervalsValue}
+use Rattle.jr_picture.specs.FirstIntervalsValue.{FirstIntervalsValue}
 use Rattle.jr_rows.proofs.Lent.{all_back}
 use Rattle.jr_crew.specs.RowBuffer.{HasLineRoom, HasRoom, HasSamples, HasWork, IsPainted, IsRead}
 use Rattle.jr_crew.proofs.row_buffer.CodedRow.paint.Goals as goal
@@ -19,7 +19,7 @@ invariant_of-result g c =
     let is = all_back old.len new old.items long in
     let room : 8 * vertical_max t.head * line_size t.head ≤ length old.items = subst (λ (k : Option FirstIntervalsValue). HasRoom k old.items) c.requires c.self.invariant.1 in
     let read = subst (λ (k : Option FirstIntervalsValue). IsRead k (record { row = row; marked = marked; work = c.self.inside.work })) c.requires c.self.invariant.2 in
-    subst (λ (ps : List ℕ). HasWork g.S.OneFirstIntervals.part work × HasRoom g.S.OneFirstIntervals.part ps × IsPainted g.S.OneFirstIntervals.part (record { row = row; marked = marked; pixels = ps })) (sym is)
+    subst (λ (ps : List ℕ). HasWork g.S.OneScan.part work × HasRoom g.S.OneScan.part ps × IsPainted g.S.OneScan.part (record { row = row; marked = marked; pixels = ps })) (sym is)
     (subst (λ (k : Option FirstIntervalsValue). HasWork k work × HasRoom k new × IsPainted k (record { row = row; marked = marked; pixels = new })) (sym c.requires)
     (c.paint.ensures.room, omega (arith, room, same), record { row = read.row; lines = c.paint.ensures.lines; counts = read.counts }))
 
@@ -30,8 +30,8 @@ invariant_of-room g c =
     let same : length new ≡ length old.items = search (rules, c.paint.auto.room) in
     let long : old.len ≡ length new = search (rules, c.paint.auto.room) in
     let is = all_back old.len new old.items long in
-    subst (λ (bs : List ℕ). HasLineRoom g.S.OneFirstIntervals.part (length bs) × HasSamples g.S.OneFirstIntervals.part c.room.inside.work) (sym is)
-    (subst (HasLineRoom g.S.OneFirstIntervals.part) (sym same) c.room.invariant.0, c.room.invariant.1)
+    subst (λ (bs : List ℕ). HasLineRoom g.S.OneScan.part (length bs) × HasSamples g.S.OneScan.part c.room.inside.work) (sym is)
+    (subst (HasLineRoom g.S.OneScan.part) (sym same) c.room.invariant.0, c.room.invariant.1)
 
 pub paint-requires-clause-lines : goal.paint-requires-clause-lines
 paint-requires-clause-lines g c =

@@ -4,7 +4,7 @@ use Rattle.std.proofs.lemmas.Slice.{take-put_mid_below}
 use borrow.Rule.Slice.PartMut.{put_mid}
 use Rattle.jr_head.specs.Geometry.{vertical_max}
 use Rattle.jr_paint.specs.Lines.{line_size}
-use Rattle.jr_rows.specs.FirstIntervalsValue.{FirstIntervalsValue}
+use Rattle.jr_picture.specs.FirstIntervalsValue.{FirstIntervalsValue}
 use Rattle.jr_rows.specs.Rows.{line_count}
 use Rattle.jr_crew.specs.RowBuffer.{HasRoom, IsPainted}
 use Rattle.jr_crew.specs.RowBufferValue.{PaintedValue}
@@ -74,7 +74,7 @@ returns-clause-lines g c b first =
     let from = c.args.from in
     let size = c.args.to - from in
     let ours = c.self.inside.pixels.items in
-    let painted = subst (λ (k : Option FirstIntervalsValue). IsPainted k c.args.self) c.requires.part (subst (IsPainted g.S.OneFirstIntervals.part) c.self.view_is c.self.invariant.2) in
+    let painted = subst (λ (k : Option FirstIntervalsValue). IsPainted k c.args.self) c.requires.part (subst (IsPainted g.S.OneScan.part) c.self.view_is c.self.invariant.2) in
     let zero_from : from ≡ 0 = omega (arith, c.if-from-gt0.false) in
     let whole : size ≡ n = omega (arith, c.requires.room) in
     let all : take size (drop from ours) ≡ take n ours = ap (λ (j : ℕ). take size (drop j ours)) zero_from ∙ ap (λ (j : ℕ). take j ours) whole in

@@ -2,7 +2,7 @@ use Rattle.std.proofs.Common.{rules, arith, sym, subst, ◌≡◌, ℕ, ◌*◌,
 use Rattle.std.specs.Option.{IfSome}
 use Rattle.jr_head.specs.Geometry.{vertical_max}
 use Rattle.jr_paint.specs.Lines.{line_size}
-use Rattle.jr_rows.specs.FirstIntervalsValue.{FirstIntervalsValue}
+use Rattle.jr_picture.specs.FirstIntervalsValue.{FirstIntervalsValue}
 use Rattle.jr_rows.specs.Rows.{CountsRow, ShowsLines, line_count}
 use Rattle.jr_rows.proofs.Lent.{all_back}
 use Rattle.jr_crew.specs.RowBuffer.{HasRoom, HasSamples, HasWork, IsPainted}
@@ -35,6 +35,6 @@ invariant_of-result g c =
     let room : 8 * vertical_max t.scan.head * line_size t.scan.head ≤ length old.items = subst (λ (k : Option FirstIntervalsValue). HasRoom k old.items) c.requires.part c.self.invariant.1 in
     let lines = subst (λ (r : ℕ). ShowsLines t.scan t.limit r (take (line_count t.scan.head r * line_size t.scan.head) new)) at e.lines in
     let counts = subst (λ (r : ℕ). CountsRow t.scan t.limit r marked) at e.counts in
-    subst (λ (ps : List ℕ). IfSome c.self.inside.work (HasWork g.S.OneFirstIntervals.part) × HasRoom g.S.OneFirstIntervals.part ps × IsPainted g.S.OneFirstIntervals.part (record { row = row; marked = marked; pixels = ps })) (sym is)
-    (subst (λ (k : Option FirstIntervalsValue). IfSome c.self.inside.work (HasWork g.S.OneFirstIntervals.part) × HasRoom k new × IsPainted k (record { row = row; marked = marked; pixels = new })) (sym c.requires.part)
+    subst (λ (ps : List ℕ). IfSome c.self.inside.work (HasWork g.S.OneScan.part) × HasRoom g.S.OneScan.part ps × IsPainted g.S.OneScan.part (record { row = row; marked = marked; pixels = ps })) (sym is)
+    (subst (λ (k : Option FirstIntervalsValue). IfSome c.self.inside.work (HasWork g.S.OneScan.part) × HasRoom k new × IsPainted k (record { row = row; marked = marked; pixels = new })) (sym c.requires.part)
     (c.self.invariant.0, omega (arith, room, same), record { row = omega (arith, c.requires.row, c.row-row.ensures); lines = lines; counts = counts }))

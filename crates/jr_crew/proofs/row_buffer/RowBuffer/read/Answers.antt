@@ -1,7 +1,7 @@
 use Rattle.std.proofs.Common.{rules, arith, sym, subst, ap, ◌∙◌, ◌≡◌, ℕ, ℤ, Option, List, length}
 use Rattle.jr_head.specs.HeadValue.{HeadValue}
 use Rattle.jr_scan.specs.ScanValue.{ScanValue}
-use Rattle.jr_rows.specs.FirstIntervalsValue.{FirstIntervalsValue}
+use Rattle.jr_picture.specs.FirstIntervalsValue.{FirstIntervalsValue}
 use Rattle.jr_rows.specs.Rows.{AreRead, CountsRow, HasRowRoom}
 use Rattle.jr_rows.specs.RowsValue.{RowValue}
 use Rattle.jr_rows.proofs.Lent.{all_back}
@@ -10,7 +10,7 @@ use Rattle.jr_crew.proofs.row_buffer.RowBuffer.read.Goals as goal
 
 pub invariant_of-result : goal.invariant_of-result
 invariant_of-result g c =
-    let known = g.S.OneFirstIntervals.part in
+    let known = g.S.OneScan.part in
     let t = c.args.part.now in
     let row = c.row-row.result in
     let marked = c.read-marked.result in

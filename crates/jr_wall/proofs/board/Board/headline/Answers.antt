@@ -1,5 +1,5 @@
 use Rattle.std.proofs.Common.{rules}
-use Rattle.jr_picture.proofs.BoardPictures.{picture}
+use Rattle.jr_picture.proofs.DecodedPictures.{picture}
 use Rattle.jr_wall.proofs.board.Board.headline.Goals as goal
 
 pub returns-clause-picture : goal.returns-clause-picture

@@ -5,14 +5,13 @@ use Rattle.std.specs.Arc.{arc_value}
 use Rattle.std.proofs.lemmas.List.{map-set, length-map, get_or_default}
 use Rattle.jr_scan.specs.ScanValue.{HasInterval, ScanValue}
 use Rattle.jr_piece.specs.PieceValue.{PieceValue}
-use Rattle.jr_picture.specs.BoardValue.{BoardValue}
+use Rattle.jr_picture.specs.DecodedScan.{DecodedScan, IsFor, piece_at, mark_of, marks_of}
 use Rattle.jr_piece.specs.Outcome.{IsOutcome}
 use Rattle.jr_picture.specs.declared.mark.Mark.TheVariants.{Blank, Sound, Damaged}
-use Rattle.jr_picture.specs.Boards.{IsFor, piece_at, mark_of, marks_of}
 use Rattle.jr_wall.specs.Kept.{KeepsCounts, shared_piece}
 use Rattle.jr_picture.specs.Headline.{mark_in}
 use Rattle.jr_wall.proofs.Pieces.{Posted, posts, held_at}
-use Rattle.jr_picture.proofs.BoardPictures.{marks_at}
+use Rattle.jr_picture.proofs.DecodedPictures.{marks_at}
 use mir.Val.{bool_byte}
 use Rattle.jr_wall.proofs.board.Board.post.Goals as goal
 
@@ -41,7 +40,7 @@ none_read (y ∷ ys) (suc n) x e nothing = none_read ys n x e nothing
 within_items : (n i all held items : ℕ) → n ≡ i → i < all → held ≡ all → held ≡ items → n < items
 within_items n i all held items e lt same long = omega (arith, e, lt, same, long)
 
-abbrev board_of : ScanValue → List (Option PieceValue) → BoardValue
+abbrev board_of : ScanValue → List (Option PieceValue) → DecodedScan
 board_of scan pieces = record { scan = scan; pieces = pieces }
 
 pub index-requires : goal.index-requires
@@ -91,12 +90,12 @@ returns-clause-ok c =
     let none = none_read c.self.inside.pieces.items c.number-number.result c.index.result.now c.index.ensures (sym c.is_some.ensures ∙ c.if-is_some.false) in
     let v = c.self.view_is in
     record {
-      for = subst (λ (b : BoardValue). IsFor (arc_value c.args.piece).interval b.scan) v for;
-      blank = ap (λ (b : BoardValue). piece_at b (arc_value c.args.piece).interval.number) (sym v) ∙ held_at c.self.inside.pieces.items (arc_value c.args.piece).interval.number
+      for = subst (λ (b : DecodedScan). IsFor (arc_value c.args.piece).interval b.scan) v for;
+      blank = ap (λ (b : DecodedScan). piece_at b (arc_value c.args.piece).interval.number) (sym v) ∙ held_at c.self.inside.pieces.items (arc_value c.args.piece).interval.number
           ∙ ap (λ k. shared_piece (get_or c.self.inside.pieces.items k None)) (sym n) ∙ ap shared_piece none;
       posted = ap (board_of (arc_value c.self.inside.scan)) (map-set shared_piece c.self.inside.pieces.items c.number-number.result (Some c.args.piece))
           ∙ ap (λ k. board_of (arc_value c.self.inside.scan) (set (map shared_piece c.self.inside.pieces.items) k (Some (arc_value c.args.piece)))) n
-          ∙ ap (λ (b : BoardValue). board_of b.scan (set b.pieces (arc_value c.args.piece).interval.number (Some (arc_value c.args.piece)))) v;
+          ∙ ap (λ (b : DecodedScan). board_of b.scan (set b.pieces (arc_value c.args.piece).interval.number (Some (arc_value c.args.piece)))) v;
     }
 
 -- what is posted has a mark
@@ -112,7 +111,7 @@ pub returns-then-is_some-clause-err : goal.returns-then-is_some-clause-err
 returns-then-is_some-clause-err c =
     let i = (arc_value c.args.piece).interval in
     let there = for_of (arc_value c.self.inside.scan) c.deref-3.result.now (arc_value c.args.piece) c.deref-2.result.now c.is_for.result c.deref-3.ensures c.deref-2.ensures c.is_for.ensures c.if-not-is_for.false in
-    let for = subst (λ (b : BoardValue). IsFor i b.scan) c.self.view_is there in
+    let for = subst (λ (b : DecodedScan). IsFor i b.scan) c.self.view_is there in
     let n = c.number-number.ensures ∙ ap (λ (p : PieceValue). p.interval.number) c.deref-4.ensures in
     let items = c.self.inside.pieces.items in
     let lt = within_items c.number-number.result i.number _ _ (length items) n there.0 c.self.invariant.lawful.places (length-map items shared_piece) in
@@ -120,7 +119,7 @@ returns-then-is_some-clause-err c =
     = ap is_some (sym (c.index.ensures ∙ get_or_default items c.number-number.result c.index.result.now None lt)) ∙ sym c.is_some.ensures ∙ c.if-is_some.true in
     let held : is_some (get_or c.self.inside.pieces.items i.number None) ≡ true = subst (λ (k : ℕ). is_some (get_or c.self.inside.pieces.items k None) ≡ true) n found in
     let here : shared_piece (get_or c.self.inside.pieces.items i.number None) ≡ piece_at c.args.self.now i.number
-    = sym (held_at c.self.inside.pieces.items i.number) ∙ ap (λ (b : BoardValue). piece_at b i.number) c.self.view_is in
+    = sym (held_at c.self.inside.pieces.items i.number) ∙ ap (λ (b : DecodedScan). piece_at b i.number) c.self.view_is in
     let mark : mark_in (marks_of c.args.self.now) i.number ≡ mark_of (shared_piece (get_or c.self.inside.pieces.items i.number None))
     = marks_at c.args.self.now.pieces i.number ∙ ap mark_of (sym here) in
     (refl, (refl, for, λ blank. posted_marked (get_or c.self.inside.pieces.items i.number None) held (sym mark ∙ blank)))

@@ -1,4 +1,4 @@
-use Rattle.std.proofs.Common.{◌≡◌, ◌*◌, ◌+◌, ◌<◌, ◌≤◌, ap, subst, sym, ◌∙◌, length, arith, rules}
+use Rattle.std.proofs.Common.{◌<◌, ◌≤◌, ap, subst, sym, ◌∙◌, arith}
 use Rattle.std.proofs.lemmas.Nat.{mul-le}
 use Rattle.jr_base.specs.declared.limits.TheConstants.{MAX_MCUS}
 use Rattle.jr_head.specs.HeadValue.{HeadValue}

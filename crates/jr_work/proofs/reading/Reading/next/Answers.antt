@@ -18,7 +18,7 @@ returns g c =
     let ends : TellsEnd now.interval c.first.result c.is_sound.result = subst (λ k. TellsEnd now.interval k c.is_sound.result) (sym c.first.ensures) (tells_end c.is_sound.result now.interval now.first c.is_sound.ensures.sound c.is_sound.ensures.damaged whole) in
     record {
       interval = now.interval;
-      own = subst (IsOneOf g.S.OneScan.scan) (ap (λ (x : ReadingValue). x.interval) (sym same)) c.self.invariant.0;
+      own = subst (IsOneOf g.S.OneScan.part) (ap (λ (x : ReadingValue). x.interval) (sym same)) c.self.invariant.0;
       number = sym c.number.ensures;
       ends = search (rules, ends);
     }

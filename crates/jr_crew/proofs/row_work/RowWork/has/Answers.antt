@@ -3,7 +3,7 @@ use Rattle.std.specs.Prelude.{IsTrue}
 use Rattle.std.proofs.lemmas.Option.{slice_get-get_or}
 use Rattle.jr_crew.specs.RowBufferValue.{PaintedValue}
 use Rattle.jr_crew.specs.Crew.{HasRow, HoldsRow}
-use Rattle.jr_crew.proofs.row_queue.RowQueue.has.Goals as goal
+use Rattle.jr_crew.proofs.row_work.RowWork.has.Goals as goal
 
 -- the slot of a row holds it if it holds a row of that number
 holds : (slots : List (Option PaintedValue)) (n row own : ℕ) (slot : Option PaintedValue) (p : PaintedValue) → 0 < length slots → n ≡ length slots → slot ≡ get_or slots (row % n) slot → slot ≡ Some p → own ≡ p.row → own ≡ row → HasRow slots row

@@ -3,13 +3,13 @@ use Rattle.jr_scan.specs.Guesses.{AreGuessesOf}
 use Rattle.jr_scan.specs.IntervalValue.{IntervalValue}
 use Rattle.jr_work.specs.Sharing.{IsOneOf}
 use Rattle.jr_work.proofs.Gathering.{its_interval}
-use Rattle.jr_work.proofs.progress.Progress.begin.Goals as goal
+use Rattle.jr_work.proofs.strip_work.StripWorkWork.begin.Goals as goal
 
 pub guide-requires : goal.guide-requires
 guide-requires g c =
-    let own : IsOneOf g.S.OneScan.scan c.in-Some.reading = search rules in
-    let it = its_interval g.S.OneScan.scan c.args.scan.now c.in-Some.reading c.number.result c.requires own c.number.ensures in
+    let own : IsOneOf g.S.OneScan.part c.args.reader = search rules in
+    let it = its_interval g.S.OneScan.part c.args.part.now c.args.reader c.number.result c.requires own c.number.ensures in
     subst (λ (i : IntervalValue). AreGuessesOf i c.for_next-guesses.result) (sym it.1) c.for_next-guesses.ensures
 
 pub guide-requires-else-skips : goal.guide-requires-else-skips
-guide-requires-else-skips g c = c.none.ensures c.in-Some.reading
+guide-requires-else-skips g c = c.none.ensures c.args.reader

@@ -3,7 +3,7 @@ use Rattle.std.specs.Option.{IsSome}
 use Rattle.std.proofs.lemmas.Option.{get_or_from_slice_get, same_Some}
 use Rattle.jr_crew.specs.RowBufferValue.{PaintedValue}
 use Rattle.jr_crew.specs.Crew.{HoldsRow}
-use Rattle.jr_crew.proofs.row_queue.RowQueue.take.Goals as goal
+use Rattle.jr_crew.proofs.row_work.RowWork.take.Goals as goal
 
 -- what a slot that holds a row contains
 held : (slot : Option (Option PaintedValue)) (row : ℕ) → HoldsRow slot row → (p : PaintedValue) × (slot ≡ Some (Some p)) × (p.row ≡ row)
