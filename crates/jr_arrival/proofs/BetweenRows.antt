@@ -1,59 +1,71 @@
--- A cursor that has moved from a position between two rows of MCUs to a later one.
-use Rattle.std.proofs.Common.{◌≡◌, ℕ, ◌+◌, ◌*◌, ◌<◌, ◌≤◌, List, refl, sym, ap, subst, ◌∙◌, arith}
+-- A source that has moved from a position between two rows of MCUs to a later one.
+use Rattle.std.proofs.Common.{◌≡◌, ℕ, ◌+◌, ◌*◌, ◌<◌, ◌≤◌, List, length, refl, sym, ap, subst, ◌∙◌, arith}
+use Rattle.std.specs.Prelude.{true}
 use Rattle.jr_head.specs.HeadValue.{HeadValue}
 use Rattle.jr_head.specs.Geometry.{mcus_across, mcus_down}
 use Rattle.jr_scan.specs.ScanValue.{ScanValue}
-use Rattle.jr_arrival.specs.declared.cursor.ScanCursor.{ScanCursor}
+use Rattle.jr_rows.specs.Cursors.{mcus_to}
+use Rattle.jr_rows.specs.Groups.{units_in}
+use Rattle.jr_arrival.specs.declared.file_source.FileSource.{FileSource}
 use Rattle.jr_arrival.specs.declared.file_bytes.FileBytes.{FileBytes}
 use Rattle.jr_arrival.specs.declared.place.RowPlace.{RowPlace}
-use Rattle.jr_arrival.specs.Cursors.{IsCursor, IsCursorIn, LeavesRow, StaysIn, StaysTrue}
+use Rattle.jr_arrival.specs.FileSources.{IsFileSource, IsRightIn, Waits, source_of}
 use Rattle.jr_arrival.specs.Meaning.{IsPlaceIn, MayBe}
-use Rattle.jr_arrival.specs.Places.{IsIn, IsPlaceOf, mcus_before_place}
-use Rattle.jr_arrival.specs.Shown.{LeavesRowAt}
-use Rattle.jr_arrival.proofs.CursorSteps.{cursor_stays}
+use Rattle.jr_arrival.specs.Places.{IsIn, IsPlaceOf}
+use Rattle.jr_arrival.specs.Shown.{LeavesRowAt, ShowsRow}
+use Rattle.jr_arrival.specs.Sources.{Steps, Walks}
 use Rattle.jr_arrival.specs.Parts.{last_part, part_of}
 use Rattle.jr_arrival.proofs.Parts.{may_end}
+use Rattle.jr_arrival.proofs.SourceSteps.{row_shown}
+use Rattle.jr_arrival.proofs.Waiting.{row_waits}
 
-pub record HasCome (h : HeadValue) (f : FileBytes) (start p : RowPlace) (c : ScanCursor) : Type 0 where
-  pub cursor : IsCursor h c
-  pub file : c.file ≡ f
-  pub at : mcus_before_place h c.interval c.mcu ≡ p.row * mcus_across h
+pub record HasCome (h : HeadValue) (f : FileBytes) (start p : RowPlace) (s : FileSource) : Type 0 where
+  pub at : IsFileSource h s
+  pub file : s.window.file ≡ f
+  pub before : mcus_to h s.cursor ≡ p.row * mcus_across h
   pub stands : IsPlaceOf h p
   pub on : start.row ≤ p.row
   pub none : p.row ≡ start.row → p ≡ start
-  pub place : (whole : List ℕ) (t : ScanValue) → MayBe (part_of f) h whole t → IsPlaceIn (part_of f) whole t start → IsCursorIn whole t c × IsPlaceIn (part_of f) whole t p
+  pub place : (whole : List ℕ) (t : ScanValue) → MayBe (part_of f) h whole t → IsPlaceIn (part_of f) whole t start → IsRightIn whole t s × IsPlaceIn (part_of f) whole t p
 
-pub comes_first : (h : HeadValue) (f : FileBytes) (p : RowPlace) (c : ScanCursor) → IsPlaceOf h p → IsCursor h c → c.file ≡ f → mcus_before_place h c.interval c.mcu ≡ p.row * mcus_across h
-    → ((whole : List ℕ) (t : ScanValue) → MayBe (part_of f) h whole t → IsPlaceIn (part_of f) whole t p → IsCursorIn whole t c) → HasCome h f p p c
-comes_first h f p c stands is file at there = record { cursor = is; file = file; at = at; stands = stands; on = omega arith; none = λ same. refl; place = λ whole t may s. (there whole t may s, s) }
+pub comes_first : (h : HeadValue) (f : FileBytes) (p : RowPlace) (s : FileSource) → IsPlaceOf h p → IsFileSource h s → s.window.file ≡ f → mcus_to h s.cursor ≡ p.row * mcus_across h
+    → ((whole : List ℕ) (t : ScanValue) → MayBe (part_of f) h whole t → IsPlaceIn (part_of f) whole t p → IsRightIn whole t s) → HasCome h f p p s
+comes_first h f p s stands is file before there = record { at = is; file = file; before = before; stands = stands; on = omega arith; none = λ same. refl; place = λ whole t may is. (there whole t may is, is) }
 
-module _ (h : HeadValue) (f : FileBytes) (start p : RowPlace) (c : ScanCursor) (come : HasCome h f start p c) where
-  -- a file that the bytes may be is one that those of its cursor may be
-  pub may_come : (d : ScanCursor) (whole : List ℕ) (t : ScanValue) → d.file ≡ c.file → MayBe (part_of f) h whole t → MayBe (part_of d.file) h whole t
-  may_come d whole t same = subst (λ (g : FileBytes). MayBe (part_of g) h whole t) (sym (same ∙ come.file))
+module _ (h : HeadValue) (f : FileBytes) (start p : RowPlace) (s : FileSource) (come : HasCome h f start p s) (inside : p.row < mcus_down h) where
+  -- a file that the bytes may be is one that those of the source may be
+  may_come : (whole : List ℕ) (t : ScanValue) → MayBe (part_of f) h whole t → MayBe (part_of s.window.file) h whole t
+  may_come whole t = subst (λ (g : FileBytes). MayBe (part_of g) h whole t) (sym come.file)
 
-  pub leaves_at : LeavesRow h c p.row → LeavesRowAt (part_of f) h start p.row
-  leaves_at leaves so_far s may is =
-      leaves so_far s (subst (λ (g : FileBytes). MayBe (last_part (part_of g)) h so_far s) (sym come.file) may) (come.place so_far s (may_end (part_of f) h so_far s may) is).0
+  pub leaves_at : (d : FileSource) (n : ℕ) → Steps h (source_of s) (source_of d) n → n < mcus_across h → Waits h d → LeavesRowAt (part_of f) h start p.row
+  leaves_at d n steps lt waits so_far t may is =
+      row_waits h s d p.row n steps come.before lt inside waits so_far t (subst (λ (g : FileBytes). MayBe (last_part (part_of g)) h so_far t) (sym come.file) may) (come.place so_far t (may_end (part_of f) h so_far t may) is).0
+
+  -- the row that it has walked over is the image's
+  pub shows_row : (d : FileSource) (n : ℕ) (old new : List (List ℕ)) → Walks h (source_of s) (source_of d) true 0 n old new → n ≡ mcus_across h → (whole : List ℕ) (t : ScanValue) → MayBe (part_of f) h whole t → IsPlaceIn (part_of f) whole t start → ShowsRow t p.row new
+  shows_row d n old new walks all whole t may is =
+      let shown = walks.shows refl (p.row * mcus_across h) (omega (arith, come.before)) whole t (may_come whole t may, (come.place whole t may is).0) (λ b first k lt. absurd (omega (arith, lt))) in
+      row_shown t h (length t.intervals) p.row (0 + n) (units_in t.head new) may.head (omega (arith, all)) shown
 
   -- past the next row of MCUs, to the position after it
-  pub comes_on : (d n : ScanCursor) (new : RowPlace) → p.row < mcus_down h → IsCursor h d → d.file ≡ c.file → StaysTrue h c d → mcus_before_place h d.interval d.mcu ≡ (p.row + 1) * mcus_across h
-      → StaysIn d n → StaysTrue h d n → new.row ≡ p.row + 1 → new.interval ≡ d.interval → new.mcu ≡ d.mcu → ((whole : List ℕ) (t : ScanValue) → MayBe (part_of d.file) h whole t → IsCursorIn whole t d → IsPlaceIn (part_of d.file) whole t new) → HasCome h f start new n
-  comes_on d n new inside is file over whole_row stays there next interval mcu place =
-      let at : mcus_before_place h d.interval d.mcu ≡ new.row * mcus_across h = whole_row ∙ ap (λ (k : ℕ). k * mcus_across h) (sym next) in
+  pub comes_on : (d e : FileSource) (n : ℕ) (new : RowPlace) → Steps h (source_of s) (source_of d) n → n ≡ mcus_across h → Steps h (source_of d) (source_of e) 0 → new.row ≡ p.row + 1 → new.interval ≡ e.cursor.number → new.mcu ≡ e.cursor.mcu
+      → ((whole : List ℕ) (t : ScanValue) → IsFileSource h d → MayBe (part_of d.window.file) h whole t → IsRightIn whole t d → IsPlaceIn (part_of d.window.file) whole t new) → HasCome h f start new e
+  comes_on d e n new over all stays next number mcu place =
+      let row : (p.row + 1) * mcus_across h ≡ new.row * mcus_across h = ap (λ (k : ℕ). k * mcus_across h) (sym next) in
+      let before : mcus_to h e.cursor ≡ new.row * mcus_across h = omega (arith, stays.passed, over.passed, come.before, all, row) in
       record {
-        cursor = cursor_stays h d n is stays;
-        file = stays.file ∙ file ∙ come.file;
-        at = ap (λ (k : ℕ). mcus_before_place h k n.mcu) stays.interval ∙ ap (mcus_before_place h d.interval) stays.mcu ∙ at;
+        at = stays.at;
+        file = stays.part ∙ over.part ∙ come.file;
+        before = before;
         stands = record {
           row = omega (arith, next, inside);
-          is_in = subst (λ (k : ℕ). IsIn h k new.mcu) (sym interval) (subst (IsIn h d.interval) (sym mcu) is.is_in);
-          at = ap (λ (k : ℕ). mcus_before_place h k new.mcu) interval ∙ ap (mcus_before_place h d.interval) mcu ∙ at;
+          is_in = subst (λ (k : ℕ). IsIn h k new.mcu) (sym number) (subst (IsIn h e.cursor.number) (sym mcu) stays.at.is_in);
+          at = omega (arith, ap (λ (k : ℕ). k * h.restart) number, mcu, before);
         };
         on = omega (arith, next, come.on);
-        none = λ e. absurd (omega (arith, next, e, come.on));
-        place = λ whole t may s.
-            let here = may_come d whole t file may in
-            let right = over whole t (subst (λ (g : FileBytes). MayBe (part_of g) h whole t) (sym come.file) may) (come.place whole t may s).0 in
-            (there whole t here right, subst (λ (g : FileBytes). IsPlaceIn (part_of g) whole t new) (file ∙ come.file) (place whole t here right));
+        none = λ same. absurd (omega (arith, next, same, come.on));
+        place = λ whole t may is.
+            let right = over.right whole t (may_come whole t may, (come.place whole t may is).0) in
+            let there = stays.right whole t right in
+            (there.1, subst (λ (g : FileBytes). IsPlaceIn (part_of g) whole t new) (over.part ∙ come.file) (place whole t over.at right.0 right.1));
       }

@@ -19,7 +19,7 @@ use Rattle.jr_scan.specs.Run.{HasNoMcu, IsRun, RunRead, left_at, run_from, start
 use Rattle.jr_scan.proofs.LongestFronts.{longest_front}
 use Rattle.jr_scan.proofs.McuReaders.{front_of_run, run_of_front, stopped}
 use Rattle.jr_piece.proofs.ScanLaws.{one_run, runs_meet, shorter_front}
-use Rattle.jr_arrival.specs.declared.cursor.TheConstants.{MCU_BITS}
+use Rattle.jr_arrival.specs.declared.window.TheConstants.{MCU_BITS}
 use Rattle.jr_arrival.specs.LongerFile.{IsKnown, IsNeverWhole, MayGrow}
 use Rattle.jr_arrival.specs.More.{with_more}
 use Rattle.jr_arrival.proofs.Longest.{none_in_long}

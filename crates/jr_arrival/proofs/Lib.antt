@@ -1,7 +1,7 @@
 pub mod Arrivals
 pub mod Behind
 pub mod BetweenRows
-pub mod CursorSteps
+pub mod SourceSteps
 pub mod CutsGoOn
 pub mod GivenPlaces
 pub mod Going
@@ -13,8 +13,8 @@ pub mod Longest
 pub mod Marks
 pub mod MoreData
 pub mod PaintedLines
+pub mod PartialSteps
 pub mod Parts
-pub mod Passing
 pub mod Reaching
 pub mod ReadOn
 pub mod Readings

@@ -9,15 +9,14 @@ use Rattle.jr_paint.proofs.Places.{below_div_ceil}
 use Rattle.jr_scan.specs.ScanValue.{ScanValue}
 use Rattle.jr_piece.proofs.ScanLaws.{one_decoding, one_front, outcome}
 use Rattle.jr_picture.specs.declared.mark.Mark.{Mark}
-use Rattle.jr_picture.specs.BoardValue.{BoardValue}
-use Rattle.jr_picture.specs.Boards.{marks_of}
+use Rattle.jr_picture.specs.DecodedScan.{DecodedScan, marks_of}
 use Rattle.jr_picture.specs.Headline.{ShowsFirst}
 use Rattle.jr_picture.specs.Samples.{samples_of}
 use Rattle.jr_picture.proofs.Pictures.{line_same, same_samples}
 use Rattle.jr_rows.specs.Bands.{ShowsMcus, samples_in, unit_shown}
 use Rattle.jr_rows.specs.Groups.{units_in}
-use Rattle.jr_rows.specs.Rows.{HasFirst, ShowsFirstUnits, first_line, line_count}
-use Rattle.jr_rows.proofs.FirstBoards.{first_board, shows_first}
+use Rattle.jr_rows.specs.Rows.{DecodesFirst, ShowsFirstUnits, first_line, line_count}
+use Rattle.jr_rows.proofs.FirstDecoded.{first_decoded, shows_first}
 use Rattle.jr_rows.proofs.GroupLists.{units_long}
 use Rattle.jr_rows.proofs.PaintedRows.{row_painted}
 
@@ -34,24 +33,26 @@ one_lines t n k m f g first count high a b =
 
 -- so those that each board of the scan shows are those of each image
 pub of_picture : (t : ScanValue) (marks : List Mark) (f : ℕ → ℕ → ℕ → ℕ) (first count : ℕ) (pixels : List ℕ) → first + count ≤ t.head.height → ShowsFirst t (length t.intervals) marks f
-    → ((b : BoardValue) → HasFirst t (length t.intervals) b → pixels ≡ next_lines_of t.head (samples_of b) first count) → pixels ≡ next_lines_of t.head f first count
+    → ((b : DecodedScan) → DecodesFirst t (length t.intervals) b → pixels ≡ next_lines_of t.head (samples_of b) first count) → pixels ≡ next_lines_of t.head f first count
 of_picture t marks f first count pixels high shows are =
     let n = length t.intervals in
-    let b = first_board outcome t n (omega arith) in
+    let b = first_decoded outcome t n (omega arith) in
     are b.0 b.1 ∙ one_lines t n (marks_of b.0) marks (samples_of b.0) f first count high (shows_first t n b.0 b.1 shows.lawful) shows
 
 -- a row whose data units are the image's is painted as the image
 module _ (t : ScanValue) (n row : ℕ) (groups : List (List ℕ)) (lawful : IsLawful t.head) (inside : row < mcus_down t.head)
-    (shown : ShowsFirstUnits t n (row * mcus_across t.head) (mcus_across t.head) (units_in t.head groups)) (b : BoardValue) (first : HasFirst t n b) where
+    (shown : ShowsFirstUnits t n (row * mcus_across t.head) (mcus_across t.head) (units_in t.head groups)) (b : DecodedScan) (first : DecodesFirst t n b) where
   abbrev h : HeadValue
   h = t.head
 
+  pub shows_mcus : ShowsMcus b (row * mcus_across h) (units_in h groups)
+  shows_mcus =
+      subst (λ (u : ScanValue). (k : ℕ) → k < length (units_in h groups) → get_or (units_in h groups) k [] ≡ unit_shown b (row * mcus_across h + k / blocks_of u.head) (k % blocks_of u.head)) (sym first.scan_is)
+      (λ k lt. shown b first k (omega (arith, lt, units_long h groups)))
+
   pub row_of_board : (y count : ℕ) → first_line h row ≤ y → y + count ≤ first_line h row + line_count h row → next_lines_of h (samples_in (record { head = h; groups = groups })) y count ≡ next_lines_of h (samples_of b) y count
   row_of_board y count top few =
-      let all : ShowsMcus b (row * mcus_across h) (units_in h groups) =
-      subst (λ (u : ScanValue). (k : ℕ) → k < length (units_in h groups) → get_or (units_in h groups) k [] ≡ unit_shown b (row * mcus_across h + k / blocks_of u.head) (k % blocks_of u.head)) (sym first.scan_is)
-      (λ k lt. shown b first k (omega (arith, lt, units_long h groups))) in
       let deep = 8 * vertical_max h in
       let positive : 0 < deep = omega (arith, lawful.components.down) in
       let high : first_line h row < h.height = below_div_ceil row h.height deep positive inside in
-      row_painted b h (ap (λ (u : ScanValue). u.head) first.scan_is) lawful groups row all y count (y - first_line h row) (omega (arith, top)) (omega (arith, few, top)) (omega (arith, few, high))
+      row_painted b h (ap (λ (u : ScanValue). u.head) first.scan_is) lawful groups row shows_mcus y count (y - first_line h row) (omega (arith, top)) (omega (arith, few, top)) (omega (arith, few, high))

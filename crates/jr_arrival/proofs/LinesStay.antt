@@ -22,7 +22,7 @@ use Rattle.jr_piece.proofs.ScanLaws.{one_decoding, one_front, shorter_front}
 use Rattle.jr_picture.specs.declared.mark.Mark.{Mark}
 use Rattle.jr_picture.specs.declared.mark.Mark.TheVariants.{Blank, Sound, Damaged}
 use Rattle.jr_picture.specs.Headline.{interval_number, within_interval, spot_of, place_in, unit_number, decoded_sample, Holds, Shows, mark_in, ShowsFirst}
-use Rattle.jr_picture.proofs.BoardPictures.{block_there}
+use Rattle.jr_picture.proofs.DecodedPictures.{block_there}
 use Rattle.jr_picture.proofs.Pictures.{line_same, same_mark, same_shown}
 use Rattle.jr_rows.specs.Rows.{first_line, line_count}
 use Rattle.jr_rows.proofs.PictureLines.{row_of}

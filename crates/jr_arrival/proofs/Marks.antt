@@ -6,7 +6,7 @@ use Rattle.jr_scan.specs.ScanValue.{ScanValue, interval_of, intervals_of}
 use Rattle.jr_piece.specs.Strips.{TellsSound}
 use Rattle.jr_rows.specs.Rows.{CountsMarks, CountsRows, coded_before, intervals_before}
 use Rattle.jr_rows.specs.declared.marked.Marked.{Marked}
-use Rattle.jr_rows.proofs.CursorSteps.{outcome_tells}
+use Rattle.jr_piece.proofs.CursorSteps.{outcome_tells}
 use Rattle.jr_rows.proofs.ReadRows.{counts_both, counts_one}
 use Rattle.jr_rows.proofs.Countings.{all_last, none_first}
 

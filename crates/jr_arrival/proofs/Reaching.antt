@@ -32,9 +32,9 @@ is_open part i end last (inr lt) = absurd (omega (arith, lt, last))
 
 read_few : (part : PartialScanValue) (number mcu limit : ℕ) (place : Option Place) → (IsOver part.scan part.segments number → ⊥) → mcu ≤ mcus_in part.scan.head number → ReadsTo part number mcu place → IsLimit (interval_of part.scan number) limit → mcu ≤ limit
 read_few part number mcu limit (Some p) going few r l = front_few (interval_of part.scan number) limit mcu r.0 l (front_of_run (interval_of part.scan number) mcu r.0 p r.1.run few)
-read_few part number mcu limit None going few r l = elim r.3.final [
+read_few part number mcu limit None going few r l = elim r.4.final [
   | inl over ↦ absurd (going over)
-  | inr long ↦ never_few (interval_of part.scan number) limit mcu l few r.0 r.1 r.3.longest long
+  | inr long ↦ never_few (interval_of part.scan number) limit mcu l few r.0 r.1 r.4.longest long
 ]
 
 module _ (part : PartialScanValue) (v : PartialRowValue) (i limit : ℕ) (c : IsPartialRow part v) (end : part.scan.ended ≡ EndOfFile) (last : i + 1 ≡ part.segments) (far : IsLimit (interval_of part.scan i) limit) where
@@ -42,24 +42,24 @@ module _ (part : PartialScanValue) (v : PartialRowValue) (i limit : ℕ) (c : Is
   h = part.scan.head
 
   not_later : v.cursor.number ≤ i
-  not_later = elim (cases_lt i v.cursor.number) [ inl l ↦ absurd (is_open part i end last (c.begun i l)) | inr k ↦ k ]
+  not_later = elim (cases_lt i v.cursor.number) [ inl l ↦ absurd (is_open part i end last (c.reading.begun i l)) | inr k ↦ k ]
 
   reaches : i < intervals_of h → v.cursor.number * h.restart + v.cursor.mcu ≤ first_mcu_of h i + limit
   reaches few = elim (cases_lt v.cursor.number i) [
-    | inl l ↦ let le = before_later h v.cursor.number i v.cursor.mcu l few c.stands.few in omega (arith, le)
+    | inl l ↦ let le = before_later h v.cursor.number i v.cursor.mcu l few c.reading.few in omega (arith, le)
     | inr g ↦
         let same : i ≡ v.cursor.number = omega (arith, g, not_later) in
         let there : IsLimit (interval_of part.scan v.cursor.number) limit = subst (λ (n : ℕ). IsLimit (interval_of part.scan n) limit) same far in
-        let le = read_few part v.cursor.number v.cursor.mcu limit v.cursor.place (is_open part v.cursor.number end (omega (arith, same, last))) c.stands.few c.reads there in
+        let le = read_few part v.cursor.number v.cursor.mcu limit v.cursor.place (is_open part v.cursor.number end (omega (arith, same, last))) c.reading.few c.reading.reads there in
         omega (arith, le, ap (λ (n : ℕ). n * h.restart) same)
   ]
 
   -- if no further MCU is final, all that are have been read
-  all_read_there : HasNoMore part v → v.cursor.number * h.restart + v.cursor.mcu ≡ first_mcu_of h i + limit
+  all_read_there : HasNoMore part v.cursor → v.cursor.number * h.restart + v.cursor.mcu ≡ first_mcu_of h i + limit
   all_read_there none =
       let same : i ≡ v.cursor.number = elim (cases_lt v.cursor.number i) [ inl l ↦ absurd (none.going (inr (omega (arith, l, last)))) | inr k ↦ omega (arith, k, not_later) ] in
       let there : IsLimit (interval_of part.scan v.cursor.number) limit = subst (λ (n : ℕ). IsLimit (interval_of part.scan n) limit) same far in
-      let few = read_few part v.cursor.number v.cursor.mcu limit v.cursor.place none.going c.stands.few c.reads there in
+      let few = read_few part v.cursor.number v.cursor.mcu limit v.cursor.place none.going c.reading.few c.reading.reads there in
       let most : limit ≤ v.cursor.mcu = elim none.next [
         | inl all ↦ omega (arith, all, there.few)
         | inr grows ↦ elim (cases_lt v.cursor.mcu limit) [ inl l ↦ absurd (not_known (interval_of part.scan v.cursor.number) v.cursor.mcu grows (there.before v.cursor.mcu l)) | inr g ↦ g ]
@@ -79,7 +79,7 @@ ended_or_not (ExtraRestart at) = inr (λ e. absurd cc)
 pub record HasLooked (part : PartialScanValue) (v : PartialRowValue) (first n most : ℕ) : Type 0 where
   pub lines : v.lines ≡ first + n
   pub few : n ≤ min most (part.scan.head.height - first)
-  pub all : n < min most (part.scan.head.height - first) → HasNoMore part v × (v.done < mcus_across part.scan.head)
+  pub all : n < min most (part.scan.head.height - first) → HasNoMore part v.cursor × (v.done < mcus_across part.scan.head)
 
 module _ (part : PartialScanValue) (v : PartialRowValue) (lawful : IsLawful part.scan.head) (c : IsPartialRow part v) (first n most : ℕ) (looked : HasLooked part v first n most) where
   abbrev s : ScanValue

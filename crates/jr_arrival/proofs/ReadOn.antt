@@ -1,5 +1,5 @@
 -- What is read of an interval from a part of its data is read of all of it.
-use Rattle.std.proofs.Common.{◌≡◌, ℕ, ◌+◌, ◌*◌, ◌<◌, ◌≤◌, ◌⊎◌, inl, inr, Bool, List, [], ◌∷◌, ◌++◌, length, drop, get_or, refl, sym, ap, subst, ◌∙◌, length-append, arith}
+use Rattle.std.proofs.Common.{◌≡◌, ℕ, ◌+◌, ◌*◌, ◌<◌, ◌≤◌, ◌⊎◌, inl, inr, List, [], ◌++◌, length, drop, get_or, refl, sym, ap, subst, ◌∙◌, length-append, arith}
 use Rattle.std.specs.Prelude.{ℤ}
 use Rattle.std.specs.List.{All}
 use Rattle.std.proofs.lemmas.List.{append-nil}
@@ -9,7 +9,6 @@ use Rattle.jr_head.specs.HeadValue.{HeadValue}
 use Rattle.jr_head.specs.Geometry.{IsLawful, blocks_of, order_of}
 use Rattle.jr_head.proofs.SamplingLaws.{length-order}
 use Rattle.jr_mcu.specs.Block.{IsInDcRange}
-use Rattle.jr_mcu.specs.Mcus.{all_bits}
 use Rattle.jr_mcu.proofs.LongMcus.{mcus_long}
 use Rattle.jr_mcu.proofs.McuLaws.{no_blocks}
 use Rattle.jr_scan.specs.declared.place.Place.{Place}
@@ -27,7 +26,7 @@ use Rattle.jr_arrival.proofs.MoreData.{run_is_final}
 use Rattle.jr_arrival.specs.Meaning.{GoesOnAt, HasNoFurtherMcu, ReadsAt, behind}
 use Rattle.jr_arrival.proofs.Behind.{left_behind, none_behind, run_behind}
 use Rattle.jr_arrival.proofs.Going.{its_data}
-use Rattle.jr_arrival.specs.declared.cursor.TheConstants.{MCU_BITS}
+use Rattle.jr_arrival.specs.declared.window.TheConstants.{MCU_BITS}
 use Rattle.jr_arrival.specs.LongerFile.{MayGrow}
 use Rattle.jr_arrival.proofs.Knowing.{rest_left}
 use Rattle.jr_arrival.proofs.Longest.{none_in_long}
@@ -106,19 +105,13 @@ module _ (whole : List ℕ) (t : ScanValue) (i mcu at left : ℕ) (found rest : 
 -- at the start of an interval
 pub reads_first : (whole : List ℕ) (t : ScanValue) (i at : ℕ) (p : Place) → p ≡ start_of_interval → GoesOnAt whole t i at [] → ReadsAt whole t i 0 at p
 reads_first whole t i at p e on =
-    let start = runs.at_start (interval_of t i) in
-    subst (ReadsAt whole t i 0 at) (sym e) (record { before = []; on = on; blocks = start.blocks; next = start.next start_of_interval refl })
+    let start = (runs.at_start (interval_of t i)).next start_of_interval refl in
+    subst (ReadsAt whole t i 0 at) (sym e) (record { before = []; on = on; blocks = start.0; next = start.1 })
 
--- a run of no MCUs uses no bits
-pub nothing_taken : (i : IntervalValue) (p q : Place) (ys : List (List ℤ)) → IsRun (run_from i p 0) ys q AllRead → q.bit ≡ p.bit
-nothing_taken i p q ys a =
-    let none : length ys ≡ 0 * length (order_of i.head) = a.mcus.0 ∙ ap (λ (k : ℕ). k * length (order_of i.head)) a.ends in
-    let taken : length a.taken ≡ 0 = go a.mcus.1.parts (omega (arith, a.mcus.1.count, none)) a.mcus.1.spelled in
-    omega (arith, a.bit, taken)
-  where
-    go : (parts : List (List Bool)) → length parts ≡ 0 → a.taken ≡ all_bits parts → length a.taken ≡ 0
-    go [] n e = ap length e
-    go (b ∷ bs) n e = absurd (omega (arith, n))
+-- a run of no MCUs ends where it begins
+pub nothing_read : (i : IntervalValue) (p q : Place) (ys : List (List ℤ)) → IsLawful i.head → length p.predictions ≡ 3 → IsRun (run_from i p 0) ys q AllRead → q ≡ p
+nothing_read i p q ys lawful three run =
+    (one_run (run_from i p 0) (record { blocks = ys; to = q; end = AllRead; is = run }) (record { blocks = []; to = p; end = AllRead; is = no_run i p three }) lawful).1
 
 -- an interval without data has no further MCU
 pub nothing_whole : (t : ScanValue) (i mcu : ℕ) → 0 < blocks_of t.head → get_or t.intervals i [] ≡ [] → HasNoFurtherMcu t i mcu

@@ -9,7 +9,7 @@ use Rattle.jr_scan.specs.ScanValue.{ScanValue, interval_of, intervals_of, mcus_i
 use Rattle.jr_piece.specs.PieceValue.{PieceValue}
 use Rattle.jr_piece.specs.Outcome.{IsOutcome}
 use Rattle.jr_piece.specs.Units.{unit_in_piece}
-use Rattle.jr_picture.specs.Boards.{piece_at}
+use Rattle.jr_picture.specs.DecodedScan.{piece_at}
 use Rattle.jr_rows.specs.Bands.{unit_shown, unit_shown_of}
 use Rattle.jr_rows.specs.Rows.{ShowsBehind, ShowsFirstUnits}
 use Rattle.jr_rows.proofs.IntervalPlaces.{interval_at}

@@ -10,7 +10,8 @@ use Rattle.jr_segments.specs.declared.refusal.Refusal.{Refusal}
 use Rattle.jr_segments.specs.declared.refusal.Refusal.TheVariants.{EndsEarly, ExpectedMarker, BadLength}
 use Rattle.jr_segments.specs.Bytes.{byte, word}
 use Rattle.jr_segments.specs.Tests.{Test, ◌when◌, first_fault}
-use Rattle.jr_segments.specs.Segments.{Segment, segment_at, fill_count, at_code, has_frame, marker_tests, code_tests, length_tests, framing_tests}
+use Rattle.jr_base.specs.Fill.{fill_count}
+use Rattle.jr_segments.specs.Segments.{Segment, segment_at, at_code, has_frame, marker_tests, code_tests, length_tests, framing_tests}
 use Rattle.jr_segments.proofs.TestLaws.{passes_first, passes_parts, first_append, first_front, none_both}
 use Rattle.jr_head.specs.Heads.{segment_tests, payload_tests}
 

@@ -1,5 +1,5 @@
--- The window of a cursor, and what its data spell.
-use Rattle.std.proofs.Common.{◌≡◌, ℕ, ◌+◌, ◌-◌, ◌*◌, ◌/◌, ◌^◌, ◌<◌, ◌≤◌, inl, inr, List, [], ◌∷◌, ◌++◌, length, take, drop, sym, ap, subst, ◌∙◌, length-append, length-drop, length-take-le, arith}
+-- A window, and what its data spell.
+use Rattle.std.proofs.Common.{◌≡◌, ℕ, ◌+◌, ◌-◌, ◌*◌, ◌^◌, ◌<◌, ◌≤◌, inl, inr, List, [], ◌∷◌, ◌++◌, length, take, drop, sym, ap, subst, ◌∙◌, length-append, length-drop, length-take-le, arith}
 use Rattle.std.specs.Prelude.{Bool, true, min}
 use Rattle.std.specs.List.{flat_map}
 use Rattle.std.proofs.lemmas.Bool.{cases_lt}
@@ -8,24 +8,20 @@ use Rattle.std.proofs.Math.Seq.{take-append_seam}
 use Rattle.jr_cut.specs.Cut.{Spelling, spelling, byte_spelled, IsRaw, IsStop}
 use Rattle.jr_cut.proofs.Cuts.{raw_none, rest_is}
 use Rattle.jr_cut.proofs.Spellings.{further, up_to_stop}
-use Rattle.jr_arrival.specs.declared.cursor.ScanCursor.{ScanCursor}
-use Rattle.jr_arrival.specs.Cursors.{HasWindow, IsOffset, Spells, trimmed, window}
+use Rattle.jr_arrival.specs.declared.window.Window.{Window}
+use Rattle.jr_arrival.specs.FileSources.{IsOffset, IsWindow, Spells, data_in, trimmed}
 use Rattle.jr_arrival.specs.Meaning.{HasBits}
 use Rattle.jr_cut.proofs.Slices.{length_front, split_at}
 use Rattle.jr_arrival.proofs.Spelled.{same_spelled}
 
-pub window_long : (c : ScanCursor) → HasWindow c → length (window c) ≡ c.found - c.from
-window_long c w = length-take-le (c.found - c.from) (drop c.from c.room.items) (omega (arith, w.from, w.found, w.room, length-drop c.from c.room.items))
+pub window_long : (w : Window) → IsWindow w → length (data_in w) ≡ w.found - w.from
+window_long w is = length-take-le (w.found - w.from) (drop w.from w.room.items) (omega (arith, is.from, is.found, is.room, length-drop w.from w.room.items))
 
 -- at a stop there is no data
 pub stopped : (bytes found : List ℕ) (at : ℕ) → found ≡ [] → at ≤ length bytes → IsStop (drop at bytes) → Spells bytes at found true
 stopped bytes found at none within stop =
     let here : at + 0 ≡ at = omega arith in
     record { read = 0; within = omega (arith, within); spelled = subst (IsRaw []) (sym none) raw_none; stop = λ ends. subst (λ (k : ℕ). IsStop (drop k bytes)) (sym here) stop }
-
--- no bits have come anywhere
-pub no_bits : (bytes : List ℕ) (at : ℕ) → at ≤ length bytes → HasBits bytes at 0
-no_bits bytes at within = record { read = 0; found = []; within = omega (arith, within); spelled = raw_none; few = omega arith }
 
 -- what a window is filled with
 pub filled : (bytes room : List ℕ) (at found : ℕ) (ends : Bool) → at ≤ length bytes
@@ -53,8 +49,8 @@ bit_there bytes at bit n found front b low is stop le = elim (cases_lt (length f
 ]
 
 -- the bits of a window have come
-pub window_bits : (c : ScanCursor) → HasWindow c → HasBits c.file.bytes.now c.at c.place.bit
-window_bits c w = record { read = w.spells.read; found = window c; within = w.spells.within; spelled = w.spells.spelled; few = omega (arith, window_long c w, w.bit) }
+pub window_bits : (w : Window) (bit : ℕ) → IsWindow w → bit ≤ 8 * (w.found - w.from) → HasBits w.file.bytes.now w.at bit
+window_bits w bit is le = record { read = is.spells.read; found = data_in w; within = is.spells.within; spelled = is.spells.spelled; few = omega (arith, window_long w is, le) }
 
 -- the file bytes that spell `byte` bytes of data spell the first `byte` bytes of the window
 pub offset_spelled : (bytes found : List ℕ) (ends : Bool) (at byte n : ℕ) (s : Spells bytes at found ends) → byte ≤ length found → (front : List ℕ) → IsRaw (take n (drop at bytes)) front → length front ≤ byte → (length front < byte → IsStop (drop n (drop at bytes)))
@@ -79,52 +75,47 @@ spelled_few raw found is = omega (arith, ap length is.means, length-map is.parts
 
 -- ---- a window that begins at the byte of the next MCU
 
-module _ (c : ScanCursor) (w : HasWindow c) (at : ℕ) (off : IsOffset c (c.place.bit / 8) at) where
-  abbrev byte : ℕ
-  byte = c.place.bit / 8
-
+module _ (w : Window) (is : IsWindow w) (byte at : ℕ) (le : byte ≤ w.found - w.from) (off : IsOffset w byte at) where
   abbrev bytes : List ℕ
-  bytes = c.file.bytes.now
+  bytes = w.file.bytes.now
 
-  front_long : length (take byte (window c)) ≡ byte
-  front_long = length-take-le byte (window c) (omega (arith, window_long c w, w.bit))
+  front_long : length (take byte (data_in w)) ≡ byte
+  front_long = length-take-le byte (data_in w) (omega (arith, window_long w is, le))
 
-  pub trimmed_later : c.at + c.place.bit / 8 ≤ at
-  trimmed_later = omega (arith, off.is, spelled_few (take off.read (drop c.at bytes)) (take byte (window c)) off.spelled, front_long, length_front bytes c.at off.read (omega (arith, off.is, off.within)))
+  pub trimmed_later : w.at + byte ≤ at
+  trimmed_later = omega (arith, off.is, spelled_few (take off.read (drop w.at bytes)) (take byte (data_in w)) off.spelled, front_long, length_front bytes w.at off.read (omega (arith, off.is, off.within)))
 
-  rest : drop byte (window c) ≡ window (trimmed c at)
+  rest : drop byte (data_in w) ≡ data_in (trimmed w byte at)
   rest =
-      let k = c.found - (c.from + byte) in
-      let sum : c.found - c.from ≡ byte + k = omega (arith, w.from, w.bit) in
-      ap (λ (n : ℕ). drop byte (take n (drop c.from c.room.items))) sum ∙ drop-take byte k (drop c.from c.room.items) ∙ ap (take k) (drop-drop byte c.from c.room.items)
+      let k = w.found - (w.from + byte) in
+      let sum : w.found - w.from ≡ byte + k = omega (arith, is.from, le) in
+      ap (λ (n : ℕ). drop byte (take n (drop w.from w.room.items))) sum ∙ drop-take byte k (drop w.from w.room.items) ∙ ap (take k) (drop-drop byte w.from w.room.items)
 
-  spells_on : Spells bytes at (window (trimmed c at)) c.ends
+  spells_on : Spells bytes at (data_in (trimmed w byte at)) w.ends
   spells_on =
-      let s = w.spells in
-      let front = take byte (window c) in
-      let tail = drop (c.at + s.read) bytes in
-      let f = further (take off.read (drop c.at bytes)) front (take s.read (drop c.at bytes)) (window c) (drop (c.at + off.read) bytes) tail off.spelled s.spelled (sym (split_at bytes c.at off.read) ∙ split_at bytes c.at s.read) (omega (arith, window_long c w, front_long, w.bit)) in
+      let s = is.spells in
+      let front = take byte (data_in w) in
+      let tail = drop (w.at + s.read) bytes in
+      let f = further (take off.read (drop w.at bytes)) front (take s.read (drop w.at bytes)) (data_in w) (drop (w.at + off.read) bytes) tail off.spelled s.spelled (sym (split_at bytes w.at off.read) ∙ split_at bytes w.at s.read) (omega (arith, window_long w is, front_long, le)) in
       let there : drop at bytes ≡ f.raw ++ tail = ap (λ (k : ℕ). drop k bytes) off.is ∙ f.spelled in
-      let sum : at + length f.raw ≡ c.at + s.read = omega (arith, ap length there, length-append f.raw tail, length-drop at bytes, length-drop (c.at + s.read) bytes, off.within, s.within) in
+      let sum : at + length f.raw ≡ w.at + s.read = omega (arith, ap length there, length-append f.raw tail, length-drop at bytes, length-drop (w.at + s.read) bytes, off.within, s.within) in
       let raw : take (length f.raw) (drop at bytes) ≡ f.raw = ap (take (length f.raw)) there ∙ take-append_seam f.raw tail in
-      let added : f.added ≡ drop byte (window c) = append_cancel_left front f.added (drop byte (window c)) (sym f.is ∙ sym (take-append-drop byte (window c))) in
+      let added : f.added ≡ drop byte (data_in w) = append_cancel_left front f.added (drop byte (data_in w)) (sym f.is ∙ sym (take-append-drop byte (data_in w))) in
       record {
         read = length f.raw;
         within = omega (arith, sum, s.within);
-        spelled = subst (λ (x : List ℕ). IsRaw x (window (trimmed c at))) (sym raw) (subst (IsRaw f.raw) (added ∙ rest) f.raw_is);
+        spelled = subst (λ (x : List ℕ). IsRaw x (data_in (trimmed w byte at))) (sym raw) (subst (IsRaw f.raw) (added ∙ rest) f.raw_is);
         stop = λ e. subst (λ (k : ℕ). IsStop (drop k bytes)) (sym sum) (s.stop e);
       }
 
-  pub trimmed_window : HasWindow (trimmed c at)
+  pub trimmed_window : IsWindow (trimmed w byte at)
   trimmed_window = record {
-    room = w.room;
-    from = omega (arith, w.from, w.bit);
-    found = w.found;
+    room = is.room;
+    from = omega (arith, is.from, le);
+    found = is.found;
     at = off.within;
-    bit = omega (arith, w.from, w.bit);
-    in_range = w.in_range;
     spells = spells_on;
-    full = w.full;
+    full = is.full;
   }
 
 -- if an MCU is not whole, a window at a later byte of the file leaves less of it, and so does one that reaches further

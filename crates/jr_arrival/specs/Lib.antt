@@ -1,7 +1,8 @@
 pub mod Arrival
+pub mod FileSources
 pub mod PartialFile
 pub mod PartialRows
-pub mod Cursors
+pub mod PartialSources
 pub mod LongerFile
 pub mod Meaning
 pub mod More
@@ -10,3 +11,4 @@ pub mod Places
 pub mod RowMcus
 pub mod Settled
 pub mod Shown
+pub mod Sources

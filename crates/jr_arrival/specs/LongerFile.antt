@@ -10,7 +10,7 @@ use Rattle.jr_scan.specs.ScanValue.{ScanValue, IsScanOf, interval_of}
 use Rattle.jr_scan.specs.Mcus.{Front, LongestFront}
 use Rattle.jr_paint.specs.Lines.{next_lines_of}
 use Rattle.jr_rows.specs.Rows.{first_line, line_count}
-use Rattle.jr_arrival.specs.declared.cursor.TheConstants.{MCU_BITS}
+use Rattle.jr_arrival.specs.declared.window.TheConstants.{MCU_BITS}
 
 -- of the segments that bytes are cut into, all but the last are kept by more bytes; the last one's data may continue, and others follow
 pub record GrowsTo (datas longer : List (List ℕ)) : Type 0 where

@@ -10,15 +10,16 @@ use Rattle.jr_scan.specs.ScanValue.{ScanValue, interval_of, intervals_of, mcus_i
 use Rattle.jr_scan.specs.Run.{left_at}
 use Rattle.jr_piece.specs.Strips.{IsNext}
 use Rattle.jr_paint.specs.Lines.{next_lines_of}
-use Rattle.jr_picture.specs.BoardValue.{BoardValue}
+use Rattle.jr_picture.specs.DecodedScan.{DecodedScan}
 use Rattle.jr_picture.specs.Samples.{samples_of}
-use Rattle.jr_rows.specs.Cursors.{interval_start}
+use Rattle.jr_piece.specs.Cursors.{interval_start}
+use Rattle.jr_rows.specs.Cursors.{mcus_to}
 use Rattle.jr_rows.specs.Groups.{units_in}
-use Rattle.jr_rows.specs.Rows.{CountsMarks, HasFirst, HasSampleRoom, ShowsFirstUnits, first_line, line_count}
+use Rattle.jr_rows.specs.Rows.{CountsMarks, DecodesFirst, HasSampleRoom, ShowsFirstUnits, first_line, line_count}
 use Rattle.jr_rows.specs.RowsValue.{SampleRowValue}
-use Rattle.jr_rows.specs.declared.cursor.Cursor.{Cursor}
+use Rattle.jr_piece.specs.declared.cursor.Cursor.{Cursor}
 use Rattle.jr_rows.specs.declared.marked.Marked.{Marked}
-use Rattle.jr_arrival.specs.declared.cursor.TheConstants.{MCU_BITS}
+use Rattle.jr_arrival.specs.declared.window.TheConstants.{MCU_BITS}
 use Rattle.jr_arrival.specs.LongerFile.{IsOver, MayGrow}
 
 -- what a scan may become as bytes come: intervals that are over are unchanged, and data follow those of the others
@@ -48,7 +49,7 @@ pub record StaysLongest (g : PartialScanValue) (number front : ℕ) (zs : List (
 -- this is the position after that number of MCUs of an interval; without a position no more of them become whole
 abbrev pub ReadsTo : PartialScanValue → (number mcu : ℕ) → Option Place → Type 0
 ReadsTo g number mcu (Some p) = (zs : List (List ℤ)) × IsNext (interval_of g.scan number) mcu zs p
-ReadsTo g number mcu None = (front : ℕ) × (zs : List (List ℤ)) × (front < mcu) × StaysLongest g number front zs
+ReadsTo g number mcu None = (front : ℕ) × (zs : List (List ℤ)) × (front ≤ mcu) × (front < mcus_in g.scan.head number) × StaysLongest g number front zs
 
 -- no further MCU of the interval is whole
 abbrev pub ReadsAll : ScanValue → (number mcu : ℕ) → Option Place → Type 0
@@ -60,13 +61,19 @@ abbrev pub IsFinal : PartialScanValue → (number : ℕ) → Option Place → Ty
 IsFinal g number (Some p) = IsOver g.scan g.segments number ⊎ (MCU_BITS ≤ length (left_at (interval_of g.scan number) p))
 IsFinal g number None = ⊤
 
+-- the cursor is where the scan is read, after intervals that are over, which have these marks
+pub record IsPartialReading (g : PartialScanValue) (c : Cursor) (marked : Marked) : Type 0 where
+  pub number : c.number < intervals_of g.scan.head
+  pub few : c.mcu ≤ mcus_in g.scan.head c.number
+  pub begun : (i : ℕ) → i < c.number → IsOver g.scan g.segments i
+  pub reads : ReadsTo g c.number c.mcu c.place
+  pub counts : (t : ScanValue) → GrowsInto g t → CountsMarks t (length t.intervals) 0 c.number marked
+
 -- it is at an MCU of an image with this header
 pub record StandsIn (h : HeadValue) (v : PartialRowValue) : Type 0 where
   pub row : v.row < mcus_down h
   pub within : v.done ≤ mcus_across h
-  pub number : v.cursor.number < intervals_of h
-  pub few : v.cursor.mcu ≤ mcus_in h v.cursor.number
-  pub at : v.cursor.number * h.restart + v.cursor.mcu ≡ v.row * mcus_across h + v.done
+  pub at : mcus_to h v.cursor ≡ v.row * mcus_across h + v.done
   pub room : HasSampleRoom h v.samples
 
 -- lines are returned in order, those of a row of MCUs once the row is whole
@@ -90,16 +97,14 @@ pub record Begins (h : HeadValue) (v : PartialRowValue) : Type 0 where
 pub record IsPartialRow (g : PartialScanValue) (v : PartialRowValue) : Type 0 where
   pub stands : StandsIn g.scan.head v
   pub given : HasGiven g.scan.head v
-  pub begun : (i : ℕ) → i < v.cursor.number → IsOver g.scan g.segments i
-  pub reads : ReadsTo g v.cursor.number v.cursor.mcu v.cursor.place
+  pub reading : IsPartialReading g v.cursor v.marked
   pub shows : (t : ScanValue) → GrowsInto g t → ShowsFirstUnits t (length t.intervals) (v.row * mcus_across t.head) v.done (units_in t.head v.samples.lines.groups)
-  pub counts : (t : ScanValue) → GrowsInto g t → CountsMarks t (length t.intervals) 0 v.cursor.number v.marked
 
 -- the interval is not over, and its MCUs are all read, or the next one is not whole and may become so
-pub record HasNoMore (g : PartialScanValue) (v : PartialRowValue) : Type 0 where
-  pub going : IsOver g.scan g.segments v.cursor.number → ⊥
-  pub next : (v.cursor.mcu ≡ mcus_in g.scan.head v.cursor.number) ⊎ MayGrow (interval_of g.scan v.cursor.number) v.cursor.mcu
+pub record HasNoMore (g : PartialScanValue) (c : Cursor) : Type 0 where
+  pub going : IsOver g.scan g.segments c.number → ⊥
+  pub next : (c.mcu ≡ mcus_in g.scan.head c.number) ⊎ MayGrow (interval_of g.scan c.number) c.mcu
 
 -- these are n lines of the image of every scan that this one may become, starting at this line
 abbrev pub AreFinalLines : PartialScanValue → (first count : ℕ) → List ℕ → Type 0
-AreFinalLines g first count pixels = (t : ScanValue) → GrowsInto g t → (b : BoardValue) → HasFirst t (length t.intervals) b → pixels ≡ next_lines_of t.head (samples_of b) first count
+AreFinalLines g first count pixels = (t : ScanValue) → GrowsInto g t → (b : DecodedScan) → DecodesFirst t (length t.intervals) b → pixels ≡ next_lines_of t.head (samples_of b) first count

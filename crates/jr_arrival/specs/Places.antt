@@ -1,15 +1,22 @@
 -- Positions between two rows of MCUs of a file's image.
-use Rattle.std.specs.Prelude.{◌≡◌, ℕ, ◌+◌, ◌-◌, ◌*◌, ◌/◌, ◌<◌, ◌≤◌, nat_le, min, if◌then◌else◌}
+use Rattle.std.specs.Prelude.{◌≡◌, ℕ, ◌+◌, ◌-◌, ◌*◌, ◌/◌, ◌<◌, ◌≤◌, nat_le, min, if◌then◌else◌, Bool, true, false, Option, Some, None}
 use Rattle.jr_head.specs.HeadValue.{HeadValue}
 use Rattle.jr_head.specs.Geometry.{mcus_across, mcus_down, vertical_max}
 use Rattle.jr_head.specs.Intervals.{intervals_of, mcus_in}
 use Rattle.jr_paint.specs.Lines.{line_size}
+use Rattle.jr_scan.specs.declared.place.Place.{Place}
 use Rattle.jr_arrival.specs.declared.place.RowPlace.{RowPlace}
 
 -- the image has such an interval, and that interval the given number of MCUs
 pub record IsIn (h : HeadValue) (interval mcu : ℕ) : Type 0 where
   pub number : interval < intervals_of h
   pub few : mcu ≤ mcus_in h interval
+
+-- the state of a position, by where the next MCU begins and whether the scan has ended
+abbrev pub place_state : Option Place → (ended : Bool) → ℕ
+place_state (Some p) ended = 0
+place_state None false = 1
+place_state None true = 2
 
 -- the number of MCUs of the image before one of an interval
 abbrev pub mcus_before_place : HeadValue → (interval mcu : ℕ) → ℕ

@@ -12,7 +12,7 @@ pub record ExtendsRow (h : HeadValue) (done more : ℕ) (unit : ℕ → List ℕ
   pub each : (k : ℕ) → k < more * blocks_of h → slice_index_or (units_in h new) (done * blocks_of h + k) [] ≡ unit k
 
 -- the reader has read that number of MCUs of its run, which a row that keeps them has after its first `done`
-pub record TakesMcus (keeps : Bool) (h : HeadValue) (r : McuReaderValue) (done more : ℕ) (old new : List (List ℕ)) : Type 0 where
+pub record TakesIntoRow (keeps : Bool) (h : HeadValue) (r : McuReaderValue) (done more : ℕ) (old new : List (List ℕ)) : Type 0 where
   pub blocks : List (List ℤ)
   pub read : HasRead r blocks
   pub adds : IsTrue keeps → ExtendsRow h done more (unit_of h blocks) old new

@@ -15,22 +15,25 @@
 //! only what follows the position is read, a window of it at a time, as far as the rows reach.
 #![tactic(auto)]
 
-mod cursor;
 mod file_bytes;
+mod file_source;
 mod finished;
 mod head;
 mod laws;
 mod mcu_sink;
+mod mcu_source;
 mod partial_file;
 mod partial_head;
 mod partial_image;
 mod partial_row;
+mod partial_source;
 mod place;
 mod place_laws;
 mod row_walk;
 mod rows;
 mod same_lines;
 mod unstuffing;
+mod window;
 
 pub use file_bytes::FileBytes;
 pub use finished::Finished;

@@ -6,7 +6,7 @@ ghost use Rattle.jr_head.specs.Geometry.{mcus_across};
 ghost use Rattle.jr_scan.specs.McuReader.{HasEnded, HasRead};
 ghost use Rattle.jr_piece.specs.Units.{grey_unit};
 ghost use Rattle.jr_rows.specs.Rows.{HasSampleRoom};
-ghost use Rattle.jr_arrival.specs.RowMcus.{ExtendsRow, TakesMcus};
+ghost use Rattle.jr_arrival.specs.RowMcus.{ExtendsRow, TakesIntoRow};
 
 use jr_head::Head;
 use jr_rows::SampleRow;
@@ -32,7 +32,7 @@ pub(crate) trait McuSink {
         ensures run { reader.new.run ≡ reader.old.run }
         ensures mcu { reader.new.mcu ≡ reader.old.mcu + result }
         ensures few { done + result ≤ mcus_across head.now }
-        ensures taken { HasRead reader.old [] → TakesMcus keeps head.now reader.new done result (groups self.old) (groups self.new) }
+        ensures taken { HasRead reader.old [] → TakesIntoRow keeps head.now reader.new done result (groups self.old) (groups self.new) }
         ensures none { result ≡ 0 → HasEnded reader.new };
 
     /// Makes MCUs after the first `done` of the row grey, at most `mcus`, and returns their number.

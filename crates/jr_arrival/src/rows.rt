@@ -2,24 +2,22 @@
 
 ghost use Rattle.std.specs.Prelude.{ℕ, List, ◌≡◌, ◌+◌, ◌-◌, ◌*◌, ◌/◌, ◌<◌, ◌≤◌, min, length, take, drop, true, IfOk, IfErr};
 ghost use Rattle.jr_head.specs.Geometry.{mcus_across, mcus_down};
-ghost use Rattle.jr_paint.specs.Lines.{line_size, next_lines_of};
-ghost use Rattle.jr_picture.specs.declared.mark.Mark.{Mark};
-ghost use Rattle.jr_picture.specs.Headline.{ShowsFirst};
-ghost use Rattle.jr_arrival.specs.Shown.{AreLines, LeavesRowAt, ShowsRow};
-ghost use Rattle.jr_rows.specs.Rows.{HasSampleRoom, line_count};
+ghost use Rattle.jr_paint.specs.Lines.{line_size};
+ghost use Rattle.jr_arrival.specs.Shown.{AreLines, LeavesRowAt};
+ghost use Rattle.jr_rows.specs.Rows.{line_count};
 ghost use Rattle.jr_scan.specs.ScanValue.{ScanValue};
 ghost use Rattle.jr_arrival.specs.Meaning.{IsPlaceIn, MayBe};
 ghost use Rattle.jr_arrival.specs.Parts.{part_of};
 ghost use Rattle.jr_arrival.specs.Places.{IsPlaceOf, lines_above, lines_between, rows_to_give, rows_with_room};
 
-use crate::cursor::ScanCursor;
 use crate::file_bytes::FileBytes;
+use crate::file_source::FileSource;
 use crate::mcu_sink::Skipped;
 use crate::place::RowPlace;
 use crate::row_walk::walk_row;
 use jr_base::Memory;
 use jr_head::Head;
-use jr_rows::{SampleRow, lines_of, shape_of};
+use jr_rows::{SampleRow, shape_of};
 use std::alloc::Global;
 
 /// Returns the number of lines of the image before a row of MCUs.
@@ -74,7 +72,7 @@ fn end_of_rows(head: &Head, row: u32, rows: u32, bytes: usize) -> u32
 
 /// Returns where the lines of a row of MCUs are in `room` bytes, into which they fit, if those of row `first` are the
 /// first.
-fn bytes_of_row(head: &Head, first: u32, row: u32, room: usize) -> (usize, usize)
+fn span_of_row(head: &Head, first: u32, row: u32, room: usize) -> (usize, usize)
     requires order { first ≤ row }
     requires row { row < mcus_down head.now }
     requires room { lines_between head.now first (row + 1) * line_size head.now ≤ room }
@@ -88,21 +86,6 @@ fn bytes_of_row(head: &Head, first: u32, row: u32, room: usize) -> (usize, usize
     let from = lines_between(head, first, row) as usize * line;
     let to = lines_between(head, first, row + 1) as usize * line;
     (from, to)
-}
-
-/// Paints the lines of a row of MCUs that is decoded.
-fn paint_row(head: &Head, samples: &mut SampleRow, row: u32, pixels: &mut [u8])
-    requires row { row < mcus_down head.now }
-    requires samples { HasSampleRoom head.now samples.old }
-    requires pixels { length pixels.old ≡ line_count head.now row * line_size head.now }
-    ensures samples { HasSampleRoom head.now samples.new }
-    ensures long { length pixels.new ≡ length pixels.old }
-    ensures painted { (t : ScanValue) (marks : List Mark) (f : ℕ → ℕ → ℕ → ℕ) → t.head ≡ head.now → ShowsRow t row samples.old.lines.groups → ShowsFirst t (length t.intervals) marks f
-        → pixels.new ≡ next_lines_of head.now f (lines_above head.now row) (line_count head.now row) }
-{
-    head.assert_invariant();
-    let (y, count) = lines_of(head, row);
-    samples.paint_some(head, y, count, pixels);
 }
 
 /// Decodes the next rows of MCUs starting at a position, at most `rows`, as many as fit with their lines and are final,
@@ -133,16 +116,17 @@ pub fn decode_rows(
 {
     head.assert_invariant();
     let mut samples = SampleRow::open(alloc, head)?;
-    let mut cursor = ScanCursor::open(alloc, head, file, place)?;
+    let mut source = FileSource::open(alloc, head, file, place)?;
     let end = end_of_rows(head, place.row, rows, pixels.len());
+    let across = shape_of(head).across;
     let mut next = *place;
     'rows: while next.row < end {
-        if !walk_row(&mut cursor, head, &mut samples, next.row) {
+        if walk_row(&mut source, head, &mut samples, next.row, 0) < across {
             return Ok(next);
         }
-        let (from, to) = bytes_of_row(head, place.row, next.row, pixels.len());
-        paint_row(head, &mut samples, next.row, &mut pixels[from..to]);
-        next = cursor.row_place(next.row + 1);
+        let (from, to) = span_of_row(head, place.row, next.row, pixels.len());
+        samples.paint_row(head, next.row, &mut pixels[from..to]);
+        next = source.row_place(next.row + 1);
     }
     Ok(next)
 }
@@ -166,7 +150,7 @@ pub fn skip_rows(
     ensures none { IfOk result (λ p. p.row ≡ place.now.row → p ≡ place.now) }
     ensures place { (whole : List ℕ) (t : ScanValue) → MayBe (part_of file.entry) head.now whole t → IsPlaceIn (part_of file.entry) whole t place.now → IfOk result (IsPlaceIn (part_of file.entry) whole t) }
 {
-    let mut cursor = ScanCursor::open(alloc, head, file, place)?;
+    let mut source = FileSource::open(alloc, head, file, place)?;
     let shape = shape_of(head);
     let most = rows.min(shape.down - place.row);
     let mut skipped = Skipped {
@@ -174,10 +158,10 @@ pub fn skip_rows(
     };
     let mut next = *place;
     'rows: while next.row < place.row + most {
-        if !walk_row(&mut cursor, head, &mut skipped, next.row) {
+        if walk_row(&mut source, head, &mut skipped, next.row, 0) < shape.across {
             return Ok(next);
         }
-        next = cursor.row_place(next.row + 1);
+        next = source.row_place(next.row + 1);
     }
     Ok(next)
 }

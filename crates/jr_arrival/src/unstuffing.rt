@@ -1,10 +1,10 @@
 //! Bytes of a scan, and the data that they spell (T.81, B.1.1.5 and F.1.2.3).
 
-ghost use Rattle.std.specs.Prelude.{◌≡◌, ◌≢◌, ◌<◌, ◌≤◌, ℕ, List, length, take, drop, slice_index, true, false};
-ghost use Rattle.jr_base.specs.declared.marker.TheConstants.{PREFIX};
+ghost use Rattle.std.specs.Prelude.{◌≡◌, ◌≤◌, ℕ, List, length, take, drop, true, false};
 ghost use Rattle.jr_cut.specs.Cut.{IsRaw, IsStop};
 
-use jr_cut::{Spelled, fill_count, plain_count, unstuff_into};
+use jr_base::marker::fill_count;
+use jr_cut::{Spelled, unstuff_into};
 
 /// The bytes of data in a part of a file, and whether they end there.
 #[derive(Clone, Copy)]
@@ -42,40 +42,5 @@ pub(crate) fn unstuff_some(raw: &[u8], most: usize, room: &mut [u8]) -> Part
     Part {
         found,
         ends: ends_within(raw, read, end),
-    }
-}
-
-/// Returns the number of plain bytes at the start of `raw`, at most `most`.
-fn plain_within(raw: &[u8], most: usize) -> usize
-    ensures within { result ≤ length raw.now }
-    ensures few { result ≤ most }
-    ensures plain { (k : ℕ) → k < result → slice_index raw.now k ≢ PREFIX }
-    ensures next { result < length raw.now → result < most → slice_index raw.now result ≡ PREFIX }
-{
-    let most = raw.len().min(most);
-    plain_count(&raw[..most])
-}
-
-/// Returns the number of bytes at the start of `raw` that spell `count` bytes of data, or as many as there are up to a
-/// marker or the end.
-pub(crate) fn spelled_length(raw: &[u8], count: usize) -> usize
-    ensures within { result ≤ length raw.now }
-    ensures spells { (found : List ℕ) × IsRaw (take result raw.now) found × (length found ≤ count) × (length found < count → IsStop (drop result raw.now)) }
-{
-    let mut at: usize = 0;
-    let mut found: usize = 0;
-    'bytes: loop {
-        let plain = plain_within(&raw[at..], count - found);
-        let end = at + plain;
-        found += plain;
-        if found == count {
-            return end;
-        }
-        let next = end + fill_count(&raw[end..]);
-        if next >= raw.len() || raw[next] != 0 {
-            return end;
-        }
-        found += 1;
-        at = next + 1;
     }
 }

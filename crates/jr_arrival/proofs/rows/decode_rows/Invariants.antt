@@ -11,7 +11,7 @@ abbrev pub invariant-rows : goal.invariant-rows
 invariant-rows l =
     let h = l.head in
     let bytes = lines_between h l.place.row l.next.row * line_size h in record {
-      come : HasCome h l.file l.place l.next l.cursor;
+      come : HasCome h l.file l.place l.next l.source;
       room : HasSampleRoom h l.samples;
       few : l.next.row ≤ l.end;
       long : length l.pixels ≡ length l.initial.pixels;

@@ -1,9 +1,9 @@
-use Rattle.std.proofs.Common.{◌≡◌, ℕ, ◌+◌, ◌<◌, length, refl, sym, subst, arith, rules}
+use Rattle.std.proofs.Common.{◌≡◌, ℕ, ◌<◌, length, refl, sym, subst, arith, rules}
 use Rattle.jr_scan.specs.ScanValue.{ScanValue, interval_of}
 use Rattle.jr_piece.specs.Strips.{TellsSound}
 use Rattle.jr_rows.specs.Rows.{CountsMarks}
-use Rattle.jr_rows.specs.declared.cursor.Cursor.{Cursor}
-use Rattle.jr_arrival.specs.PartialRows.{PartialRowValue, ReadsTo}
+use Rattle.jr_piece.specs.declared.cursor.Cursor.{Cursor}
+use Rattle.jr_arrival.specs.PartialRows.{ReadsTo}
 use Rattle.jr_arrival.proofs.Marks.{counted}
 use Rattle.jr_arrival.proofs.Readings.{at_the_start, becomes_itself}
 use Rattle.jr_arrival.proofs.partial_row.PartialRow.marks.Goals as goal
@@ -11,8 +11,7 @@ use Rattle.jr_arrival.proofs.partial_row.PartialRow.marks.Goals as goal
 pub loop-i-init : goal.loop-i-init
 loop-i-init c =
     let s : ScanValue = c.args.scan.now.scan in
-    let counted = c.partial_marks-marked.ensures.counts s (becomes_itself c.args.scan.now) refl in
-    subst (λ (r : PartialRowValue). CountsMarks s (length s.intervals) 0 (r.cursor.number + 1) c.partial_marks-marked.result) (sym c.self.view_is) counted
+    c.partial_marks-marked.ensures.counts s (becomes_itself c.args.scan.now) refl
 
 pub is_sound-is_sound-requires-clause-reads : goal.is_sound-is_sound-requires-clause-reads
 is_sound-is_sound-requires-clause-reads c =
