@@ -85,7 +85,7 @@ fn open_guesses<S: OneScan>(
         mcus: mcus_of_guess(part.scan()),
         keeps_blocks: true,
     };
-    GuessQueue::open(alloc, part, part.limit(), guesses, across, size)
+    GuessQueue::open(alloc, part, 0, part.limit(), guesses, across, size)
 }
 
 /// Opens a queue of `count` row buffers, of which the calling thread brings `own`.

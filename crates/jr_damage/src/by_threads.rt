@@ -84,6 +84,7 @@ fn check_as<R: Threads + Wait + Sync, S: OneScan + Send>(
     let guesses: Result<GuessQueue<S>, _> = GuessQueue::open(
         alloc,
         &part,
+        0,
         part.limit(),
         room,
         step,

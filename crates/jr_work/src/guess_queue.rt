@@ -24,19 +24,21 @@ pub fn windows_of(scan: &Scan, number: u32) -> u64
     scan.interval_ref(number).bytes().len() as u64 * 8 / MIN_BITS_OF_READ
 }
 
-/// Returns the number of bits of `mcus` MCUs of the scan's first interval, if all have equally many; at least one.
-fn bits_of_step(scan: &Scan, mcus: u32) -> u64 {
-    // By its contract a scan has an interval.
-    let _some = scan.intervals();
-    let steps = u64::from(scan.interval_ref(0).mcus() / mcus.max(1));
-    (bits_of(scan, 0) / steps.max(1)).max(MIN_BITS_OF_READ)
+/// Returns the number of bits of `mcus` MCUs of an interval, if all have equally many, but at least those of a
+/// speculative read.
+fn bits_of_step(scan: &Scan, number: u32, mcus: u32) -> u64 {
+    if number >= scan.intervals() {
+        return MIN_BITS_OF_READ;
+    }
+    let steps = u64::from(scan.interval_ref(number).mcus() / mcus.max(1));
+    (bits_of(scan, number) / steps.max(1)).max(MIN_BITS_OF_READ)
 }
 
 /// Speculative reads ahead of a reader that reads the scan's intervals one after the other, some MCUs at a step.
 /// Threads make them outside of the lock that guards the queue.
 #[derive(Drop)]
 pub struct GuessQueue<S: OneScan> {
-    /// Number of intervals that are read.
+    /// Number of the interval after the last one that is read.
     limit: u32,
     slots: Vec<GuessSlot<S>>,
     /// Number of buffers that no thread brings yet.
@@ -52,9 +54,9 @@ pub struct GuessQueue<S: OneScan> {
 }
 
 impl<S: OneScan> GuessQueue<S> {
-    /// Opens a queue of at most `guesses` speculative reads of the first `limit` intervals, for which threads bring
-    /// buffers of this size. The reader is at the start, and its steps are of `step` MCUs. A speculative read
-    /// has about the bits of one step, so its buffer holds more.
+    /// Opens a queue of at most `guesses` speculative reads of the intervals starting at `first` and before `limit`, for
+    /// which threads bring buffers of this size. The reader is at the start, and its steps are of `step` MCUs. A
+    /// speculative read has about the bits of one step, so its buffer holds more.
     ///
     /// # Errors
     ///
@@ -62,21 +64,22 @@ impl<S: OneScan> GuessQueue<S> {
     pub fn open(
         alloc: Global,
         part: &FirstIntervals<'_>,
+        first: u32,
         limit: u32,
         guesses: u32,
         step: u32,
         size: BufferSize,
     ) -> Result<GuessQueue<S>, Memory>
-        ensures { IfOk result (λ q. q.at ≡ (0, 0)) }
+        ensures { IfOk result (λ q. q.at ≡ (first, 0)) }
     {
         Ok(GuessQueue {
             limit,
             slots: Vec::with_capacity(alloc, guesses as usize)?,
             lacking: guesses,
             size,
-            at: (0, 0),
-            next: (0, 0),
-            step_bits: bits_of_step(part.scan(), step),
+            at: (first, 0),
+            next: (first, 0),
+            step_bits: bits_of_step(part.scan(), first, step),
         })
     }
 

@@ -63,7 +63,7 @@ fn open_guesses<S: OneScan>(
         keeps_blocks: true,
     };
     let limit = i.saturating_add(1);
-    match GuessQueue::open(alloc, part, limit, count, step, size) {
+    match GuessQueue::open(alloc, part, i, limit, count, step, size) {
         Ok(queue) => queue,
         Err(_) => GuessQueue::none(alloc),
     }
