@@ -2,7 +2,6 @@
 //! its lines written in one pass.
 #![tactic(auto)]
 
-mod alone;
 mod announcing;
 mod band;
 mod blank;

@@ -7,13 +7,13 @@ ghost use Rattle.jr_paint.specs.Lines.{line_size};
 ghost use Rattle.jr_paint.specs.declared.header.TheConstants.{HEADER_ROOM};
 ghost use Rattle.jr_scan.specs.ScanValue.{intervals_of};
 ghost use Rattle.jr_picture.specs.Headline.{least};
-ghost use Rattle.jr_rows.specs.Rows.{CountsRows};
+ghost use Rattle.jr_rows.specs.Rows.{CountsRows, HasSampleRoom};
 ghost use Rattle.jr_picture.specs.Writing.{WritesPicture, BeginsPicture};
 ghost use Rattle.jr_rows.specs.Stream.{SendsPicture, HasCounts};
 
-use crate::alone::Alone;
+use crate::announcing::announce;
 use crate::painter::RowPainter;
-use crate::{Marked, SampleRow, lines_of, room_for, shape_of};
+use crate::{Marked, Rows, SampleRow, lines_of, room_for, shape_of};
 use jr_base::{Tally, WriteFault, write_all};
 use jr_head::Head;
 use jr_paint::{make_room, put_header};
@@ -21,6 +21,7 @@ use jr_picture::{Counts, FirstIntervals, Gate, PictureError};
 use jr_scan::Scan;
 use std::alloc::Global;
 use std::io::Write;
+use std::marker::Model;
 
 /// Writes an image, row after row from the painter; the lines of a row fit into `pixels`. Returns the marks of its
 /// intervals.
@@ -73,6 +74,55 @@ pub fn counts_of(scan: &Scan, limit: u32, marked: Marked) -> Counts
         sound,
         damaged,
         blank: scan.intervals() - sound - damaged,
+    }
+}
+
+/// A painter that decodes and paints row after row in the calling thread.
+#[derive(Drop)]
+struct Alone<'a, G: Gate> {
+    part: FirstIntervals<'a>,
+    rows: Rows,
+    work: SampleRow,
+    gate: &'a G,
+}
+
+impl<'a, G: Gate> Model for Alone<'a, G> {
+    ghost use Rattle.jr_rows.specs.Rows.{AreRowsOf, HasSampleRoom};
+    ghost use Rattle.jr_rows.specs.RowsValue.{RowsValue};
+
+    ghost Value = { RowsValue };
+
+    ghost view = { λ a. record { scan = a.part.scan; limit = a.part.limit; row = a.rows.row } };
+
+    ghost invariant = { λ a. AreRowsOf a.part a.rows × HasSampleRoom a.part.scan.head a.work };
+}
+
+impl<'a, G: Gate> Alone<'a, G> {
+    /// Returns a painter that has painted nothing yet of the part of a scan that is decoded.
+    fn of(part: FirstIntervals<'a>, work: SampleRow, gate: &'a G) -> Alone<'a, G>
+        requires room { HasSampleRoom part.scan.head work }
+        ensures { result ≡ record { scan = part.entry.scan; limit = part.entry.limit; row = 0 } }
+    {
+        let rows = Rows::of(&part);
+        Alone {
+            part,
+            rows,
+            work,
+            gate,
+        }
+    }
+}
+
+impl<G: Gate> RowPainter for Alone<'_, G> {
+    ghost at = { λ a. a };
+
+    fn paint(&mut self, pixels: &mut Vec<u8>, from: usize, to: usize) -> Marked {
+        let row = self.rows.row();
+        announce(self.part.scan(), self.part.limit(), row, self.gate);
+        let marked = self.rows.decode(&self.part, None, &mut self.work, &mut []);
+        let head = self.part.scan().head();
+        self.work.paint_row(head, row, &mut pixels[from..to]);
+        marked
     }
 }
 

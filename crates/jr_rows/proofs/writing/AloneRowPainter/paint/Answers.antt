@@ -8,7 +8,7 @@ use Rattle.jr_rows.specs.Rows.{CountsRow, HasSampleRoom, PaintsRowLines, ShowsLi
 use Rattle.jr_rows.specs.RowsValue.{RowsValue}
 use Rattle.jr_rows.proofs.Lent.{all_back, front_kept, part_back}
 use Rattle.jr_rows.proofs.PaintedRows.{shows}
-use Rattle.jr_rows.proofs.alone.AloneRowPainter.paint.Goals as goal
+use Rattle.jr_rows.proofs.writing.AloneRowPainter.paint.Goals as goal
 
 -- the borrowed part is within the buffer, and of the requested length
 before_end : (from to size : ℕ) → to ≡ from + size → from ≤ to
