@@ -6,13 +6,12 @@ ghost use Rattle.jr_paint.specs.Lines.{line_size};
 ghost use Rattle.jr_paint.specs.declared.header.TheConstants.{HEADER_ROOM};
 
 use crate::baton::Baton;
-use crate::caller_room::CallerRoom;
 use crate::paint_room::PaintRoom;
 use crate::row_buffer::{Painted, RowBuffer};
 use crate::row_work::{BegunRow, RowWork, UnfinishedRow};
 use jr_base::Memory;
 use jr_picture::{FirstIntervals, Gate};
-use jr_rows::intervals_of_row;
+use jr_rows::{intervals_of_row, room_for};
 use jr_work::tuning::ROW_BUFFERS_OF_WORKER;
 use jr_work::{OneScan, SharedWork, Task, WorkQueue};
 use std::alloc::Global;
@@ -22,7 +21,7 @@ use std::sync::Wait;
 /// What the threads share.
 ///
 /// No row begins before the calling thread has all memory that it needs. A row is begun with a `RowBuffer`, so at most
-/// as many rows are in work. Each thread allocates its row buffers as it starts; one gets memory for blocks when a row
+/// as many rows are in progress. Each thread allocates its row buffers as it starts; one allocates its blocks when a row
 /// first waits in it to be painted.
 ///
 /// If rows are whole intervals, each thread decodes and paints rows by itself. Otherwise one thread at a time has the
@@ -66,11 +65,15 @@ impl<'a, S: OneScan> Crew<'a, S> {
         }
     }
 
-    /// Allocates `buffers` row buffers, and what the calling thread works with; then the first row
-    /// may begin.
-    pub(crate) fn begin<R: Wait>(&self, rt: &R, buffers: u32) -> Result<CallerRoom<S>, Memory>
-        ensures lines { IfOk result (λ r. 8 * vertical_max self.now.scan.head * line_size self.now.scan.head ≤ length r.pixels.items) }
-        ensures header { IfOk result (λ r. HEADER_ROOM ≤ length r.pixels.items) }
+    /// Allocates `buffers` row buffers, and what the calling thread works with: memory for painting, and bytes for the
+    /// lines of a row of MCUs and for the header. Then the first row may begin.
+    pub(crate) fn begin<R: Wait>(
+        &self,
+        rt: &R,
+        buffers: u32,
+    ) -> Result<(PaintRoom<S>, Vec<u8>), Memory>
+        ensures lines { IfOk result (λ r. 8 * vertical_max self.now.scan.head * line_size self.now.scan.head ≤ length r.1.items) }
+        ensures header { IfOk result (λ r. HEADER_ROOM ≤ length r.1.items) }
     {
         for _ in 0..buffers {
             let Ok(buffer) = RowBuffer::open(self.alloc, &self.part) else {
@@ -78,11 +81,15 @@ impl<'a, S: OneScan> Crew<'a, S> {
             };
             self.give_back(rt, buffer);
         }
-        let Ok(room) = CallerRoom::open(self.alloc, &self.part) else {
+        let head = self.part.scan().head();
+        let Ok(pixels) = vec![in self.alloc; 0; room_for(head)] else {
+            return Err(Memory);
+        };
+        let Ok(room) = PaintRoom::open(self.alloc, &self.part) else {
             return Err(Memory);
         };
         self.shared.start(rt, &self.part, Baton::of(&self.part));
-        Ok(room)
+        Ok((room, pixels))
     }
 
     /// Returns the part of the scan that is decoded.

@@ -4,7 +4,6 @@
 
 mod baton;
 mod caller;
-mod caller_room;
 mod crew;
 mod crew_size;
 mod paint_room;

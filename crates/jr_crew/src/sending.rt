@@ -8,8 +8,8 @@ ghost use Rattle.jr_paint.specs.declared.header.TheConstants.{HEADER_ROOM};
 ghost use Rattle.jr_rows.specs.Stream.{IsSentBy};
 
 use crate::caller::Caller;
-use crate::caller_room::CallerRoom;
 use crate::crew::Crew;
+use crate::paint_room::PaintRoom;
 use jr_base::{Tally, WriteFault};
 use jr_picture::Gate;
 use jr_rows::{Marked, write_rows};
@@ -23,19 +23,20 @@ fn send<R: Wait, W: Write, G: Gate, S: OneScan>(
     crew: &Crew<'_, S>,
     rt: &R,
     gate: &G,
-    room: CallerRoom<S>,
+    room: PaintRoom<S>,
+    pixels: Vec<u8>,
     out: &mut Tally<W>,
 ) -> Result<Marked, WriteFault>
     requires unfailed { has_failed out.old ≡ false }
-    requires pixels { 8 * vertical_max crew.now.scan.head * line_size crew.now.scan.head ≤ length room.pixels.items }
-    requires header { HEADER_ROOM ≤ length room.pixels.items }
+    requires pixels { 8 * vertical_max crew.now.scan.head * line_size crew.now.scan.head ≤ length pixels.items }
+    requires header { HEADER_ROOM ≤ length pixels.items }
     ensures { IsSentBy W.contents crew.now out.old out.new result }
 {
     let scan = crew.part().scan();
     // By their contracts a scan has the number of intervals that its header says, and no more are decoded.
     let _counts = (scan.intervals(), crew.part().limit());
-    let CallerRoom { paint, mut pixels } = room;
-    let mut caller = Caller::of(crew, rt, gate, paint);
+    let mut pixels = pixels;
+    let mut caller = Caller::of(crew, rt, gate, room);
     let sent = write_rows(scan.head(), &mut caller, &mut pixels, out);
     drop(caller);
     sent
@@ -95,7 +96,7 @@ impl<'s, 'w, 'a, R: Wait, W: Write, G: Gate, S: OneScan> Beside
             out,
         } = self;
         let sent = match crew.begin(rt, buffers) {
-            Ok(room) => Some(send(crew, rt, gate, room, out)),
+            Ok((room, pixels)) => Some(send(crew, rt, gate, room, pixels, out)),
             Err(_) => None,
         };
         crew.end(rt);

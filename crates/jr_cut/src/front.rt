@@ -30,8 +30,8 @@ fn plain_within(bytes: &[u8], most: usize) -> usize
     plain_count(&bytes[..most])
 }
 
-/// Returns the number of bytes at the start that spell `count` bytes of data, or as many as there are up to a marker or
-/// the end.
+/// Returns the length of the prefix that encodes `count` data bytes, or of the longest prefix before a marker or the
+/// end.
 pub fn spelled_length(bytes: &[u8], count: usize) -> usize
     ensures within { result ≤ length bytes.now }
     ensures spells { (found : List ℕ) × IsRaw (take result bytes.now) found × (length found ≤ count) × (length found < count → IsStop (drop result bytes.now)) }
