@@ -92,7 +92,7 @@ impl Cursor {
 
     /// Takes the next whole MCUs of the interval: all that follow, at most `most`. If they are kept, their blocks fill
     /// the start of `blocks`. Returns their number. The speculative reads change nothing of what is taken.
-    pub(crate) fn take(
+    pub fn take(
         &mut self,
         interval: IntervalRef<'_>,
         guesses: Option<&Guesses>,
