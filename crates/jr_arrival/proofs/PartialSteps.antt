@@ -1,22 +1,23 @@
 -- Steps of a source over a scan whose file is still arriving.
-use Rattle.std.proofs.Common.{◌≡◌, ℕ, ◌+◌, ◌<◌, ◌≤◌, ◌++◌, inl, inr, Option, Some, None, List, length, refl, sym, subst, ◌∙◌, arith}
-use Rattle.std.specs.Prelude.{ℤ, Bool, IsTrue}
+use Rattle.std.proofs.Common.{◌≡◌, ℕ, ◌+◌, ◌<◌, ◌≤◌, ◌++◌, inl, inr, Option, Some, None, List, [], length, refl, sym, ap, subst, ◌∙◌, arith}
+use Rattle.std.specs.Prelude.{ℤ, Bool}
 use Rattle.std.proofs.lemmas.Bool.{cases_lt}
 use Rattle.jr_head.specs.HeadValue.{HeadValue}
-use Rattle.jr_head.specs.Geometry.{IsLawful, blocks_of, mcus_of}
+use Rattle.jr_head.specs.Geometry.{IsLawful, mcus_of}
 use Rattle.jr_head.specs.Intervals.{intervals_of, mcus_in}
 use Rattle.jr_scan.specs.declared.place.Place.{Place}
-use Rattle.jr_scan.specs.declared.place.RunEnd.TheVariants.{AllRead}
 use Rattle.jr_scan.specs.IntervalValue.{IntervalValue}
 use Rattle.jr_scan.specs.PartialScan.{PartialScanValue}
-use Rattle.jr_scan.specs.Mcus.{LongestFront}
-use Rattle.jr_scan.specs.Run.{IsRun, run_from}
+use Rattle.jr_scan.specs.Mcus.{HasLongestFront, LongestFront}
+use Rattle.jr_scan.specs.Run.{run_from}
 use Rattle.jr_scan.specs.ScanValue.{ScanValue, interval_of}
+use Rattle.jr_scan.proofs.McuReaders.{no_run}
 use Rattle.jr_piece.specs.Outcome.{unit_of}
-use Rattle.jr_piece.specs.Strips.{CanReadFrom, FirstMcus}
+use Rattle.jr_piece.specs.Strips.{FirstMcus}
 use Rattle.jr_piece.proofs.ScanLaws.{one_run, runs_meet, shorter_front}
 use Rattle.jr_piece.proofs.StripRuns as runs
 use Rattle.jr_piece.specs.Cursors.{interval_start}
+use Rattle.jr_piece.specs.declared.cursor.Cursor.{Cursor}
 use Rattle.jr_rows.specs.Cursors.{mcus_to}
 use Rattle.jr_rows.specs.Rows.{CountsMarks}
 use Rattle.jr_rows.specs.declared.marked.Marked.{Marked}
@@ -27,12 +28,12 @@ use Rattle.jr_arrival.specs.Meaning.{HasNoFurtherMcu}
 use Rattle.jr_arrival.specs.More.{with_more}
 use Rattle.jr_arrival.specs.PartialRows.{GrowsInto, IsFinal, ReadsAll, ReadsTo, StaysLongest}
 use Rattle.jr_arrival.specs.PartialSources.{IsPartialSource, partial_source_of}
-use Rattle.jr_arrival.specs.RowMcus.{ExtendsRow}
-use Rattle.jr_arrival.specs.Sources.{HasNoneLeft, ShowsMore, Steps}
+use Rattle.jr_arrival.specs.RowMcus.{TakesWhole}
+use Rattle.jr_arrival.specs.Sources.{HasNoneLeft, ShowsMore, Steps, Walks}
 use Rattle.jr_arrival.proofs.Knowing.{long_rest_stays}
 use Rattle.jr_arrival.proofs.LinesStay.{interval_more}
 use Rattle.jr_arrival.proofs.MoreData.{run_is_final}
-use Rattle.jr_arrival.proofs.Readings.{at_the_start, far_front, next_stays}
+use Rattle.jr_arrival.proofs.Readings.{at_the_start, far_front, next_stays, nothing_follows}
 use Rattle.jr_arrival.proofs.ShownSteps.{CodesBy, extends_shows, whole_units}
 
 -- a position that is another one
@@ -67,26 +68,41 @@ module _ (h : HeadValue) (s : PartialSource) (is : IsPartialSource h s) where
   scan_for t b = (b.head ∙ is.head, b.count ∙ is.count)
 
   -- whole MCUs
-  module _ (p q : Place) (at : s.cursor.place ≡ Some p) (n : ℕ) (ys : List (List ℤ)) (few : s.cursor.mcu + n ≤ mcus_in h s.cursor.number) (run : IsRun (run_from i p n) ys q AllRead) (can : CanReadFrom i q) where
+  module _ (p : Place) (at : s.cursor.place ≡ Some p) {j : IntervalValue} {keeps : Bool} {done n : ℕ} {d : Cursor} {old new : List (List ℕ)} (same : j ≡ i) (taken_j : TakesWhole h j p keeps done n s.cursor d old new) where
+    abbrev taken : TakesWhole h i p keeps done n s.cursor d old new
+    taken = subst (λ (x : IntervalValue). TakesWhole h x p keeps done n s.cursor d old new) same taken_j
+
     reads_p : ReadsTo g s.cursor.number s.cursor.mcu (Some p)
     reads_p = subst (ReadsTo g s.cursor.number s.cursor.mcu) at is.reading.reads
 
     few_g : s.cursor.mcu + n ≤ mcus_in g.scan.head s.cursor.number
-    few_g = subst (λ (k : HeadValue). s.cursor.mcu + n ≤ mcus_in k s.cursor.number) (sym is.head) few
+    few_g = subst (λ (k : HeadValue). s.cursor.mcu + n ≤ mcus_in k s.cursor.number) (sym is.head) taken.few
 
-    pub takes_whole : Steps h (partial_source_of s) (partial_source_of (moved h s is n (Some q))) n
-    takes_whole =
-        let first : FirstMcus (run_from i p n) n ys = record { to = q; run = run; none = λ lt. absurd (omega (arith, lt)) } in
-        moves h s is n (Some q) few (reads_p.0 ++ ys, runs.going one_run runs_meet shorter_front i lawful_g s.cursor.mcu reads_p.0 p reads_p.1 n n ys first few_g q run can)
+    steps : Steps h (partial_source_of s) (partial_source_of (moved h s is n (Some taken.to))) n
+    steps =
+        let first : FirstMcus (run_from i p n) n taken.blocks = record { to = taken.to; run = taken.run; none = λ lt. absurd (omega (arith, lt)) } in
+        moves h s is n (Some taken.to) taken.few (reads_p.0 ++ taken.blocks, runs.going one_run runs_meet shorter_front i lawful_g s.cursor.mcu reads_p.0 p reads_p.1 n n taken.blocks first few_g taken.to taken.run taken.can)
 
-    pub shows_whole : (keeps : Bool) (done : ℕ) (old new : List (List ℕ)) → 0 < blocks_of h → (IsTrue keeps → ExtendsRow h done n (unit_of h ys) old new) → ShowsMore h (partial_source_of s) keeps done n old new
-    shows_whole keeps done old new some adds =
-        extends_shows h (partial_source_of s) keeps n done (unit_of h ys) old new some (subst (λ (k : HeadValue). s.cursor.number < intervals_of k) is.head is.reading.number) few adds (λ whole t b.
+    shows : ShowsMore h (partial_source_of s) keeps done n old new
+    shows =
+        extends_shows h (partial_source_of s) keeps n done (unit_of h taken.blocks) old new taken.units (subst (λ (k : HeadValue). s.cursor.number < intervals_of k) is.head is.reading.number) taken.few taken.adds (λ whole t b.
         let d = b.so_far s.cursor.number in
         let longer = with_more i d.0 in
         let e = scan_for t b in
-        let codes = whole_units h longer s.cursor.mcu n reads_p.0 ys p q is.lawful is.head (next_stays i d.0 s.cursor.mcu reads_p.0 p reads_p.1) (run_is_final (run_from i p n) d.0 ys q reads_p.1.can.0 run) few_g in
-        (e.0, e.1, subst (λ (x : IntervalValue). CodesBy h x s.cursor.mcu n (unit_of h ys)) (sym (interval_more g.scan t s.cursor.number d.0 b.head d.1)) codes))
+        let codes = whole_units h longer s.cursor.mcu n reads_p.0 taken.blocks p taken.to is.lawful is.head (next_stays i d.0 s.cursor.mcu reads_p.0 p reads_p.1) (run_is_final (run_from i p n) d.0 taken.blocks taken.to reads_p.1.can.0 taken.run) few_g in
+        (e.0, e.1, subst (λ (x : IntervalValue). CodesBy h x s.cursor.mcu n (unit_of h taken.blocks)) (sym (interval_more g.scan t s.cursor.number d.0 b.head d.1)) codes))
+
+    pub walks_whole : Walks h (partial_source_of s) (partial_source_of (record s { cursor = d })) keeps done n old new
+    walks_whole = subst (λ (k : Cursor). Walks h (partial_source_of s) (partial_source_of (record s { cursor = k })) keeps done n old new) (sym taken.cursor) (record { steps = steps; shows = shows; few = taken.across })
+
+    -- or none
+    pub none_whole : n ≡ 0 → ReadsAll g.scan d.number d.mcu d.place
+    none_whole z =
+        let none = taken.none z in
+        let here : FirstMcus (run_from i p 1) 0 [] = record { to = p; run = no_run i p (ap length reads_p.1.run.predictions); none = λ lt. none.1 } in
+        let sum : s.cursor.mcu + 0 ≡ s.cursor.mcu = omega arith in
+        let all : ReadsAll g.scan s.cursor.number s.cursor.mcu (Some p) = subst (HasLongestFront i) sum (nothing_follows i s.cursor.mcu 1 reads_p.0 [] p lawful_g reads_p.1 here (omega arith) is.reading.few) in
+        subst (λ (k : Cursor). ReadsAll g.scan k.number k.mcu k.place) (sym none.0) (subst (ReadsAll g.scan s.cursor.number s.cursor.mcu) (sym at) all)
 
   -- no further MCU becomes whole
   pub gives_up : s.cursor.mcu < mcus_in h s.cursor.number → ReadsAll g.scan s.cursor.number s.cursor.mcu s.cursor.place → IsFinal g s.cursor.number s.cursor.place → Steps h (partial_source_of s) (partial_source_of (record s { cursor = record { number = s.cursor.number; mcu = s.cursor.mcu; place = None } })) 0

@@ -1,5 +1,5 @@
 -- What a row shows after a step over MCUs.
-use Rattle.std.proofs.Common.{◌≡◌, ℕ, ◌+◌, ◌-◌, ◌*◌, ◌<◌, ◌≤◌, Some, List, length, sym, ap, subst, ◌∙◌, arith}
+use Rattle.std.proofs.Common.{◌≡◌, ℕ, ◌+◌, ◌-◌, ◌*◌, ◌<◌, ◌≤◌, Some, None, List, length, refl, sym, ap, subst, ◌∙◌, arith}
 use Rattle.std.specs.Prelude.{ℤ, Bool, IsTrue}
 use Rattle.jr_head.specs.HeadValue.{HeadValue}
 use Rattle.jr_head.specs.Geometry.{IsLawful, blocks_of, order_of}
@@ -14,17 +14,19 @@ use Rattle.jr_piece.specs.PieceValue.{PieceValue}
 use Rattle.jr_piece.specs.Outcome.{IsOutcome, unit_of}
 use Rattle.jr_piece.specs.Strips.{IsNext}
 use Rattle.jr_piece.specs.Units.{grey_unit, unit_in_piece}
+use Rattle.jr_piece.specs.declared.cursor.Cursor.{Cursor}
 use Rattle.jr_rows.specs.Cursors.{mcus_to}
 use Rattle.jr_rows.specs.Groups.{units_in}
 use Rattle.jr_piece.proofs.CodedUnits.{grey_codes, whole_codes}
 use Rattle.jr_arrival.proofs.ScanIntervals.{count_is}
 use Rattle.jr_arrival.proofs.ShownMcus.{shown_on, shown_there}
-use Rattle.jr_arrival.proofs.Steps.{run_there}
+use Rattle.jr_arrival.proofs.Steps.{passes_true, run_there}
+use Rattle.jr_arrival.proofs.Windows.{window_long}
 use Rattle.jr_arrival.specs.declared.file_source.FileSource.{FileSource}
-use Rattle.jr_arrival.specs.FileSources.{IsFileSource, in_window, source_of}
+use Rattle.jr_arrival.specs.FileSources.{IsFileSource, IsInside, in_window, source_of}
 use Rattle.jr_arrival.specs.Meaning.{behind}
-use Rattle.jr_arrival.specs.RowMcus.{ExtendsRow}
-use Rattle.jr_arrival.specs.Sources.{HasNoneLeft, ShowsMore, SourceValue}
+use Rattle.jr_arrival.specs.RowMcus.{ExtendsRow, TakesWhole}
+use Rattle.jr_arrival.specs.Sources.{HasNoneLeft, ShowsMore, SourceValue, Steps, Walks}
 
 -- the data units of MCUs are those of each outcome of an interval
 abbrev pub CodesBy : HeadValue → IntervalValue → (mcu n : ℕ) → (ℕ → List ℕ) → Type 0
@@ -59,16 +61,37 @@ whole_units h i mcu n zs ys p q lawful e next run few =
     whole_codes i (subst IsLawful (sym e) lawful) mcu zs p next n ys q run few o same out k (omega (arith, lt, ap (λ (m : ℕ). n * m) (per_of i.head)))
     ∙ ap (λ (m : ℕ). unit_in_piece o (mcu * m + k)) (per_of i.head))
 
-pub whole_shows : (h : HeadValue) (s : FileSource) (p : Place) (keeps : Bool) (n done : ℕ) (ys : List (List ℤ)) (q : Place) (old new : List (List ℕ)) → IsLawful h → 0 < blocks_of h → IsFileSource h s → s.cursor.place ≡ Some p → p.bit ≤ 8 * (s.window.found - s.window.from)
-    → s.cursor.mcu + n ≤ mcus_in h s.cursor.number → IsRun (run_from (in_window h s) p n) ys q AllRead → q.bit ≤ 8 * (s.window.found - s.window.from) → (IsTrue keeps → ExtendsRow h done n (unit_of h ys) old new) → ShowsMore h (source_of s) keeps done n old new
-whole_shows h s p keeps n done ys q old new lawful some is at inside few run to adds =
-    extends_shows h (source_of s) keeps n done (unit_of h ys) old new some is.is_in.number few adds (λ whole t may.
-    let e = may.0.head in
-    let r = run_there h s p is at inside lawful n q ys run to whole t may.0 may.1 in (
-      e,
-      count_is whole t may.0.scan ∙ ap intervals_of e,
-      whole_units h (interval_of t s.cursor.number) s.cursor.mcu n r.1 ys (behind r.0 p) (behind r.0 q) lawful e r.2 r.3 (subst (λ (g : HeadValue). s.cursor.mcu + n ≤ mcus_in g s.cursor.number) (sym e) few),
-    ))
+-- those of a window
+module _ (h : HeadValue) (s : FileSource) (p : Place) (is : IsFileSource h s) (at : s.cursor.place ≡ Some p) {j : IntervalValue} {keeps : Bool} {done n : ℕ} {d : Cursor} {old new : List (List ℕ)} (same : j ≡ in_window h s) (taken_j : TakesWhole h j p keeps done n s.cursor d old new) where
+  abbrev taken : TakesWhole h (in_window h s) p keeps done n s.cursor d old new
+  taken = subst (λ (x : IntervalValue). TakesWhole h x p keeps done n s.cursor d old new) same taken_j
+
+  inside : p.bit ≤ 8 * (s.window.found - s.window.from)
+  inside = (let here : IsInside s.window (Some p) = subst (IsInside s.window) at is.inside in here).0
+
+  to : taken.to.bit ≤ 8 * (s.window.found - s.window.from)
+  to = omega (arith, taken.can.0, window_long s.window is.window)
+
+  steps : Steps h (source_of s) (source_of (record s { cursor = record { number = s.cursor.number; mcu = s.cursor.mcu + n; place = Some taken.to } })) n
+  steps = record {
+    at = record { window = is.window; inside = (to, taken.can.1); is_in = record { number = is.is_in.number; few = taken.few }; over = λ ended. absurd (let wrong : Some p ≡ None = sym at ∙ is.over ended in cc) };
+    part = refl;
+    right = λ whole t may. (may.0, record { from = may.1.from; means = passes_true h s p is at inside taken.lawful n taken.to taken.few taken.blocks taken.run to taken.can.1 whole t may.0 may.1 });
+    passed = omega arith;
+  }
+
+  shows : ShowsMore h (source_of s) keeps done n old new
+  shows =
+      extends_shows h (source_of s) keeps n done (unit_of h taken.blocks) old new taken.units is.is_in.number taken.few taken.adds (λ whole t may.
+      let e = may.0.head in
+      let r = run_there h s p is at inside taken.lawful n taken.to taken.blocks taken.run to whole t may.0 may.1 in (
+        e,
+        count_is whole t may.0.scan ∙ ap intervals_of e,
+        whole_units h (interval_of t s.cursor.number) s.cursor.mcu n r.1 taken.blocks (behind r.0 p) (behind r.0 taken.to) taken.lawful e r.2 r.3 (subst (λ (g : HeadValue). s.cursor.mcu + n ≤ mcus_in g s.cursor.number) (sym e) taken.few),
+      ))
+
+  pub walks_near : Walks h (source_of s) (source_of (record s { cursor = d })) keeps done n old new
+  walks_near = subst (λ (k : Cursor). Walks h (source_of s) (source_of (record s { cursor = k })) keeps done n old new) (sym taken.cursor) (record { steps = steps; shows = shows; few = taken.across })
 
 -- grey ones
 pub grey_shows : {P : Type 0} (h : HeadValue) (s : SourceValue P) (keeps : Bool) (n done : ℕ) (old new : List (List ℕ)) → 0 < blocks_of h → HasNoneLeft h s → s.cursor.mcu + n ≤ mcus_in h s.cursor.number → (IsTrue keeps → ExtendsRow h done n (λ _. grey_unit) old new) → ShowsMore h s keeps done n old new

@@ -9,23 +9,22 @@ use Rattle.jr_scan.specs.ScanValue.{ScanValue}
 use Rattle.jr_arrival.specs.declared.file_source.FileSource.{FileSource}
 use Rattle.jr_arrival.specs.declared.window.Window.{Window}
 use Rattle.jr_head.specs.HeadValue.{HeadValue}
-use Rattle.jr_head.specs.Geometry.{IsLawful, blocks_of}
+use Rattle.jr_head.specs.Geometry.{blocks_of}
 use Rattle.jr_head.specs.Intervals.{intervals_of, mcus_in}
-use Rattle.jr_scan.specs.Run.{IsRun, run_from, start_of_interval}
-use Rattle.jr_scan.specs.declared.place.RunEnd.TheVariants.{AllRead}
+use Rattle.jr_scan.specs.Run.{start_of_interval}
 use Rattle.jr_arrival.specs.declared.file_bytes.FileBytes.{FileBytes}
 use Rattle.jr_arrival.specs.declared.place.RowPlace.{RowPlace}
 use Rattle.jr_arrival.specs.Meaning.{HasBits, HasNoFurtherMcu, IsPlaceIn, MayBe, MeansAt, ReadsAt, offset_in}
 use Rattle.jr_arrival.specs.Parts.{part_of}
 use Rattle.jr_arrival.specs.Places.{place_state}
-use Rattle.jr_arrival.specs.FileSources.{IsFileSource, IsInside, IsOffset, IsRightIn, BeginsNext, IsWindow, MeansNext, begun, in_window, source_of, start_unless}
+use Rattle.jr_arrival.specs.FileSources.{IsFileSource, IsInside, IsOffset, IsRightIn, BeginsNext, IsWindow, MeansNext, begun, source_of, start_unless}
 use Rattle.jr_arrival.specs.Sources.{HasNoneLeft, Steps}
 use Rattle.jr_arrival.proofs.ReadOn.{nothing_whole}
 use Rattle.jr_arrival.proofs.ScanIntervals.{count_is}
 use Rattle.jr_piece.proofs.StripRuns.{at_start}
 use Rattle.jr_rows.specs.Cursors.{mcus_to}
 use Rattle.jr_piece.specs.declared.cursor.Cursor.{Cursor}
-use Rattle.jr_arrival.proofs.Steps.{moved, passes_true, stuck_on}
+use Rattle.jr_arrival.proofs.Steps.{moved, stuck_on}
 use Rattle.jr_arrival.proofs.Windows.{window_bits}
 
 pub right_by : (whole : List ℕ) (t : ScanValue) (d : FileSource) (i m at : ℕ) (o : Option Place) (ended : Bool) → d.cursor.number ≡ i → d.cursor.mcu ≡ m → d.window.file.from + d.window.at ≡ at → d.cursor.place ≡ o → d.ended ≡ ended → t.head.scan_at ≤ at → MeansNext whole t i m at o ended → IsRightIn whole t d
@@ -101,16 +100,6 @@ goes_on h s p is at = elim (cases_Bool s.ended) [
   | inr going ↦ going
   | inl over ↦ absurd (let wrong : Some p ≡ None = sym at ∙ is.over over in cc)
 ]
-
--- it has moved past whole MCUs in its window
-pub passes_whole : (h : HeadValue) (s : FileSource) (p : Place) → IsFileSource h s → s.cursor.place ≡ Some p → p.bit ≤ 8 * (s.window.found - s.window.from) → IsLawful h → (n : ℕ) (q : Place) → s.cursor.mcu + n ≤ mcus_in h s.cursor.number → (ys : List (List ℤ)) → IsRun (run_from (in_window h s) p n) ys q AllRead
-    → q.bit ≤ 8 * (s.window.found - s.window.from) → All IsInDcRange q.predictions → Steps h (source_of s) (source_of (record s { cursor = record { number = s.cursor.number; mcu = s.cursor.mcu + n; place = Some q } })) n
-passes_whole h s p is at inside lawful n q few ys run to in_range = record {
-  at = record { window = is.window; inside = (to, in_range); is_in = record { number = is.is_in.number; few = few }; over = λ ended. absurd (let wrong : Some p ≡ None = sym at ∙ is.over ended in cc) };
-  part = refl;
-  right = λ whole t may. (may.0, record { from = may.1.from; means = passes_true h s p is at inside lawful n q few ys run to in_range whole t may.0 may.1 });
-  passed = omega arith;
-}
 
 start_inside : (h : HeadValue) (w : Window) (ended : Bool) → IsInside w (start_unless ended)
 start_inside h w true = tt

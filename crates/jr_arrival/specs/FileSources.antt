@@ -1,5 +1,5 @@
 -- A source of MCUs over a window of a file's bytes.
-use Rattle.std.specs.Prelude.{◌≡◌, ℕ, ◌+◌, ◌-◌, ◌*◌, ◌<◌, ◌≤◌, ◌⊎◌, ⊤, Bool, true, false, List, length, replicate, take, drop, Option, Some, None}
+use Rattle.std.specs.Prelude.{◌≡◌, ℕ, ◌+◌, ◌-◌, ◌*◌, ◌<◌, ◌≤◌, ◌⊎◌, ⊤, Bool, true, false, List, length, replicate, take, drop, Option, Some, None, IfSome}
 use Rattle.std.specs.List.{All}
 use Rattle.jr_head.specs.HeadValue.{HeadValue}
 use Rattle.jr_head.specs.Geometry.{mcus_of}
@@ -113,6 +113,7 @@ source_of s = record {
   cursor = s.cursor;
   is_at = λ h. IsFileSource h s;
   may_be = λ h whole t. MayBe (part_of s.window.file) h whole t × IsRightIn whole t s;
+  reads_all = λ h. IfSome s.cursor.place (NoneFollows h s);
   waits = λ h. Waits h s;
 }
 

@@ -5,7 +5,7 @@ use Rattle.jr_head.specs.Geometry.{IsLawful}
 use Rattle.jr_head.specs.Intervals.{intervals_of}
 use Rattle.jr_scan.specs.PartialScan.{PartialScanValue}
 use Rattle.jr_arrival.specs.declared.partial_source.PartialSource.{PartialSource}
-use Rattle.jr_arrival.specs.PartialRows.{GrowsInto, HasNoMore, IsPartialReading}
+use Rattle.jr_arrival.specs.PartialRows.{GrowsInto, HasNoMore, IsPartialReading, ReadsAll}
 use Rattle.jr_arrival.specs.Sources.{SourceValue}
 
 -- its numbers are those of an MCU of an image with this header
@@ -22,5 +22,6 @@ partial_source_of s = record {
   cursor = s.cursor;
   is_at = λ h. IsPartialSource h s;
   may_be = λ h whole t. GrowsInto s.scan.now t;
+  reads_all = λ h. ReadsAll s.scan.now.scan s.cursor.number s.cursor.mcu s.cursor.place;
   waits = λ h. HasNoMore s.scan.now s.cursor;
 }

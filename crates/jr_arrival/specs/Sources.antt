@@ -1,5 +1,5 @@
 -- A source of the MCUs of a scan, and its steps.
-use Rattle.std.specs.Prelude.{◌≡◌, ℕ, ◌+◌, ◌<◌, ◌≤◌, Bool, List, length, IsTrue, Option, Some, None}
+use Rattle.std.specs.Prelude.{◌≡◌, ℕ, ◌+◌, ◌<◌, ◌≤◌, Bool, List, length, IsTrue, None}
 use Rattle.jr_head.specs.HeadValue.{HeadValue}
 use Rattle.jr_head.specs.Geometry.{mcus_across}
 use Rattle.jr_head.specs.Intervals.{intervals_of, mcus_in}
@@ -19,6 +19,8 @@ pub record SourceValue (Part : Type 0) : Type 1 where
   pub is_at : HeadValue → Type 0
   -- it may be a part of this file, of this scan, in which its position is right
   pub may_be : HeadValue → List ℕ → ScanValue → Type 0
+  -- no further MCU of its interval is whole in what it has
+  pub reads_all : HeadValue → Type 0
   -- what it has does not make the next MCU final
   pub waits : HeadValue → Type 0
 
@@ -45,8 +47,3 @@ pub record HasNoneLeft {Part : Type 0} (h : HeadValue) (s : SourceValue Part) : 
   pub some : s.cursor.mcu < mcus_in h s.cursor.number
   pub stuck : s.cursor.place ≡ None
   pub none : (whole : List ℕ) (t : ScanValue) → s.may_be h whole t → (t.head ≡ h) × (length t.intervals ≡ intervals_of h) × HasNoFurtherMcu t s.cursor.number s.cursor.mcu
-
--- the number of MCUs that were taken
-abbrev pub taken : Option ℕ → ℕ
-taken None = 0
-taken (Some n) = n

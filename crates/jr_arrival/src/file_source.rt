@@ -2,17 +2,16 @@
 //! file.
 
 ghost use Rattle.std.specs.List.{All};
-ghost use Rattle.std.specs.Prelude.{◌≡◌, ◌≤◌, ◌<◌, ◌+◌, ◌-◌, ◌*◌, ◌^◌, ℕ, List, [], length, max, true, false, Some, None, IfOk, IfSome};
-ghost use Rattle.jr_head.specs.Geometry.{mcus_across, mcus_of};
+ghost use Rattle.std.specs.Prelude.{◌≡◌, ◌≤◌, ◌<◌, ◌+◌, ◌-◌, ◌*◌, ◌^◌, ℕ, List, length, max, true, false, Some, None, IfOk, IfSome};
+ghost use Rattle.jr_head.specs.Geometry.{mcus_across};
 ghost use Rattle.jr_head.specs.HeadValue.{HeadValue};
 ghost use Rattle.jr_head.specs.Intervals.{intervals_of, mcus_in};
 ghost use Rattle.jr_mcu.specs.Block.{IsInDcRange};
 ghost use Rattle.jr_rows.specs.Cursors.{mcus_to};
-ghost use Rattle.jr_scan.specs.Run.{HasNoMcu, run_from};
-ghost use Rattle.jr_scan.specs.McuReader.{HasRead};
+ghost use Rattle.jr_scan.specs.Run.{HasNoMcu};
 ghost use Rattle.jr_scan.specs.ScanValue.{ScanValue};
 ghost use Rattle.jr_scan.specs.declared.place.Place.{Place};
-ghost use Rattle.jr_arrival.specs.FileSources.{BeginsNext, IsFileSource, IsInside, IsOpen, IsRightIn, IsWindow, NoneFollows, Waits, begun, in_window, source_of, start_unless};
+ghost use Rattle.jr_arrival.specs.FileSources.{BeginsNext, IsFileSource, IsInside, IsOpen, IsRightIn, IsWindow, begun, in_window, source_of, start_unless};
 ghost use Rattle.jr_arrival.specs.Meaning.{IsPlaceIn, MayBe};
 ghost use Rattle.jr_arrival.specs.Parts.{part_of};
 ghost use Rattle.jr_arrival.specs.Places.{IsPlaceOf, place_state};
@@ -21,14 +20,14 @@ ghost use Rattle.jr_arrival.specs.declared.file_bytes.FileBytes.{FileBytes};
 
 use crate::file_bytes::FileBytes;
 use crate::mcu_sink::McuSink;
-use crate::mcu_source::McuSource;
+use crate::mcu_source::{McuSource, take_whole};
 use crate::place::RowPlace;
 use crate::window::Window;
 use jr_base::Memory;
 use jr_cut::{Stop, offset_in};
 use jr_head::Head;
 use jr_piece::Cursor;
-use jr_scan::{IntervalRef, McuReader, Place};
+use jr_scan::{IntervalRef, Place};
 use std::alloc::Global;
 
 /// A source of MCUs over a window of a file's bytes.
@@ -41,7 +40,7 @@ pub(crate) struct FileSource<'a> {
     pub ended: bool,
 }
 
-/// Returns what sixteen bits hold of a number.
+/// Returns a number clamped to the range of sixteen bits.
 fn in_sixteen_bits(prediction: i32) -> i32
     ensures in_range { IsInDcRange result }
     ensures kept { IsInDcRange prediction → result ≡ prediction }
@@ -49,7 +48,7 @@ fn in_sixteen_bits(prediction: i32) -> i32
     prediction.clamp(-32768, 32767)
 }
 
-/// Returns what sixteen bits hold of each number.
+/// Returns each number clamped to the range of sixteen bits.
 fn in_range(predictions: [i32; 3]) -> [i32; 3]
     ensures in_range { All IsInDcRange result }
     ensures kept { All IsInDcRange predictions → result ≡ predictions }
@@ -182,18 +181,14 @@ impl<'a> FileSource<'a> {
         }
     }
 
-    /// Returns a reader of the interval's further MCUs in the window, which begin at `place`.
-    fn reader<'s>(&'s self, head: &'s Head, place: Place) -> McuReader<'s>
+    /// Returns the rest of the interval, as far as its data are in the window.
+    fn interval<'s>(&'s self, head: &'s Head) -> IntervalRef<'s>
         requires at { IsFileSource head.now self.now }
-        requires place { self.now.cursor.place ≡ Some place }
-        ensures run { result.run ≡ run_from (in_window head.now self.now) place (mcus_in head.now self.now.cursor.number - self.now.cursor.mcu) }
-        ensures mcu { result.mcu ≡ 0 }
-        ensures read { HasRead result [] }
+        ensures { result ≡ in_window head.now self.now }
     {
         let left = head.mcus_in(self.cursor.number) - self.cursor.mcu;
         let data = &self.window.room[self.window.from..self.window.found];
-        let interval = IntervalRef::of(head, data, self.cursor.number, left);
-        McuReader::at(interval, place, left)
+        IntervalRef::of(head, data, self.cursor.number, left)
     }
 
     /// Takes whole MCUs of the window, which begin at `place`, after the first `done` of a row, and returns their number.
@@ -208,70 +203,13 @@ impl<'a> FileSource<'a> {
         ensures number { self.new.cursor.number ≡ self.old.cursor.number }
         ensures none { result ≡ 0 → (self.new ≡ self.old) × HasNoMcu (in_window head.now self.old) place }
     {
-        // By their contracts the numbers of the interval's MCUs fit, and an MCU has a data unit.
-        let _most = head.mcus_in(self.cursor.number);
-        let _some = head.order().len();
-        let mut reader = self.reader(head, place);
-        let whole = sink.take(head, &mut reader, done);
-        let next = reader.place();
-        if whole == 0 {
-            return 0;
-        }
-        self.cursor.mcu += whole;
-        self.cursor.place = Some(next);
+        let mut cursor = self.cursor;
+        let whole = take_whole(&mut cursor, head, self.interval(head), place, sink, done);
+        self.cursor = cursor;
         whole
     }
 
-    /// Takes the next whole MCUs of the interval after the first `done` of a row, and returns their number, 0 if no further one
-    /// is whole.
-    fn take_some<K: McuSink>(&mut self, head: &Head, sink: &mut K, done: u32) -> u32
-        requires at { IsFileSource head.now self.old }
-        requires within { done < mcus_across head.now }
-        requires room { K.has_room head.now sink.old }
-        requires some { self.old.cursor.mcu < mcus_in head.now self.old.cursor.number }
-        ensures room { K.has_room head.now sink.new }
-        ensures walks { Walks head.now (source_of self.old) (source_of self.new) K.keeps done result (K.groups sink.old) (K.groups sink.new) }
-        ensures number { self.new.cursor.number ≡ self.old.cursor.number }
-        ensures none { result ≡ 0 → IfSome self.new.cursor.place (NoneFollows head.now self.new) }
-    {
-        'windows: loop {
-            let Some(place) = self.cursor.place else {
-                return 0;
-            };
-            let some = self.take_near(head, sink, done, place);
-            if some > 0 {
-                return some;
-            }
-            let Some(bit) = self.window.slide(place.bit) else {
-                return 0;
-            };
-            self.cursor.place = Some(at_bit(place, bit));
-        }
-    }
-
-    /// Returns whether no further MCU of the interval becomes whole, and then moves past its data so far.
-    fn give_up(&mut self, head: &Head) -> bool
-        requires at { IsFileSource head.now self.old }
-        requires none { IfSome self.old.cursor.place (NoneFollows head.now self.old) }
-        ensures steps { Steps head.now (source_of self.old) (source_of self.new) 0 }
-        ensures number { self.new.cursor.number ≡ self.old.cursor.number }
-        ensures stuck { result ≡ true → self.new.cursor.place ≡ None }
-        ensures waits { result ≡ false → Waits head.now self.new }
-    {
-        head.assert_invariant();
-        let Some(place) = self.cursor.place else {
-            return true;
-        };
-        let end = self.window.end_of_data();
-        if !self.window.is_stuck_at(end, place.bit) {
-            return false;
-        }
-        self.window.leave(end);
-        self.cursor.place = None;
-        true
-    }
-
-    /// Goes to what follows the interval: the next one's data, or the scan's end. Returns `false` if neither has arrived.
+    /// Moves to what follows the interval: the next one's data or the scan's end. Returns `false` if neither has arrived.
     fn leave_interval(&mut self, head: &Head) -> bool
         requires window { IsWindow self.old.window }
         requires number { self.old.cursor.number < intervals_of head.now }
@@ -348,17 +286,37 @@ impl<'a> McuSource for FileSource<'a> {
         true
     }
 
-    fn take_whole<K: McuSink>(&mut self, head: &Head, sink: &mut K, done: u32) -> Option<u32> {
+    fn take_some<K: McuSink>(&mut self, head: &Head, sink: &mut K, done: u32) -> u32 {
+        'windows: loop {
+            let Some(place) = self.cursor.place else {
+                return 0;
+            };
+            let some = self.take_near(head, sink, done, place);
+            if some > 0 {
+                return some;
+            }
+            let Some(bit) = self.window.slide(place.bit) else {
+                return 0;
+            };
+            self.cursor.place = Some(at_bit(place, bit));
+        }
+    }
+
+    // If no further MCU becomes whole, it moves past the interval's data so far.
+    fn give_up(&mut self, head: &Head) -> bool {
+        head.assert_invariant();
         // By its contract an MCU has a data unit.
         let _some = head.order().len();
-        let whole = self.take_some(head, sink, done);
-        if whole > 0 {
-            return Some(whole);
+        let Some(place) = self.cursor.place else {
+            return true;
+        };
+        let end = self.window.end_of_data();
+        if !self.window.is_stuck_at(end, place.bit) {
+            return false;
         }
-        if !self.give_up(head) {
-            return None;
-        }
-        Some(0)
+        self.window.leave(end);
+        self.cursor.place = None;
+        true
     }
 
     fn pass_grey(&mut self, mcus: u32) {

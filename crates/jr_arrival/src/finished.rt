@@ -1,4 +1,4 @@
-//! A file that has come.
+//! A file that has arrived.
 
 use jr_picture::Counts;
 use jr_scan::Scan;

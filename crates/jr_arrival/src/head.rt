@@ -10,7 +10,7 @@ use jr_head::{Head, read_head};
 use jr_segments::Refusal;
 use std::alloc::Global;
 
-/// Returns the header that was read of these bytes, or `None` if more are wanted.
+/// Returns the header that was read of these bytes, or `None` if more are needed.
 ///
 /// # Errors
 ///
@@ -32,11 +32,11 @@ pub(crate) fn head_of(bytes: &[u8], read: Result<Head, Refusal>) -> Result<Optio
 }
 
 /// Returns the header that the bytes so far begin with, which is that of every file that they can become, or `None` if
-/// more are wanted.
+/// more are needed.
 ///
 /// # Errors
 ///
-/// The refusal of every such file. `Memory` if allocation fails; it says nothing of the bytes.
+/// The refusal of every such file. `Memory` if allocation fails; it says nothing about the bytes.
 pub fn read_partial_head(alloc: Global, bytes: &[u8]) -> Result<Option<Head>, Refusal>
     ensures head { IfOk result (λ o. IfSome o (HeadOf bytes.now)) }
     ensures wanted { IfOk result (λ o. IfNone o (WantsMore bytes.now)) }

@@ -25,7 +25,7 @@ pub fn head_is_final()
     ensures { (bytes file : List ℕ) (h : HeadValue) → CanBecome bytes file → HeadOf bytes h → HeadOf file h }
 {}
 
-/// A refusal that does not say that bytes are missing is that of every file that the bytes so far can become.
+/// States that a refusal that does not report missing bytes is that of every file that the bytes so far can become.
 pub fn fault_is_final()
     ensures { (bytes file : List ℕ) (f : Refusal) → CanBecome bytes file → IsFinalFault bytes f → RefusalOf bytes f → RefusalOf file f }
 {}
@@ -35,19 +35,20 @@ pub fn too_long_is_final()
     ensures { (bytes more : List ℕ) → RefusalOf bytes TooLong → RefusalOf (bytes ++ more) TooLong }
 {}
 
-/// The segments that the bytes so far have ended are those that more bytes are cut into, and the last one's data begins its data
-/// there; if a marker has ended the scan, nothing is added (T.81, B.1.1.5).
+/// States that the segments that the bytes so far have ended are those that more bytes are cut into, and that the last
+/// one's data begin its data there. If a marker has ended the scan, nothing is added (T.81, B.1.1.5).
 pub fn cut_is_final()
     ensures { (n at : ℕ) (bytes more : List ℕ) (a : Cutting n at bytes) (b : Cutting n at (bytes ++ more)) → GrowsTo a.datas b.datas × (a.end ≢ EndOfFile → (b.datas ≡ a.datas) × (b.end ≡ a.end)) }
 {}
 
-/// So every file that the bytes so far can become keeps the intervals of their scan: those that have ended as they are, and of
-/// each other one the data so far (T.81, E.1.4).
+/// States that every file that the bytes so far can become keeps the intervals of their scan: those that have ended
+/// unchanged, and of each other one the data so far (T.81, E.1.4).
 pub fn scan_is_final()
     ensures { (bytes file : List ℕ) (s t : ScanValue) → CanBecome bytes file → HasScan bytes s → HasScan file t → KeepsScan bytes s t }
 {}
 
-/// Whole MCUs that an interval's data so far begins with are its first MCUs, whatever data comes (T.81, A.2.3).
+/// States that whole MCUs that an interval's data so far begin with are its first MCUs, whatever data follow (T.81,
+/// A.2.3).
 pub fn front_is_final()
     ensures { (i : IntervalValue) (more : List ℕ) (k : ℕ) (blocks : List (List ℤ)) → Front i k blocks → Front (with_more i more) k blocks }
 {}

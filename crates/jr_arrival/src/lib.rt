@@ -1,7 +1,7 @@
 //! A file that is still arriving, and a file entered in its middle: what its bytes so far make final in every file that
 //! they can become, the lines, and the positions from which its rows are decoded or skipped.
 //!
-//! What was shown of a file that is still arriving is shown by every file that it can become. `laws.rt` says so of
+//! What is read of a file that is still arriving is final in every file that it can become. `laws.rt` states this for
 //! headers, refusals, restart intervals, whole MCUs, lines and marks, and `PartialFile` returns each line once as bytes
 //! are pushed. An interval is final up to its last whole MCU; all of it is once the marker that ends it is whole, code
 //! included (`IsOver` in specs/LongerFile.antt), or once its data have more bits without a code than an MCU has
@@ -11,7 +11,7 @@
 //! next, and its lines are painted once. So all pushes and looks together cost what one decoding of the whole file
 //! does, however it is split.
 //!
-//! A position is plain numbers: it holds no memory, and is copied, kept and forgotten as its holder likes. Of the scan
+//! A position is plain numbers: it uses no memory of its own, and the caller may copy, keep and drop it. Of the scan
 //! only what follows the position is read, a window of it at a time, as far as the rows reach.
 #![tactic(auto)]
 

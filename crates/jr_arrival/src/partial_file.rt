@@ -30,7 +30,7 @@ pub struct PartialFile {
     /// Empty once the scan has begun.
     head: PartialHead,
     partial_image: Option<PartialImage>,
-    /// The number of bytes that have come, those included that are too many and not kept.
+    /// Number of bytes that have arrived, including those past the maximum, which are not kept.
     count: u64,
 }
 
@@ -152,7 +152,7 @@ impl PartialFile {
     ///
     /// # Errors
     ///
-    /// The refusal of every such file. `Memory` if allocation fails; it says nothing of the bytes.
+    /// The refusal of every such file. `Memory` if allocation fails; it says nothing about the bytes.
     pub fn begin(&mut self, alloc: Global) -> Result<(), Refusal>
         ensures partial_file { (bytes : List ℕ) → IsPartialFile self.old bytes → IsPartialFile self.new bytes }
         ensures lines { given_of self.new.partial_image ≡ given_of self.old.partial_image }
@@ -188,7 +188,7 @@ impl PartialFile {
     }
 
     /// Copies the next lines that the bytes so far make final into `pixels`, as many as fit, a line after the other, of
-    /// one byte or three a pixel. Returns their number. Every file that the bytes can become shows them.
+    /// one byte or three a pixel. Returns their number. Each is a line of every file that the bytes can become.
     ///
     /// # Errors
     ///

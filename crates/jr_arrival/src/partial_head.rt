@@ -59,11 +59,11 @@ impl PartialHead {
         &self.bytes
     }
 
-    /// Reads on, and returns the header of every file that the bytes can become, or `None` if more are wanted.
+    /// Reads on, and returns the header of every file that the bytes can become, or `None` if more are needed.
     ///
     /// # Errors
     ///
-    /// The refusal of every such file. `Memory` if allocation fails; it says nothing of the bytes.
+    /// The refusal of every such file. `Memory` if allocation fails; it says nothing about the bytes.
     pub(crate) fn read(&mut self, alloc: Global) -> Result<Option<Head>, Refusal>
         ensures head { IfOk result (λ o. IfSome o (HeadOf self.old)) }
         ensures wanted { IfOk result (λ o. IfNone o (WantsMore self.old)) }

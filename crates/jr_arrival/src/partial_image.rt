@@ -67,11 +67,12 @@ impl PartialImage {
         })
     }
 
-    /// Returns the scan of the bytes so far once they have its header, or `None` if more are wanted. It copies them.
+    /// Returns the scan of the bytes so far once they have its header, or `None` if more are needed. It copies them.
     ///
     /// # Errors
     ///
-    /// The refusal of every file that the bytes can become. `Memory` if allocation fails; it says nothing of the bytes.
+    /// The refusal of every file that the bytes can become. `Memory` if allocation fails; it says nothing about the
+    /// bytes.
     pub(crate) fn of(
         alloc: Global,
         so_far: &mut PartialHead,

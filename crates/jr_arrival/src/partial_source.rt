@@ -1,8 +1,6 @@
 //! A source of MCUs that reads a scan whose file is still arriving.
 
 ghost use Rattle.std.specs.Prelude.{◌≡◌, ◌+◌, ◌-◌, ◌*◌, ◌<◌, ◌≤◌, true, false, length, None};
-ghost use Rattle.jr_head.specs.Geometry.{mcus_across};
-ghost use Rattle.jr_head.specs.HeadValue.{HeadValue};
 ghost use Rattle.jr_head.specs.Intervals.{mcus_in};
 ghost use Rattle.jr_scan.specs.PartialScan.{PartialScanValue};
 ghost use Rattle.jr_scan.specs.Run.{left_at};
@@ -10,17 +8,16 @@ ghost use Rattle.jr_scan.specs.ScanValue.{ScanValue, interval_of};
 ghost use Rattle.jr_piece.specs.Strips.{TellsSound};
 ghost use Rattle.jr_rows.specs.Rows.{CountsMarks};
 ghost use Rattle.jr_arrival.specs.LongerFile.{IsOver};
-ghost use Rattle.jr_arrival.specs.PartialRows.{GrowsInto, HasNoMore, IsFinal, IsPartialReading, ReadsAll, ReadsTo};
-ghost use Rattle.jr_arrival.specs.PartialSources.{IsPartialSource, partial_source_of};
-ghost use Rattle.jr_arrival.specs.Sources.{Steps, Walks};
+ghost use Rattle.jr_arrival.specs.PartialRows.{GrowsInto, IsFinal, IsPartialReading, ReadsTo};
+ghost use Rattle.jr_arrival.specs.PartialSources.{partial_source_of};
 
 use crate::mcu_sink::McuSink;
-use crate::mcu_source::McuSource;
+use crate::mcu_source::{McuSource, take_whole};
 use crate::window::MCU_BITS;
 use jr_head::Head;
 use jr_piece::Cursor;
 use jr_rows::Marked;
-use jr_scan::{IntervalRef, McuReader, PartialScan, Place, ScanEnd};
+use jr_scan::{IntervalRef, PartialScan, Place, ScanEnd};
 
 /// Returns whether an interval is over: no more data of it can come.
 fn is_over(scan: &PartialScan, i: u32) -> bool
@@ -84,33 +81,6 @@ pub(crate) struct PartialSource<'a> {
 }
 
 impl<'a> PartialSource<'a> {
-    /// Takes the next whole MCUs of the interval after the first `done` of a row, and returns their number.
-    fn take_some<K: McuSink>(&mut self, head: &Head, sink: &mut K, done: u32) -> u32
-        requires at { IsPartialSource head.now self.old }
-        requires within { done < mcus_across head.now }
-        requires room { K.has_room head.now sink.old }
-        requires some { self.old.cursor.mcu < mcus_in head.now self.old.cursor.number }
-        ensures room { K.has_room head.now sink.new }
-        ensures walks { Walks head.now (partial_source_of self.old) (partial_source_of self.new) K.keeps done result (K.groups sink.old) (K.groups sink.new) }
-        ensures number { self.new.cursor.number ≡ self.old.cursor.number }
-        ensures all { result ≡ 0 → ReadsAll self.new.scan.now.scan self.new.cursor.number self.new.cursor.mcu self.new.cursor.place }
-    {
-        // By their contracts the numbers of all intervals fit, and an MCU has a data unit.
-        let _most = self.scan.intervals();
-        let _few = head.mcus_in(self.cursor.number);
-        let _some = head.order().len();
-        let Some(place) = self.cursor.place else {
-            return 0;
-        };
-        let left = head.mcus_in(self.cursor.number) - self.cursor.mcu;
-        let mut reader = McuReader::at(self.scan.interval_ref(self.cursor.number), place, left);
-        let whole = sink.take(head, &mut reader, done);
-        let next = reader.place();
-        self.cursor.mcu += whole;
-        self.cursor.place = Some(next);
-        whole
-    }
-
     /// Returns whether the interval's next MCU, which is not whole, never becomes so: the interval is over, or the data
     /// so far have the maximum number of bits of an MCU left there (T.81, F.1.2).
     fn is_final(&self) -> bool
@@ -124,26 +94,6 @@ impl<'a> PartialSource<'a> {
         };
         is_over(self.scan, self.cursor.number)
             || bits_left(self.scan.interval_ref(self.cursor.number), place) >= MCU_BITS
-    }
-
-    /// Returns whether no further MCU of the interval becomes whole.
-    fn give_up(&mut self, head: &Head) -> bool
-        requires at { IsPartialSource head.now self.old }
-        requires some { self.old.cursor.mcu < mcus_in head.now self.old.cursor.number }
-        requires all { ReadsAll self.old.scan.now.scan self.old.cursor.number self.old.cursor.mcu self.old.cursor.place }
-        ensures steps { Steps head.now (partial_source_of self.old) (partial_source_of self.new) 0 }
-        ensures number { self.new.cursor.number ≡ self.old.cursor.number }
-        ensures stuck { result ≡ true → self.new.cursor.place ≡ None }
-        ensures waits { result ≡ false → HasNoMore self.new.scan.now self.new.cursor }
-    {
-        // By its contract the numbers of all intervals fit.
-        let _most = self.scan.intervals();
-        head.assert_invariant();
-        if !self.is_final() {
-            return false;
-        }
-        self.cursor.place = None;
-        true
     }
 }
 
@@ -170,18 +120,23 @@ impl<'a> McuSource for PartialSource<'a> {
         true
     }
 
-    fn take_whole<K: McuSink>(&mut self, head: &Head, sink: &mut K, done: u32) -> Option<u32> {
-        // By their contracts the numbers of all intervals fit, and an MCU has a data unit.
+    fn take_some<K: McuSink>(&mut self, head: &Head, sink: &mut K, done: u32) -> u32 {
+        let Some(place) = self.cursor.place else {
+            return 0;
+        };
+        let interval = self.scan.interval_ref(self.cursor.number);
+        take_whole(&mut self.cursor, head, interval, place, sink, done)
+    }
+
+    fn give_up(&mut self, head: &Head) -> bool {
+        // By its contract the numbers of all intervals fit.
         let _most = self.scan.intervals();
-        let _some = head.order().len();
-        let whole = self.take_some(head, sink, done);
-        if whole > 0 {
-            return Some(whole);
+        head.assert_invariant();
+        if !self.is_final() {
+            return false;
         }
-        if !self.give_up(head) {
-            return None;
-        }
-        Some(0)
+        self.cursor.place = None;
+        true
     }
 
     fn pass_grey(&mut self, mcus: u32) {

@@ -1,4 +1,4 @@
-//! What holds of MCUs that are read from a part of their interval's data.
+//! What holds for MCUs that are read from a part of their interval's data.
 
 ghost use Rattle.std.specs.Prelude.{Bool, ◌≡◌, ◌≤◌, ◌+◌, ◌*◌, ◌++◌, ◌∷◌, ℕ, ℤ, List, [], length};
 ghost use Rattle.jr_cut.specs.Cut.{CutFrom, IsRaw, IsStop};
@@ -42,7 +42,7 @@ pub fn top_is_place()
     ensures { (x : FilePart) (whole : List ℕ) (t : ScanValue) → IsScanOf whole t → x.from ≤ t.head.scan_at → t.head.scan_at ≤ x.from + length x.bytes → IsPlaceIn x whole t top }
 {}
 
-/// States that a position that some bytes have come to is one that more bytes have come to.
+/// States that a position in a part of a file is one in each part with more bytes after it.
 pub fn place_stays()
     ensures { (x : FilePart) (more : List ℕ) (all : Bool) (whole : List ℕ) (t : ScanValue) (p : RowPlace) → IsPlaceIn x whole t p
         → IsPlaceIn (part_at x.from (x.bytes ++ more) all) whole t p }

@@ -44,11 +44,12 @@ fn walk_some<S: McuSource, K: McuSink>(source: &mut S, head: &Head, sink: &mut K
     if !source.advance(head) {
         return 0;
     }
-    let Some(whole) = source.take_whole(head, sink, done) else {
-        return 0;
-    };
+    let whole = source.take_some(head, sink, done);
     if whole > 0 {
         return whole;
+    }
+    if !source.give_up(head) {
+        return 0;
     }
     walk_grey(source, head, sink, done)
 }

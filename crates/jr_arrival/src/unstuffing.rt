@@ -13,8 +13,8 @@ pub(crate) struct Part {
     pub ends: bool,
 }
 
-/// Returns whether data that end within the first `most` bytes of `raw` end there in all of it. If these bytes end by fill
-/// bytes, they do not say it.
+/// Returns whether data that end within the first `most` bytes of `raw` are known to end there in all of it. They are
+/// not if these bytes end with fill bytes and are not all.
 fn ends_within(raw: &[u8], read: usize, most: usize) -> bool
     requires read { read ≤ most }
     requires most { most ≤ length raw.now }
@@ -26,7 +26,7 @@ fn ends_within(raw: &[u8], read: usize, most: usize) -> bool
     most == raw.len() || read + fill < most
 }
 
-/// Unstuffs the first `most` bytes of `raw` alone.
+/// Unstuffs the first `most` bytes of `raw` only.
 pub(crate) fn unstuff_some(raw: &[u8], most: usize, room: &mut [u8]) -> Part
     ensures fits { result.found ≤ length room.old }
     ensures long { length room.new ≡ length room.old }

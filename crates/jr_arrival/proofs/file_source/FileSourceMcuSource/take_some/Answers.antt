@@ -8,7 +8,7 @@ use Rattle.jr_arrival.specs.Sources.{Walks}
 use Rattle.jr_arrival.proofs.SourceSteps.{walks_on, walks_then}
 use Rattle.jr_arrival.proofs.Standing.{moves_to}
 use Rattle.jr_arrival.proofs.Steps.{window_left}
-use Rattle.jr_arrival.proofs.file_source.FileSource.take_some.Goals as goal
+use Rattle.jr_arrival.proofs.file_source.FileSourceMcuSource.take_some.Goals as goal
 
 pub returns-then-some-gt0-clause-walks : goal.returns-then-some-gt0-clause-walks
 returns-then-some-gt0-clause-walks g c =

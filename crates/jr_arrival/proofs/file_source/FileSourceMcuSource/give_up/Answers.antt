@@ -2,6 +2,7 @@ use Rattle.std.proofs.lemmas.List.{drop-append-le}
 use Rattle.std.proofs.Common.{◌≡◌, ◌<◌, ◌≤◌, ◌+◌, ◌⊎◌, inl, inr, ap, ◌∙◌, length, drop, sym, subst, refl, ℕ, Option, Some, None, arith}
 use Rattle.std.specs.Prelude.{IfSome, false}
 use Rattle.jr_cut.specs.Cut.{IsStop}
+use Rattle.jr_head.specs.Geometry.{blocks_of}
 use Rattle.jr_scan.specs.Run.{left_at}
 use Rattle.jr_scan.specs.declared.place.Place.{Place}
 use Rattle.jr_arrival.specs.declared.window.TheConstants.{MCU_BITS}
@@ -11,16 +12,24 @@ use Rattle.jr_arrival.specs.Meaning.{MayBe}
 use Rattle.jr_arrival.specs.Parts.{part_of}
 use Rattle.jr_arrival.proofs.Parts.{drop_part}
 use Rattle.jr_arrival.proofs.SourceSteps.{nowhere}
-use Rattle.jr_arrival.proofs.Standing.{goes_on, right_by}
+use Rattle.jr_arrival.proofs.Standing.{goes_on, none_left, right_by}
 use Rattle.jr_arrival.proofs.Steps.{stuck_true, window_left}
 use Rattle.jr_arrival.proofs.Waiting.{waits_within}
-use Rattle.jr_arrival.proofs.file_source.FileSource.give_up.Goals as goal
+use Rattle.jr_arrival.proofs.file_source.FileSourceMcuSource.give_up.Goals as goal
 
 pub is_stuck_at-requires-clause-bit : goal.is_stuck_at-requires-clause-bit
 is_stuck_at-requires-clause-bit c =
     let s = c.args.self.now in
     let inside : IsInside s.window (Some c.in-Some.place) = subst (IsInside s.window) c.in-Some.is c.requires.at.inside in
     inside.0
+
+pub returns-in_default-clause-steps : goal.returns-in_default-clause-steps
+returns-in_default-clause-steps c = nowhere c.args.head.now _ c.requires.at
+
+pub returns-in_default-clause-stuck : goal.returns-in_default-clause-stuck
+returns-in_default-clause-stuck c told =
+    let some : 0 < blocks_of c.args.head.now = omega (arith, c.order-some.ensures.some, c.order-some.ensures.count) in
+    none_left c.args.head.now c.args.self.now c.requires.at some c.in_default.is c.requires.some
 
 pub returns-clause-steps : goal.returns-clause-steps
 returns-clause-steps c =
@@ -77,3 +86,8 @@ returns-then-not-is_stuck_at-clause-waits c told =
       all = ap (λ (k : ℕ). drop k s.window.file.bytes.now) (sym e.spells.2) ∙ fill.1;
     } in
     waits_within h s is c.assert_invariant.ensures still (u.goes_on c.if-not-is_stuck_at.true) p c.in-Some.is inside.0 none (goes_on h s p is c.in-Some.is) short
+
+pub returns-clause-stuck : goal.returns-clause-stuck
+returns-clause-stuck c told =
+    let some : 0 < blocks_of c.args.head.now = omega (arith, c.order-some.ensures.some, c.order-some.ensures.count) in
+    none_left c.args.head.now _ (returns-clause-steps c).at some refl c.requires.some

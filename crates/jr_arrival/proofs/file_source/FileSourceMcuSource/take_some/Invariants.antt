@@ -1,7 +1,7 @@
 use Rattle.std.proofs.Common.{◌≡◌}
 use Rattle.jr_arrival.specs.FileSources.{source_of, to_read}
 use Rattle.jr_arrival.specs.Sources.{Walks}
-use Rattle.jr_arrival.proofs.file_source.FileSource.take_some.Given as goal
+use Rattle.jr_arrival.proofs.file_source.FileSourceMcuSource.take_some.Given as goal
 
 abbrev pub invariant-windows : goal.invariant-windows
 invariant-windows g l = record {
