@@ -1,4 +1,5 @@
 mod Rows
+mod Skipping
 pub mod NextSegments
 mod Verdicts
 pub mod FoundBytes

@@ -1,5 +1,7 @@
 //! Damaged intervals that share a line.
 
+ghost use Rattle.std.specs.Prelude.{◌≡◌};
+
 use jr_damage::{CodedSpan, DamagedInterval, Lines, McuRange};
 
 /// A damaged interval, or consecutive ones that have no bytes.
@@ -19,7 +21,9 @@ pub(crate) struct DamagedRun {
 
 impl DamagedRun {
     /// Returns the run of one interval.
-    pub(crate) fn of(interval: DamagedInterval, decodable_to: usize) -> DamagedRun {
+    pub(crate) fn of(interval: DamagedInterval, decodable_to: usize) -> DamagedRun
+        ensures { result.decodable_to ≡ decodable_to }
+    {
         DamagedRun {
             first: interval.number,
             last: interval.number,

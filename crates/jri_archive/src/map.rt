@@ -1,8 +1,9 @@
 //! The lines of a file's damaged and doubtful intervals.
 
-ghost use Rattle.std.specs.Prelude.{◌<◌};
+ghost use Rattle.std.specs.Prelude.{◌<◌, IfSome};
 ghost use Rattle.jr_scan.specs.ScanValue.{intervals_of};
 ghost use Rattle.jr_damage.specs.Coded.{IsSpelledAt};
+ghost use Rattle.jr_damage.specs.Fronts.{IsDecodableEnd};
 ghost use Rattle.jr_damage.specs.Verdicts.{IsFileScan};
 
 use crate::answers::LineForm;
@@ -126,9 +127,10 @@ pub(crate) fn write_breaks<O: Write>(
 fn damaged_run(file: &[u8], span: CodedSpan, interval: IntervalRef<'_>) -> Option<DamagedRun>
     requires there { interval.number < intervals_of interval.head }
     requires spelled { IsSpelledAt file.now span interval.bytes }
+    ensures { IfSome result (λ run. IsDecodableEnd interval.entry file.now span run.decodable_to) }
 {
     let damaged = damaged_interval(interval.fork(), span)?;
-    let decodable_to = decodable_end(file, span, interval);
+    let decodable_to = decodable_end(file, span, interval, damaged.decodable);
     Some(DamagedRun::of(damaged, decodable_to))
 }
 

@@ -1,24 +1,45 @@
-use Rattle.std.proofs.Common.{◌≡◌, ◌/◌, ◌*◌, ◌≤◌, ℕ, length, ap, sym, subst, arith, rules}
-use Rattle.jr_scan.specs.declared.place.Place.{Place}
-use Rattle.jr_scan.specs.Run.{RunOf}
-use Rattle.jr_scan.proofs.McuReaders.{longest_read}
-use Rattle.jr_damage.specs.Fronts.{FrontTo}
-use Rattle.jr_damage.proofs.Doubts.{front_to}
+use Rattle.std.proofs.Common.{◌≡◌, ◌+◌, ◌/◌, ◌*◌, ◌≤◌, ℕ, Some, length, sym, ap, subst, arith, rules}
+use Rattle.jr_scan.specs.IntervalValue.{IntervalValue}
+use Rattle.jr_scan.specs.Run.{start_of_interval}
+use Rattle.jr_piece.specs.Cursors.{IsPlaceAfter, TakesMcus}
+use Rattle.jr_piece.specs.declared.cursor.Cursor.{Cursor}
+use Rattle.jr_piece.proofs.StripRuns.{at_start}
+use Rattle.jr_damage.proofs.Skipping.{all_taken, cut_to, front_there, has_place, longest_there}
 use Rattle.jr_damage.proofs.decodable.decodable_end.Goals as goal
 
+pub take-whole-requires-clause-at : goal.take-whole-requires-clause-at
+take-whole-requires-clause-at c = subst (λ (k : Cursor). IsPlaceAfter c.of-front.result k.mcu k.place) (sym c.at_start-cursor.ensures) (at_start c.of-front.result)
+
+pub returns-in_default : goal.returns-in_default
+returns-in_default c = λ longest.
+    let e = c.take-whole.ensures in
+    let new = c.take-whole.new.self in
+    let own : c.of-front.result ≡ cut_to c.args.interval c.args.mcus = search (rules, c.of-front.ensures, c.number-number.ensures, c.head.ensures.value, c.bytes.ensures.bytes) in
+    let at = subst (λ (v : IntervalValue). IsPlaceAfter v new.mcu new.place) own e.at in
+    absurd (has_place c.args.interval c.args.mcus longest new.mcu new.place at c.in_default.is)
+
 pub returns : goal.returns
-returns c =
+returns c = λ longest.
     let i = c.args.interval in
-    let r = c.pass_all-reader.result in
-    let p = c.pass_all-reader.ensures in
-    let bit : r.place.bit ≡ c.place-bit.result.bit = ap (λ (x : Place). x.bit) (sym c.place-bit.ensures.value) in
-    let within : c.place-bit.result.bit ≤ 8 * length i.bytes = subst (λ (o : RunOf). c.place-bit.result.bit ≤ 8 * length o.interval.bytes) p.run c.place-bit.ensures.within in
-    let few : c.place-bit.result.bit / 8 ≤ length i.bytes = omega (arith, within) in
+    let m = c.args.mcus in
+    let e = c.take-whole.ensures in
+    let new = c.take-whole.new.self in
+    let n = c.take-whole.result in
+    let own : c.of-front.result ≡ cut_to i m = search (rules, c.of-front.ensures, c.number-number.ensures, c.head.ensures.value, c.bytes.ensures.bytes) in
+    let from : c.at_start-cursor.result.place ≡ Some start_of_interval = ap (λ (k : Cursor). k.place) c.at_start-cursor.ensures in
+    let zero : c.at_start-cursor.result.mcu ≡ 0 = ap (λ (k : Cursor). k.mcu) c.at_start-cursor.ensures in
+    let t = e.some start_of_interval from in
+    let first = subst (λ (k : ℕ). TakesMcus c.of-front.result k start_of_interval m n t.0 new.place) zero t.1 in
+    let taken : TakesMcus (cut_to i m) 0 start_of_interval m n t.0 new.place = subst (λ (v : IntervalValue). TakesMcus v 0 start_of_interval m n t.0 new.place) own first in
+    let all : n ≡ m = all_taken i m longest start_of_interval n t.0 new.place taken e.few in
+    let mcu : new.mcu ≡ m = omega (arith, e.mcu, zero, all) in
+    let next = (subst (λ (v : IntervalValue). IsPlaceAfter v new.mcu new.place) own e.at).next c.in-Some.place c.in-Some.is in
+    let few : c.in-Some.place.bit / 8 ≤ length i.bytes = omega (arith, next.1.can.0) in
     record {
-      mcus = r.mcu;
-      blocks = p.read.0;
-      bit = c.place-bit.result.bit;
-      longest = longest_read r i p.read.0 c.place-bit.ensures.lawful ((p.run, p.read.1), p.ended);
-      front = subst (λ (b : ℕ). FrontTo i r.mcu p.read.0 b) bit (front_to r i p.read.0 (p.run, p.read.1));
+      mcus = m;
+      blocks = next.0;
+      bit = c.in-Some.place.bit;
+      longest = longest_there i m longest new.mcu next.0 c.in-Some.place next.1 mcu;
+      front = front_there i m longest new.mcu next.0 c.in-Some.place next.1 mcu;
       begins = search (rules, c.offset_of.ensures, c.requires.raw, few);
     }
