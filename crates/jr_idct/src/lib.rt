@@ -2,7 +2,8 @@
 //! (ITU-T T.81, A.3.3, A.3.4 and A.3.6).
 //!
 //! T.81 leaves the arithmetic to the decoder. This is the IJG's slow-but-accurate integer method: the
-//! constants have 13 bits after the point, and each of the two passes rounds once.
+//! constants have 13 bits after the point, and each of the two passes rounds once. The laws `values_are_near` and
+//! `samples_are_faithful` say how near it is to the ideal transform of T.81, with real cosines.
 #![tactic(auto)]
 
 mod block;
@@ -21,5 +22,8 @@ mod wide;
 
 pub use block::{transform, transform_one, transform_two};
 pub use butterfly::{even, odd};
-pub use laws::{floors, tables_agree, zeros_are_grey};
+pub use laws::{
+    floors, places_agree, roots_agree, samples_are_faithful, samples_are_near, samples_are_rounded,
+    tables_agree, values_are_near, zeros_are_grey,
+};
 pub use matrix::matrix_transform;

@@ -2,7 +2,8 @@ use Rattle.std.proofs.Common.{arith, refl, rules, ap, ◌+◌, ◌*◌, ◌^◌,
 use Rattle.std.proofs.Math.IntN.{◌*ℤ◌}
 use Rattle.std.proofs.lemmas.Int.{ints, to_z-of_z}
 use Rattle.jr_idct.specs.Matrix.{at, sum_below}
-use Rattle.jr_idct.proofs.Plain.{term_is, sum_more, sum_larger, sum_of_eight}
+use Rattle.jr_idct.proofs.Plain.{term_is, sum_more, sum_larger}
+use Rattle.jr_idct.proofs.Sums.{row_is_sum}
 use Rattle.jr_idct.proofs.Whole.{product_within}
 use Rattle.jr_idct.proofs.matrix.plain_sum.Goals as goal
 
@@ -45,4 +46,4 @@ loop-k-preserved c =
 pub returns : goal.returns
 returns c =
     let e : c.loop-k.k ≡ 8 = omega arith in
-    rw (← sum_of_eight c.args.i (λ j. at c.args.table.now (8 * j + c.args.c))) (rw e at c.loop-k.invariant.0)
+    rw (← row_is_sum c.args.i (λ j. at c.args.table.now (8 * j + c.args.c))) (rw e at c.loop-k.invariant.0)
