@@ -9,6 +9,7 @@ pub mod Passed
 pub mod Places
 pub mod Factors
 pub mod Held
+pub mod Nearness
 pub mod PixelLaws
 pub mod Blocks
 pub mod Along

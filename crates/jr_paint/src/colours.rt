@@ -2,7 +2,7 @@
 
 ghost use Rattle.std.specs.Prelude.{◌≡◌, ℕ, ◌^◌, pos, ◌+ℤ◌, ℤ};
 ghost use Rattle.jr_segments.specs.declared.kind.Kind.TheVariants.{Ycc};
-ghost use Rattle.jr_paint.specs.Colours.{colour_of, floor_div, byte_of, off, shade, IsWithin};
+ghost use Rattle.jr_paint.specs.Colours.{colour_of, floor_div, byte_of, off, shade, IsWithin, ColoursAreNear};
 
 use jr_head::Kind;
 
@@ -61,3 +61,8 @@ pub fn colour(kind: Kind, a: u8, b: u8, c: u8) -> [u8; 3]
         Kind::Ycc => mixed(a, b, c),
     }
 }
+
+/// States how near each colour is to that of JFIF's formulas.
+pub fn colours_are_near()
+    ensures { ColoursAreNear }
+{}

@@ -14,7 +14,7 @@ mod stores;
 mod unit_lines;
 mod upsampling;
 
-pub use colours::colour;
+pub use colours::{colour, colours_are_near};
 pub use geometry::{Spot, exactly_one_place, place};
 pub use header::{HEADER_ROOM, put_header};
 pub use jr_base::{Tally, WriteFault};
