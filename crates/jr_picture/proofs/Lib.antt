@@ -1,2 +1,3 @@
 pub mod DecodedPictures
+pub mod Exactness
 pub mod Pictures

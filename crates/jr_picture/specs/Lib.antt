@@ -1,6 +1,7 @@
 pub mod DecodedScan
 pub mod Samples
 pub mod Headline
+pub mod Exactness
 pub mod Status
 pub mod Writing
 pub mod FirstIntervalsValue

@@ -1,5 +1,5 @@
 -- The samples of a decoded scan.
-use Rattle.std.specs.Prelude.{ℕ, ◌+◌, ◌*◌, ◌/◌, ◌%◌, List, slice_index, slice_get, Option, Some, None}
+use Rattle.std.specs.Prelude.{ℕ, ◌+◌, ◌*◌, List, slice_index, slice_get, Option, Some, None}
 use Rattle.jr_segments.specs.declared.kind.Kind.{Kind}
 use Rattle.jr_head.specs.Geometry.{blocks_of}
 use Rattle.jr_paint.specs.Geometry.{spot_of, place_in}

@@ -17,7 +17,7 @@ pub use blank::blank_sample;
 pub use counts::Counts;
 pub use first_intervals::FirstIntervals;
 pub use gate::{Gate, OpenGate};
-pub use laws::one_picture;
+pub use laws::{one_picture, sound_samples_are_faithful};
 pub use mark::Mark;
 pub use picture_error::PictureError;
 pub use report::{Fault, Report};
