@@ -1,5 +1,7 @@
 -- Worked examples of the definitions that the headline cites: figures and tables of T.81 and JFIF, computed by the definitions.
-use Rattle.std.proofs.Common.{◌≡◌, ℕ, ◌+◌, ◌*◌, ◌<◌, Bool, true, false, List, [], ◌∷◌, ◌++◌, replicate, ℤ, pos, neg_ℤ, refl, arith, get_or, zero, suc, ap, inr}
+use Rattle.std.proofs.Common.{◌≡◌, ℕ, ◌+◌, ◌*◌, ◌^◌, ◌<◌, ◌≤◌, Bool, true, false, List, [], ◌∷◌, ◌++◌, replicate, ℤ, pos, neg_ℤ, refl, arith, get_or, zero, suc, ap, inr, lit≤}
+use Rattle.std.specs.Prelude.{◌==◌, if◌then◌else◌}
+use lib.Ieee.{root_below, size}
 use Rattle.jr_segments.specs.declared.kind.Kind.TheVariants.{Grey, Ycc}
 use Rattle.jr_base.specs.Zigzag.{natural_indexes, zigzag_place}
 use Rattle.jr_code.specs.Bits.{bits, bits_of, number, value}
@@ -11,11 +13,12 @@ use Rattle.jr_head.specs.declared.component.Component.{Component}
 use Rattle.jr_head.specs.HeadValue.{HeadValue}
 use Rattle.jr_head.specs.Geometry.{order_of, mcus_across, mcus_down}
 use Rattle.jr_head.specs.Intervals.{intervals_of, mcus_in}
-use Rattle.jr_idct.specs.Matrix.{pass}
+use Rattle.jr_idct.specs.Ideal.{cosine, cosine_of_half, sine_of_half, energy, ideal, IsFaithful}
+use Rattle.jr_idct.specs.Matrix.{floor_div, pass, sum_below}
 use Rattle.jr_idct.specs.Transform.{samples}
 use Rattle.jr_mcu.specs.Block.{BlockAt, CodedAt}
 use Rattle.jr_mcu.specs.Mcus.{IsBlock, no_predictions}
-use Rattle.jr_paint.specs.Colours.{colour_of}
+use Rattle.jr_paint.specs.Colours.{colour_of, exact_red, exact_green, exact_blue}
 use Rattle.jr_paint.specs.Geometry.{samples_across, spot_of}
 use Rattle.jr_paint.specs.Text.{lines_of, pixels_of, pixel_of}
 use Rattle.jr_scan.specs.IntervalValue.{IntervalValue}
@@ -98,6 +101,34 @@ clamped_ramp : samples (pos 4 ∷ pos 1023 ∷ replicate 62 (pos 0)) (replicate 
 unfolding samples pass zigzag_place
 clamped_ramp = refl
 
+-- Ideal values (A.3.3) to twelve decimal places, as the formula gives them with cosines of forty: of coefficients in the first
+-- row and in the fourth, and of the DC coefficient alone. The DC coefficient has no energy.
+
+abbrev only : ℕ → ℤ → ℕ → ℤ
+only k z j = if j == k then z else pos 0
+
+ideal_in_the_first_row : floor_div (ideal (10 ^ 20) (only 1 (pos 1000)) 0 0) (8 * 10 ^ 8) ≡ pos 173379980665268
+unfolding ideal cosine cosine_of_half sine_of_half sum_below root_below size
+ideal_in_the_first_row = refl
+
+ideal_in_the_fourth_row : floor_div (ideal (10 ^ 20) (only 26 (neg_ℤ (pos 500))) 1 6) (8 * 10 ^ 8) ≡ pos 9332229256292
+unfolding ideal cosine cosine_of_half sine_of_half sum_below root_below size
+ideal_in_the_fourth_row = refl
+
+ideal_of_a_flat_block : floor_div (ideal (10 ^ 20) (only 0 (pos 64)) 3 5) (8 * 10 ^ 8) ≡ pos (8 * 10 ^ 12)
+unfolding ideal cosine cosine_of_half sine_of_half sum_below root_below size
+ideal_of_a_flat_block = refl
+
+energy_of_2_to_64 : energy (λ k. pos (suc k)) ≡ pos 89439
+unfolding energy sum_below
+energy_of_2_to_64 = refl
+
+-- A value of a half is rounded to 0 or to 1, and to no other number.
+
+not_faithful : IsFaithful 130 (only 0 (pos 4)) 0 0 → ⊥
+unfolding ideal cosine cosine_of_half sine_of_half sum_below root_below size
+not_faithful f = let above : 130 ≤ 129 = (f (10 ^ 6) (lit≤ tt)).1 in absurd (omega (arith, above))
+
 -- Three components, the first with 2 by 2 data units in an MCU (A.2.3), 20 by 20 pixels, and a restart interval of three MCUs.
 
 abbrev component_of : ℕ → Component
@@ -137,6 +168,9 @@ middle_is_grey = refl
 
 red : colour_of Ycc 76 85 255 ≡ 254 ∷ 0 ∷ 0 ∷ []
 red = refl
+
+exact_colours_of_red : exact_red 76 85 255 ∷ exact_green 76 85 255 ∷ exact_blue 76 85 255 ∷ [] ≡ 25405400 ∷ 10224 ∷ 0 ∷ []
+exact_colours_of_red = refl
 
 -- The lines of an image of two grey pixels over two others, from the top and from the left.
 
