@@ -13,11 +13,11 @@ use Rattle.jr_idct.proofs.Squares.{adds, adds_first, sum-pos, adds-times, cauchy
 use Rattle.jr_idct.proofs.Sums.{same_sums, sum_at_most, IsAtMost}
 
 -- the first k numbers pass
-abbrev pass_below : (ℕ → Bool) → ℕ → Bool
+abbrev pub pass_below : (ℕ → Bool) → ℕ → Bool
 pass_below p zero = true
 pass_below p (suc k) = p k && pass_below p k
 
-pass_at : (p : ℕ → Bool) (n : ℕ) → pass_below p n ≡ true → (k : ℕ) → k < n → p k ≡ true
+pub pass_at : (p : ℕ → Bool) (n : ℕ) → pass_below p n ≡ true → (k : ℕ) → k < n → p k ≡ true
 pass_at p zero e k h = absurd (omega (arith, h))
 pass_at p (suc n) e k h =
     let both = and_parts (p n) (pass_below p n) e in
@@ -74,7 +74,7 @@ entry n r c u v large =
     entry_from n (spread r v c u) (weight r v *ℤ weight c u) (cosine n (angle r v + angle c u)) (cosine n (angle r v + 31 * angle c u)) (at lows i) (at lows j) (at highs i) (at highs j) large
     (cosine_near n (angle r v + angle c u)) (cosine_near n (angle r v + 31 * angle c u)) (spread_above (most r v c u) (least r v c u)) (spread_below (most r v c u) (least r v c u))
 
-square_is : (z : ℤ) → z *ℤ z ≡ pos (unsigned_abs z * unsigned_abs z)
+pub square_is : (z : ℤ) → z *ℤ z ≡ pos (unsigned_abs z * unsigned_abs z)
 square_is (pos m) = omega (arith, ints)
 square_is (negsuc m) = omega (arith, ints)
 
@@ -93,20 +93,20 @@ module _ (n : ℕ) (x : ℕ → ℤ) (r c : ℕ) where
   product : ℕ → ℕ → ℕ
   product u v = size_at x (8 * v + u) * spread r v c u
 
-  squares : ℕ
+  pub squares : ℕ
   squares = adds 8 (λ u. adds 8 (λ v. size_at x (8 * v + u) * size_at x (8 * v + u)))
 
-  energy_is : energy x ≡ pos squares
+  pub energy_is : energy x ≡ pos squares
   unfolding energy squares
   energy_is =
       same_sums 63 _ (λ k. pos (size_at x (suc k) * size_at x (suc k))) (λ k _. square_is (x (suc k)))
       ∙ sum-pos 63 (λ k. size_at x (suc k) * size_at x (suc k))
       ∙ ap pos (let f = adds_first 63 (λ k. size_at x k * size_at x k) in let b = by_columns (λ k. size_at x k * size_at x k) in omega (arith, f, b))
 
-  products : ℕ
+  pub products : ℕ
   products = adds 8 (λ u. adds 8 (product u))
 
-  by_cauchy : AreSmall → (b : ℕ) → squares ≤ b * b → r < 8 → c < 8 → products ≤ b * 59652
+  pub by_cauchy : AreSmall → (b : ℕ) → squares ≤ b * b → r < 8 → c < 8 → products ≤ b * 59652
   unfolding squares products product
   by_cauchy all_small b few hr hc =
       let gs : ℕ = adds 8 (λ u. adds 8 (λ v. spread r v c u * spread r v c u)) in
@@ -132,7 +132,7 @@ module _ (n : ℕ) (x : ℕ → ℤ) (r c : ℕ) where
       ∙ sum-pos 8 (λ u. n * adds 8 (product u))
       ∙ ap pos (adds-times n 8 (λ u. adds 8 (product u)))
 
-  weights_by_energy : 10 ^ 6 ≤ n → r < 8 → c < 8 → IsAtMost (pos (n * products)) (pos n *ℤ row_sum c (column_sum x r) -ℤ pos 67108864 *ℤ ideal n x r c)
+  pub weights_by_energy : 10 ^ 6 ≤ n → r < 8 → c < 8 → IsAtMost (pos (n * products)) (pos n *ℤ row_sum c (column_sum x r) -ℤ pos 67108864 *ℤ ideal n x r c)
   unfolding error
   weights_by_energy large hr hc =
       rw (whole_bound, whole_error n x r c) at (sum_at_most 8 (λ u. sum_below 8 (error n x r c u)) (λ u. sum_below 8 (λ v. pos (spread r v c u * n) *ℤ pos (size_at x (8 * v + u))))

@@ -32,7 +32,7 @@ adds-times n (suc k) f = let e = adds-times n k f in omega (arith, e)
 from_order : (p d : ℕ) → 2 * (p * (p + d)) ≤ p * p + (p + d) * (p + d)
 from_order p d = omega arith
 
-two_products : (p q : ℕ) → 2 * (p * q) ≤ p * p + q * q
+pub two_products : (p q : ℕ) → 2 * (p * q) ≤ p * p + q * q
 two_products p q = elim (cases_lt p q) [
   | inl l ↦ let e : p + (q - p) ≡ q = omega (arith, l) in rw e at (from_order p (q - p))
   | inr l ↦ let e : q + (p - q) ≡ p = omega (arith, l) in let s = rw e at (from_order q (p - q)) in omega (arith, s)
