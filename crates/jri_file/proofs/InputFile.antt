@@ -1,5 +1,5 @@
 -- What is read of an input is its file.
-use Rattle.std.proofs.Common.{◌≡◌, inl, inr, ℕ, ◌+◌, ◌-◌, ◌<◌, ◌≤◌, List, [], ◌++◌, length, take, Option, Some, None, sym, ap, Result, Ok, Err, IfOk, IfErr, subst, ◌∙◌, append_assoc, append-nil, arith}
+use Rattle.std.proofs.Common.{◌≡◌, ◌≢◌, ◌⊎◌, refl, inl, inr, ℕ, ◌+◌, ◌-◌, ◌<◌, ◌≤◌, List, [], ◌++◌, length, take, Option, Some, None, sym, ap, Result, Ok, Err, IfOk, IfErr, subst, ◌∙◌, append_assoc, append-nil, arith}
 use Rattle.std.specs.Io.KnownBytes.{Consumes, IsAtEnd, prepend_known}
 use Rattle.std.proofs.lemmas.Bool.{cases_lt}
 use Rattle.std.proofs.lemmas.List.{take-append-le, take_all}
@@ -9,7 +9,9 @@ use Rattle.jr_head.specs.HeadValue.{HeadValue}
 use Rattle.jr_head.specs.Heads.{HeadOf, RefusalOf}
 use Rattle.jr_picture.specs.declared.report.Fault.{Fault}
 use Rattle.jr_picture.specs.declared.report.Fault.TheVariants as fault
-use Rattle.jri_file.specs.Files.{BeginsWithHead, IsFaultOf, IsFaultOfInput, OfFile}
+use Rattle.jr_segments.specs.declared.refusal.Refusal.{Refusal}
+use Rattle.jr_segments.specs.declared.refusal.Refusal.TheVariants as refusal
+use Rattle.jri_file.specs.Files.{BeginsWithFault, BeginsWithHead, IsFaultOf, IsFaultOfInput, IsHeaderFaultOfInput, OfFile, fault_by}
 
 -- what was read, and then more
 pub read_on : (left then behind : Option (List ℕ)) (first file : List ℕ) → Consumes left then first → Consumes (prepend_known first then) behind file → Consumes left behind file
@@ -66,6 +68,53 @@ begins_with (Some xs) (Some ys) front h p is =
     let over = MAX_FILE_BYTES + 1 - length front in
     let count : MAX_FILE_BYTES + 1 ≡ length front + over = omega (arith, is.small) in
     record { front = front; rest = take over ys; begins = ap (λ (l : List ℕ). take (MAX_FILE_BYTES + 1) l) p ∙ ap (λ n. take n (front ++ ys)) count ∙ take-append-add front ys over; is = is }
+
+-- nothing is read yet
+pub unread : (left : Option (List ℕ)) → Consumes left left []
+unread None = tt
+unread (Some xs) = refl
+
+-- the fault of a prefix of the input's file, which more bytes do not change
+pub fault_of_front : (left then : Option (List ℕ)) (front : List ℕ) (f : Refusal) → Consumes left then front → length front ≤ MAX_FILE_BYTES + 1 → 2 ≤ length front → f ≢ refusal.EndsEarly → RefusalOf front f
+    → OfFile left (λ file. RefusalOf file f ⊎ BeginsWithFault file f)
+fault_of_front None then front f p few some later is = tt
+fault_of_front (Some xs) None front f p few some later is = absurd p
+fault_of_front (Some xs) (Some ys) front f p few some later is =
+    let over = MAX_FILE_BYTES + 1 - length front in
+    let count : MAX_FILE_BYTES + 1 ≡ length front + over = omega (arith, few) in
+    inr (record { front = front; rest = take over ys; begins = ap (λ (l : List ℕ). take (MAX_FILE_BYTES + 1) l) p ∙ ap (λ n. take n (front ++ ys)) count ∙ take-append-add front ys over; is = is; later = later; start = some })
+
+-- the same of all that is read
+pub fault_of_all : (left : Option (List ℕ)) (f : Fault) → IsFaultOfInput left f → IsHeaderFaultOfInput left f
+fault_of_all left fault.Read is = tt
+fault_of_all None (fault.Refused r) is = tt
+fault_of_all (Some xs) (fault.Refused r) is = inl is
+fault_of_all left fault.Memory is = tt
+fault_of_all left fault.Write is = absurd is
+fault_of_all left fault.NoFile is = absurd is
+
+-- the fault by the refusal of a prefix
+module _ (left then : Option (List ℕ)) (front : List ℕ) (p : Consumes left then front) (few : length front ≤ MAX_FILE_BYTES + 1) (some : 2 ≤ length front) where
+  pub fault_by_front : (r : Refusal) → r ≢ refusal.EndsEarly → (r ≢ refusal.Memory → RefusalOf front r) → IsHeaderFaultOfInput left (fault_by r)
+  fault_by_front refusal.NotJpeg later of = fault_of_front left then front refusal.NotJpeg p few some later (of (λ e. cc))
+  fault_by_front refusal.EndsEarly later of = fault_of_front left then front refusal.EndsEarly p few some later (of (λ e. cc))
+  fault_by_front (refusal.ExpectedMarker at) later of = fault_of_front left then front (refusal.ExpectedMarker at) p few some later (of (λ e. cc))
+  fault_by_front (refusal.UnexpectedMarker code) later of = fault_of_front left then front (refusal.UnexpectedMarker code) p few some later (of (λ e. cc))
+  fault_by_front (refusal.NotBaseline code) later of = fault_of_front left then front (refusal.NotBaseline code) p few some later (of (λ e. cc))
+  fault_by_front (refusal.BadLength code) later of = fault_of_front left then front (refusal.BadLength code) p few some later (of (λ e. cc))
+  fault_by_front refusal.BadQuantTable later of = fault_of_front left then front refusal.BadQuantTable p few some later (of (λ e. cc))
+  fault_by_front refusal.BadCodeTable later of = fault_of_front left then front refusal.BadCodeTable p few some later (of (λ e. cc))
+  fault_by_front refusal.SecondFrame later of = fault_of_front left then front refusal.SecondFrame p few some later (of (λ e. cc))
+  fault_by_front refusal.BadPrecision later of = fault_of_front left then front refusal.BadPrecision p few some later (of (λ e. cc))
+  fault_by_front refusal.BadSize later of = fault_of_front left then front refusal.BadSize p few some later (of (λ e. cc))
+  fault_by_front refusal.TooManyPixels later of = fault_of_front left then front refusal.TooManyPixels p few some later (of (λ e. cc))
+  fault_by_front refusal.BadComponents later of = fault_of_front left then front refusal.BadComponents p few some later (of (λ e. cc))
+  fault_by_front refusal.BadSampling later of = fault_of_front left then front refusal.BadSampling p few some later (of (λ e. cc))
+  fault_by_front refusal.BadScanHeader later of = fault_of_front left then front refusal.BadScanHeader p few some later (of (λ e. cc))
+  fault_by_front refusal.NoFrame later of = fault_of_front left then front refusal.NoFrame p few some later (of (λ e. cc))
+  fault_by_front refusal.MissingTable later of = fault_of_front left then front refusal.MissingTable p few some later (of (λ e. cc))
+  fault_by_front refusal.TooLong later of = fault_of_front left then front refusal.TooLong p few some later (of (λ e. cc))
+  fault_by_front refusal.Memory later of = tt
 
 -- the first bytes, and those that a reader returned
 pub first_and : (then behind : Option (List ℕ)) (first given : List ℕ) → Consumes then behind given → Consumes (prepend_known first then) behind (first ++ given)

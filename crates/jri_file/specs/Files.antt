@@ -1,5 +1,5 @@
 -- A file's scan and its image, and the fault of a file that has none.
-use Rattle.std.specs.Prelude.{◌≡◌, ℕ, ◌+◌, List, ◌++◌, length, take, Option}
+use Rattle.std.specs.Prelude.{◌≡◌, ◌≢◌, ◌≤◌, ◌⊎◌, ℕ, ◌+◌, List, ◌++◌, length, take, Option}
 use Rattle.std.specs.Option.{IfSome}
 use Rattle.jr_segments.specs.declared.refusal.Refusal.{Refusal}
 use Rattle.jr_segments.specs.declared.refusal.Refusal.TheVariants as refusal
@@ -25,6 +25,15 @@ pub record BeginsWithHead (file : List ℕ) (head : HeadValue) : Type 0 where
   pub rest : List ℕ
   pub begins : file ≡ front ++ rest
   pub is : HeadOf front head
+
+-- a prefix of the file fails a test that more bytes do not change: they are not those that `EndsEarly` misses, nor the first two
+pub record BeginsWithFault (file : List ℕ) (f : Refusal) : Type 0 where
+  pub front : List ℕ
+  pub rest : List ℕ
+  pub begins : file ≡ front ++ rest
+  pub is : RefusalOf front f
+  pub later : f ≢ refusal.EndsEarly
+  pub start : 2 ≤ length front
 
 -- a refused file, by its refusal; if memory ran out nothing is said about the file
 abbrev pub fault_by : Refusal → Fault
@@ -94,3 +103,11 @@ IsFaultOfInput remaining (fault.Refused f) = OfFile remaining (λ file. RefusalO
 IsFaultOfInput remaining fault.Memory = Unit {0}
 IsFaultOfInput remaining fault.Write = ⊥
 IsFaultOfInput remaining fault.NoFile = ⊥
+
+-- the fault of what a reader has left, by its header: that of all of it, or of a prefix
+abbrev pub IsHeaderFaultOfInput : Option (List ℕ) → Fault → Type 0
+IsHeaderFaultOfInput remaining fault.Read = Unit {0}
+IsHeaderFaultOfInput remaining (fault.Refused f) = OfFile remaining (λ file. RefusalOf file f ⊎ BeginsWithFault file f)
+IsHeaderFaultOfInput remaining fault.Memory = Unit {0}
+IsHeaderFaultOfInput remaining fault.Write = ⊥
+IsHeaderFaultOfInput remaining fault.NoFile = ⊥

@@ -1,36 +1,52 @@
-use Rattle.std.proofs.Common.{List, ℕ, subst, arith}
-use Rattle.std.specs.Io.KnownBytes.{Consumes, prepend_known}
-use Rattle.jr_head.specs.Heads.{HeadOf}
-use Rattle.jri_file.specs.Files.{IsFaultOf}
-use Rattle.jri_file.proofs.InputFile.{begins_with, fault_of_file, if_err, if_ok, read_first, read_on}
+use Rattle.std.proofs.Common.{rules, List, ℕ, ◌≢◌, ◌+◌, ◌<◌, ◌≤◌, length, subst, sym, arith}
+use Rattle.std.specs.Io.KnownBytes.{Consumes, IsAtEnd}
+use Rattle.jr_base.specs.declared.limits.TheConstants.{MAX_FILE_BYTES}
+use Rattle.jr_segments.specs.declared.refusal.Refusal.TheVariants.{EndsEarly, Memory}
+use Rattle.jr_head.specs.Heads.{HeadOf, RefusalOf}
+use Rattle.jri_file.specs.Files.{IsFaultOf, IsHeaderFaultOfInput}
+use Rattle.jri_file.proofs.InputFile.{begins_with, fault_by_front, fault_of_all, fault_of_file, if_err, if_ok, read_on}
 use Rattle.jri_file.proofs.heading.read_file_head.Goals as goal
+use Rattle.jri_file.proofs.heading.read_file_head.Goals.{then-len-enough-via-then-len-enough, then-len-enough-via-else-len-enough+then-enough-eq-TOO_MANY}
+
+pub returns-then-len-enough-clause-head : goal.returns-then-len-enough-clause-head
+returns-then-len-enough-clause-head g c =
+    let left = g.R.Read.remaining c.args.input.now.inner in
+    let behind = g.R.Read.remaining c.read_more.new.input.inner in
+    let file = c.read_more.new.bytes.items in
+    let read : Consumes left behind file = read_on left (g.R.Read.remaining c.parts.input.inner) behind c.parts.bytes.items file c.parts.invariant.read c.in_ok-read_more.ensures.read in
+    if_ok c.head_of_bytes.result (λ head is. begins_with left behind file head read (subst (λ (l : List ℕ). HeadOf l head) c.deref.ensures.value is)) c.head_of_bytes.ensures.head
+
+pub returns-then-len-enough-clause-fault : goal.returns-then-len-enough-clause-fault
+returns-then-len-enough-clause-fault g c =
+    let left = g.R.Read.remaining c.args.input.now.inner in
+    let behind = g.R.Read.remaining c.read_more.new.input.inner in
+    let file = c.read_more.new.bytes.items in
+    let read : Consumes left behind file = read_on left (g.R.Read.remaining c.parts.input.inner) behind c.parts.bytes.items file c.parts.invariant.read c.in_ok-read_more.ensures.read in
+    let end : length file < MAX_FILE_BYTES + 1 → IsAtEnd behind = elim c.then-len-enough.branch [
+      | then-len-enough-via-then-len-enough w ↦ λ _. c.in_ok-read_more.ensures.end (omega (arith, w.if-len-enough.true, c.len.ensures))
+      | then-len-enough-via-else-len-enough+then-enough-eq-TOO_MANY w ↦ λ less. c.in_ok-read_more.ensures.end (omega (arith, less, w.if-enough-eq-TOO_MANY.true))
+    ] in
+    if_err c.head_of_bytes.result
+    (λ f is. fault_of_all left f (fault_of_file left behind file f read (omega (arith, c.in_ok-read_more.ensures.few)) end (subst (λ (l : List ℕ). IsFaultOf l f) c.deref.ensures.value is)))
+    c.head_of_bytes.ensures.fault
 
 pub returns-in-Ok-clause-head : goal.returns-in-Ok-clause-head
 returns-in-Ok-clause-head g c =
     let left = g.R.Read.remaining c.args.input.now.inner in
-    let then = g.R.Read.remaining c.read_more.new.input.inner in
-    let first = c.read_more.new.bytes.items in
-    let begun : Consumes left then first = read_first left then first (subst (λ (l : List ℕ). Consumes (prepend_known l left) then first) c.new-bytes.ensures.items c.in_ok-read_more.ensures.read) in
-    begins_with left then first c.in-Ok.head begun (subst (λ (l : List ℕ). HeadOf l c.in-Ok.head) c.deref.ensures.value c.in-Ok.ensures.head)
+    let behind = g.R.Read.remaining c.read_more.new.input.inner in
+    let file = c.read_more.new.bytes.items in
+    let read : Consumes left behind file = read_on left (g.R.Read.remaining c.parts.input.inner) behind c.parts.bytes.items file c.parts.invariant.read c.in_ok-read_more.ensures.read in
+    begins_with left behind file c.in-Ok.head read (subst (λ (l : List ℕ). HeadOf l c.in-Ok.head) c.deref-in-parts.ensures.value c.in-Ok.ensures.head)
 
-pub returns-clause-head : goal.returns-clause-head
-returns-clause-head g c =
+pub returns-in-Err : goal.returns-in-Err
+returns-in-Err g c =
     let left = g.R.Read.remaining c.args.input.now.inner in
-    let then = g.R.Read.remaining c.read_more.new.input.inner in
-    let behind = g.R.Read.remaining c.read_more-2.new.input.inner in
-    let first = c.read_more.new.bytes.items in
-    let file = c.read_more-2.new.bytes.items in
-    let begun : Consumes left then first = read_first left then first (subst (λ (l : List ℕ). Consumes (prepend_known l left) then first) c.new-bytes.ensures.items c.in_ok-read_more.ensures.read) in
-    let read : Consumes left behind file = read_on left then behind first file begun c.in_ok-read_more-2.ensures.read in
-    if_ok c.head_of_bytes.result (λ head is. begins_with left behind file head read (subst (λ (l : List ℕ). HeadOf l head) c.deref-2.ensures.value is)) c.head_of_bytes.ensures.head
-
-pub returns-clause-fault : goal.returns-clause-fault
-returns-clause-fault g c =
-    let left = g.R.Read.remaining c.args.input.now.inner in
-    let then = g.R.Read.remaining c.read_more.new.input.inner in
-    let behind = g.R.Read.remaining c.read_more-2.new.input.inner in
-    let first = c.read_more.new.bytes.items in
-    let file = c.read_more-2.new.bytes.items in
-    let begun : Consumes left then first = read_first left then first (subst (λ (l : List ℕ). Consumes (prepend_known l left) then first) c.new-bytes.ensures.items c.in_ok-read_more.ensures.read) in
-    let read : Consumes left behind file = read_on left then behind first file begun c.in_ok-read_more-2.ensures.read in
-    if_err c.head_of_bytes.result (λ f is. fault_of_file left behind file f read (omega (arith, c.in_ok-read_more-2.ensures.few)) (λ less. c.in_ok-read_more-2.ensures.end (omega (arith, less))) (subst (λ (l : List ℕ). IsFaultOf l f) c.deref-2.ensures.value is)) c.head_of_bytes.ensures.fault
+    let behind = g.R.Read.remaining c.read_more.new.input.inner in
+    let file = c.read_more.new.bytes.items in
+    let read : Consumes left behind file = read_on left (g.R.Read.remaining c.parts.input.inner) behind c.parts.bytes.items file c.parts.invariant.read c.in_ok-read_more.ensures.read in
+    let few : length file ≤ MAX_FILE_BYTES + 1 = omega (arith, c.in_ok-read_more.ensures.few) in
+    let some : 2 ≤ length file = omega (arith, c.parts.invariant.some, c.if-len-enough.false, c.len.ensures) in
+    let later : c.in-Err.refusal ≢ EndsEarly = search (rules, c.if-ne.ensures, c.if-ne.true, c.ne.ensures) in
+    let fault = fault_by_front left behind file read few some c.in-Err.refusal later (subst (λ (l : List ℕ). c.in-Err.refusal ≢ Memory → RefusalOf l c.in-Err.refusal) c.deref-in-parts.ensures.value c.in-Err.ensures.refusal) in
+    let told : IsHeaderFaultOfInput left c.fault_of.result = subst (IsHeaderFaultOfInput left) (sym c.fault_of.ensures) fault in
+    search (rules, told)
