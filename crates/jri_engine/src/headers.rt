@@ -5,7 +5,8 @@ ghost use Rattle.std.specs.Prelude.{◌≡◌, ◌≤◌, IfErr, IfOk};
 use crate::ended::Ended;
 use crate::many::worse_of;
 use jr_base::Tally;
-use jr_head::Head;
+use jr_base::limits::MAX_FILE_BYTES;
+use jr_head::{Head, Refusal};
 use jr_picture::Fault;
 use jri_file::read_file_head;
 use jri_words::{DescribeRequest, Devices, Unasked, answer, describe};
@@ -18,11 +19,22 @@ const STREAM: &str = "-";
 /// The status if memory ran out or the output failed.
 const FAILED: u8 = 1;
 
+/// Returns whether a file, or standard input, is known to be longer than a file may be.
+fn is_too_long<D: Devices>(devices: &D, source: Option<&str>) -> bool {
+    devices
+        .size(source)
+        .is_some_and(|size| size > MAX_FILE_BYTES as u64)
+}
+
 /// Reads the header of the file of a name, or of standard input.
 fn head_of<D: Devices>(alloc: Global, devices: &D, name: &str) -> Result<Head, Fault> {
-    if name == STREAM {
-        return read_file_head(alloc, &mut Tally::of(devices.input()));
+    let source = if name == STREAM { None } else { Some(name) };
+    if is_too_long(devices, source) {
+        return Err(Fault::Refused(Refusal::TooLong));
     }
+    let Some(name) = source else {
+        return read_file_head(alloc, &mut Tally::of(devices.input()));
+    };
     match devices.open(name) {
         Ok(file) => read_file_head(alloc, &mut Tally::of(file)),
         Err(_) => Err(Fault::NoFile),

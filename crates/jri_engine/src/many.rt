@@ -6,13 +6,13 @@ ghost use Rattle.jr_base.specs.declared.limits.TheConstants.{MAX_WORKERS};
 ghost use Rattle.jri_words.specs.Steps.{DecodesEach, Follow, IsInDirectory, LeavesFile, is_picture_status, worse};
 
 use crate::ended::Ended;
-use crate::running::{Decoding, decode_to_part};
+use crate::running::{Decoding, ImageFile, decode_to_part};
 use jr_base::Tally;
 use jr_mend::Break;
 use jr_picture::Fault;
 use jri_words::{
-    Destination, Devices, Ending, ManyRequest, Names, Unasked, Verbosity, answer, image_name,
-    report_breaks, report_ending, unwritten,
+    Destination, Devices, Ending, Existing, ManyRequest, Names, Unasked, Verbosity, answer,
+    image_name, report_breaks, report_ending, unwritten,
 };
 use std::alloc::Global;
 use std::io::{Error, ErrorKind, Write};
@@ -34,7 +34,7 @@ pub(crate) fn worse_of(a: u8, b: u8) -> u8
     }
 }
 
-/// Decodes a file into a new image. Nothing that has the image's name is replaced.
+/// Decodes a file into a new image. A file that has the image's name keeps it, also one that is made meanwhile.
 fn decode_into_new<T: Threads + Wait + Sync, D: Devices>(
     rt: &T,
     alloc: Global,
@@ -46,13 +46,19 @@ fn decode_into_new<T: Threads + Wait + Sync, D: Devices>(
 ) -> Ending
     requires some { 1 ≤ decoding.workers }
     requires few { decoding.workers ≤ MAX_WORKERS }
-    ensures { LeavesFile (λ _. ⊥) image.now (D.steps devices.old) (D.steps devices.new) (is_ok result.outcome) }
+    ensures { LeavesFile (λ _. ⊥) Existing.Kept image.now (D.steps devices.old) (D.steps devices.new) (is_ok result.outcome) }
 {
     if !matches!(devices.destination(image, Some(file)), Destination::New) {
         return unwritten(Error::from(ErrorKind::AlreadyExists));
     }
     match devices.open(file) {
-        Ok(source) => decode_to_part(rt, alloc, devices, decoding, source, image, breaks),
+        Ok(source) => {
+            let image = ImageFile {
+                name: image,
+                existing: Existing::Kept,
+            };
+            decode_to_part(rt, alloc, devices, decoding, source, image, breaks)
+        }
         Err(error) => Ending {
             outcome: Err(Fault::NoFile),
             reason: Some(error),
@@ -71,7 +77,7 @@ fn decode_one<T: Threads + Wait + Sync, D: Devices, E: Write>(
 ) -> u8
     requires some { 1 ≤ request.now.workers }
     requires few { request.now.workers ≤ MAX_WORKERS }
-    ensures { (name : List ℕ) × IsInDirectory (string_bytes request.now.directory) name × LeavesFile (λ _. ⊥) name (D.steps devices.old) (D.steps devices.new) (is_picture_status result) }
+    ensures { (name : List ℕ) × IsInDirectory (string_bytes request.now.directory) name × LeavesFile (λ _. ⊥) Existing.Kept name (D.steps devices.old) (D.steps devices.new) (is_picture_status result) }
 {
     let verbosity = Verbosity {
         is_quiet: request.is_quiet,

@@ -1,22 +1,25 @@
 //! What the program does with its arguments.
 
-ghost use Rattle.std.specs.Prelude.{◌≡◌, ◌≤◌, IfOk, false, is_ok, map};
+ghost use Rattle.std.specs.Prelude.{◌≡◌, ◌≤◌, IfErr, IfOk, [], false, is_ok, map, true};
 ghost use Rattle.std.specs.String.{string_bytes};
 ghost use Rattle.jr_base.specs.declared.limits.TheConstants.{MAX_WORKERS};
-ghost use Rattle.jr_base.specs.Tally.{has_failed};
-ghost use Rattle.jri_words.specs.CommandLine.{IsTargetOf};
-ghost use Rattle.jri_words.specs.Steps.{LeavesFile, LeavesNamed, is_picture_status};
+ghost use Rattle.jr_base.specs.Tally.{has_failed, known_in};
+ghost use Rattle.jr_segments.specs.declared.refusal.Refusal.{Refusal};
+ghost use Rattle.jri_words.specs.Noted.{has_flushed, noted_in};
+ghost use Rattle.jri_words.specs.Steps.{Follow, LeavesFile, LeavesNamed, is_picture_status};
+ghost use Rattle.jri_engine.specs.Decoding.{BeginsBy, PaintsBy, RefusesBy};
 
 use crate::ended::Ended;
 use crate::engine::run;
 use crate::resync::run_resynced;
 use jr_base::Tally;
 use jr_mend::Break;
-use jr_picture::Fault;
+use jr_picture::{Fault, Report};
 use jr_wall::OpenGate;
 use jri_words::{
-    DecodeRequest, Destination, Devices, Ending, Names, Noted, Target, answer, flushed, make_part,
-    opened, place, report_breaks, report_ending, understood, unwritten, warn_of_name,
+    DecodeRequest, Destination, Devices, Ending, Existing, Names, Noted, Part, Target, answer,
+    flush_written, make_part, opened, place, report_breaks, report_ending, understood, unwritten,
+    warn_of_name,
 };
 use std::alloc::Global;
 use std::io::{Read, Result as IoResult, Write};
@@ -36,7 +39,9 @@ pub(crate) struct Decoding {
 
 /// Returns how the arguments ask for a file to be decoded.
 fn decoding_of(request: &DecodeRequest) -> Decoding
-    ensures { result.workers ≡ request.now.asked.workers }
+    ensures workers { result.workers ≡ request.now.asked.workers }
+    ensures first { result.first ≡ request.now.asked.first }
+    ensures resync { result.is_resync ≡ request.now.is_resync }
 {
     Decoding {
         workers: request.asked.workers,
@@ -45,7 +50,49 @@ fn decoding_of(request: &DecodeRequest) -> Decoding
     }
 }
 
-/// Decodes a source into an output, which is flushed and dropped. The breaks of a resynchronised file are stored.
+/// Decodes an input into an output. The breaks of a resynchronised file are stored.
+fn outcome_of<T: Threads + Wait + Sync, R: Read, W: Write>(
+    rt: &T,
+    alloc: Global,
+    decoding: Decoding,
+    input: &mut Tally<R>,
+    output: &mut Tally<W>,
+    breaks: &mut Vec<Break>,
+) -> Result<Report, Fault>
+    requires input { has_failed input.old ≡ false }
+    requires output { has_failed output.old ≡ false }
+    requires some { 1 ≤ decoding.workers }
+    requires few { decoding.workers ≤ MAX_WORKERS }
+    ensures painted { IfOk result (λ r. PaintsBy decoding.is_resync (known_in R.remaining input.old) decoding.first (record { report = r; breaks = breaks.new }) (known_in W.contents output.old) (known_in W.contents output.new)) }
+    ensures begun { result ≡ Err Fault.Write → BeginsBy decoding.is_resync (known_in R.remaining input.old) decoding.first (known_in W.contents output.old) (known_in W.contents output.new) }
+    ensures refused { (f : Refusal) → result ≡ Err (Fault.Refused f) → RefusesBy decoding.is_resync (known_in R.remaining input.old) f }
+{
+    let Decoding {
+        workers,
+        first,
+        is_resync,
+    } = decoding;
+    if !is_resync {
+        return run(rt, alloc, input, output, workers, first, &OpenGate);
+    }
+    match run_resynced(rt, alloc, input, output, workers, first, &OpenGate) {
+        Ok(resynced) => {
+            *breaks = resynced.breaks;
+            Ok(resynced.report)
+        }
+        Err(fault) => Err(fault),
+    }
+}
+
+/// How a decoding ended, and the output.
+#[derive(Drop)]
+struct Decoded<W> {
+    ending: Ending,
+    out: W,
+}
+
+/// Decodes a source into an output, which is flushed if the image is written. The breaks of a resynchronised file are
+/// stored.
 fn decode<T: Threads + Wait + Sync, R: Read + Drop, W: Write + Drop>(
     rt: &T,
     alloc: Global,
@@ -53,51 +100,36 @@ fn decode<T: Threads + Wait + Sync, R: Read + Drop, W: Write + Drop>(
     source: R,
     out: W,
     breaks: &mut Vec<Break>,
-) -> Ending
+) -> Decoded<Noted<W>>
     requires some { 1 ≤ decoding.workers }
     requires few { decoding.workers ≤ MAX_WORKERS }
+    ensures painted { IfOk result.ending.outcome (λ r. PaintsBy decoding.is_resync (R.remaining source) decoding.first (record { report = r; breaks = breaks.new }) (W.contents out) (W.contents (noted_in result.out))) }
+    ensures flushed { IfOk result.ending.outcome (λ _. has_flushed result.out ≡ true) }
+    ensures refused { (f : Refusal) → result.ending.outcome ≡ Err (Fault.Refused f) → RefusesBy decoding.is_resync (R.remaining source) f }
 {
     let mut input = Tally::of(Noted::of(source));
     let mut output = Tally::of(Noted::of(out));
-    let Decoding {
-        workers,
-        first,
-        is_resync,
-    } = decoding;
-    let outcome = if is_resync {
-        match run_resynced(
-            rt,
-            alloc,
-            &mut input,
-            &mut output,
-            workers,
-            first,
-            &OpenGate,
-        ) {
-            Ok(resynced) => {
-                *breaks = resynced.breaks;
-                Ok(resynced.report)
-            }
-            Err(fault) => Err(fault),
-        }
-    } else {
-        run(
-            rt,
-            alloc,
-            &mut input,
-            &mut output,
-            workers,
-            first,
-            &OpenGate,
-        )
-    };
-    let outcome = flushed(outcome, &mut output);
+    let outcome = outcome_of(rt, alloc, decoding, &mut input, &mut output, breaks);
+    let mut out = output.into_inner();
+    let outcome = flush_written(outcome, &mut out);
     let reason = match outcome {
         Err(Fault::Read) => input.into_inner().reason(),
-        Err(Fault::Write) => output.into_inner().reason(),
+        Err(Fault::Write) => out.reason(),
         _ => None,
     };
-    Ending { outcome, reason }
+    Decoded {
+        ending: Ending { outcome, reason },
+        out,
+    }
+}
+
+/// The file of an image.
+#[derive(Clone, Copy)]
+pub(crate) struct ImageFile<'a> {
+    /// Its name.
+    pub(crate) name: &'a str,
+    /// What becomes of a file that has this name.
+    pub(crate) existing: Existing,
 }
 
 /// Decodes a source into a part, which takes the name of a file if the image is whole, and is otherwise removed.
@@ -107,19 +139,23 @@ pub(crate) fn decode_to_part<T: Threads + Wait + Sync, D: Devices, R: Read + Dro
     devices: &mut D,
     decoding: Decoding,
     source: R,
-    name: &str,
+    image: ImageFile<'_>,
     breaks: &mut Vec<Break>,
 ) -> Ending
     requires some { 1 ≤ decoding.workers }
     requires few { decoding.workers ≤ MAX_WORKERS }
-    ensures { LeavesFile (λ _. ⊥) name.now (D.steps devices.old) (D.steps devices.new) (is_ok result.outcome) }
+    ensures { LeavesFile (λ _. ⊥) image.entry.existing image.entry.name.now (D.steps devices.old) (D.steps devices.new) (is_ok result.outcome) }
 {
-    let part = match make_part(alloc, devices, name) {
+    let Part { file, name } = match make_part(alloc, devices, image.name) {
         Ok(part) => part,
         Err(ending) => return ending,
     };
-    let ending = decode(rt, alloc, decoding, source, part.file, breaks);
-    place(devices, ending, part.name.as_str(), name)
+    let Decoded { ending, out } = decode(rt, alloc, decoding, source, file, breaks);
+    let part = Part {
+        file: out.into_inner(),
+        name,
+    };
+    place(devices, ending, part, image.name, image.existing)
 }
 
 /// Decodes a source into a file, which is replaced once the image is whole, or into a device.
@@ -134,12 +170,12 @@ fn decode_to_file<T: Threads + Wait + Sync, D: Devices, R: Read + Drop>(
 ) -> Ending
     requires some { 1 ≤ request.now.asked.workers }
     requires few { request.now.asked.workers ≤ MAX_WORKERS }
-    ensures { LeavesFile (D.are_devices devices.old) name.now (D.steps devices.old) (D.steps devices.new) (is_ok result.outcome) }
+    ensures { LeavesFile (D.are_devices devices.old) Existing.Replaced name.now (D.steps devices.old) (D.steps devices.new) (is_ok result.outcome) }
 {
     let file = request.asked.file.as_ref().map(|file| file.as_str());
     if let Destination::WrittenInto = devices.destination(name, file) {
         return match devices.open_device(name) {
-            Ok(device) => decode(rt, alloc, decoding_of(request), source, device, breaks),
+            Ok(device) => decode(rt, alloc, decoding_of(request), source, device, breaks).ending,
             Err(error) => unwritten(error),
         };
     }
@@ -149,7 +185,10 @@ fn decode_to_file<T: Threads + Wait + Sync, D: Devices, R: Read + Drop>(
         devices,
         decoding_of(request),
         source,
-        name,
+        ImageFile {
+            name,
+            existing: Existing::Replaced,
+        },
         breaks,
     )
 }
@@ -163,7 +202,9 @@ pub fn program<T: Threads + Wait + Sync, D: Devices, E: Write>(
     words: IoResult<Vec<String>>,
     errors: &mut E,
 ) -> Ended
-    ensures { LeavesNamed (D.are_devices devices.old) (λ target. IfOk words (λ given. IsTargetOf (map string_bytes given.items) target)) (D.steps devices.old) (D.steps devices.new) (is_picture_status result.status) }
+    ensures named { IfOk words (λ given. LeavesNamed (D.are_devices devices.old) (map string_bytes given.items) (D.steps devices.old) (D.steps devices.new) result.status) }
+    ensures untouched { IfErr words (λ _. Follow (D.steps devices.old) (D.steps devices.new) []) }
+    ensures unread { IfErr words (λ _. is_picture_status result.status ≡ false) }
 {
     let request = match understood(alloc, devices, words) {
         Ok(request) => request,
@@ -179,7 +220,7 @@ pub fn program<T: Threads + Wait + Sync, D: Devices, E: Write>(
         Ok(source) => match &asked.target {
             Target::Output | Target::AnyOutput => {
                 let out = devices.output();
-                decode(rt, alloc, decoding_of(&request), source, out, &mut breaks)
+                decode(rt, alloc, decoding_of(&request), source, out, &mut breaks).ending
             }
             Target::File(name) => decode_to_file(
                 rt,

@@ -1,12 +1,19 @@
 -- The matches of the program's arguments.
-use Rattle.std.proofs.Common.{◌≡◌, true, false, List, Result, IfOk, ap, refl, subst, ap₂, ◌∙◌}
+use Rattle.std.proofs.Common.{◌≡◌, true, false, List, [], Result, IfOk, ap, refl, subst, ap₂, ◌∙◌}
 use Rattle.clap.specs.Words.{AddsArg, App, HasMatchesOf, Rule, Text, app_of, rule_of, with_rule, first_of, first_value, found_of, is_simple, matches_of, one_of, one_text, rows_of}
 use Rattle.clap.specs.declared.builder.arg.Arg.{Arg}
 use Rattle.clap.specs.declared.builder.command.Command.{Command}
 use Rattle.clap.specs.declared.parser.matches.ArgMatches.{ArgMatches}
 use Rattle.clap.proofs.OnLiterals.{clap_on_literals}
 use Rattle.clap.proofs.WalkLemmas.{first_value-rows, one_text-rows}
-use Rattle.jri_words.specs.CommandLine.{jri, reading, option_value}
+use Rattle.clap.specs.Takes.{takes}
+use Rattle.clap.specs.Values.{kind_of}
+use Rattle.clap.specs.declared.error.Error.{Error}
+use Rattle.clap.specs.declared.error.kind.ErrorKind.TheVariants.{OutOfMemory}
+use Rattle.std.proofs.lemmas.Bool.{false_from_ne_true}
+use Rattle.jri_words.specs.declared.answers.Unasked.{Unasked}
+use Rattle.jri_words.specs.CommandLine.{is_taken, jri, reading, option_value}
+use Rattle.jri_words.specs.Status.{AsksForHelp}
 
 pub adds : (old : Command) (a : Arg) (new : Command) (app : App) (rule : Rule) → AddsArg old a new → a.global ≡ false → app_of old ≡ app → rule_of a ≡ rule → app_of new ≡ with_rule app rule
 adds old a new app rule h local is_app is_rule = h.shape local ∙ ap₂ with_rule is_app is_rule
@@ -31,3 +38,14 @@ module _ (m : ArgMatches) (app : App) (words : List Text) (is_jri : app ≡ jri)
   pub found_reading : (name : Text) → one_text (found_of m) name ≡ reading name words
   unfolding reading
   found_reading name = one_text-rows (found_of m) name ∙ ap (one_of name) rows
+
+-- no arguments at all are taken
+pub takes_none : is_taken [] ≡ true
+unfolding clap_on_literals is_taken
+takes_none = refl
+
+-- arguments that are refused, but not for want of memory, are not taken
+pub untaken : (app : App) (words : List Text) (e : Error) (unasked : Unasked) → app ≡ jri → (takes app words ≡ true → kind_of e ≡ OutOfMemory) → (kind_of e ≡ OutOfMemory → AsksForHelp unasked → ⊥)
+    → AsksForHelp unasked → is_taken words ≡ false
+unfolding is_taken
+untaken app words e unasked is passes no_help help = false_from_ne_true (takes jri words) (λ taken. no_help (passes (ap (λ a. takes a words) is ∙ taken)) help)

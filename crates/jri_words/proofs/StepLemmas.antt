@@ -6,7 +6,14 @@ use Rattle.jr_picture.specs.declared.report.Fault.{Fault}
 use Rattle.jr_picture.specs.declared.report.Fault.TheVariants as fault
 use Rattle.jr_picture.specs.Status.{report_status, fault_status}
 use Rattle.std.specs.List.{AllByRecursion}
-use Rattle.jri_words.specs.Steps.{Step, Created, Renamed, Removed, Opened, Follow, OpensDevice, LeavesFile, is_picture_status, DecodesEach, ImageEnd, IsInDirectory, LeavesEach, worse, worst_of}
+use Rattle.clap.specs.Words.{Text}
+use Rattle.jri_words.specs.declared.answers.Unasked.{Unasked}
+use Rattle.jri_words.specs.declared.answers.Unasked.TheVariants as help
+use Rattle.jri_words.specs.declared.devices.Existing.{Existing}
+use Rattle.jri_words.specs.declared.devices.Existing.TheVariants.{Kept}
+use Rattle.jri_words.specs.CommandLine.{is_taken}
+use Rattle.jri_words.specs.Status.{AsksForHelp, answered_status}
+use Rattle.jri_words.specs.Steps.{Step, Created, Synced, Follow, OpensDevice, LeavesFile, Removes, AsksNothing, is_picture_status, placed, DecodesEach, ImageEnd, IsInDirectory, LeavesEach, worse, worst_of}
 
 pub follow : (a b c : Option (List Step)) (s t : List Step) → Follow a b s → Follow b c t → Follow a c (s ++ t)
 follow None b c s t p q = tt
@@ -18,22 +25,22 @@ pub none_yet : (a : Option (List Step)) → Follow a a []
 none_yet None = tt
 none_yet (Some k) = sym (append-nil k)
 
-module _ (are_devices : List ℕ → Type 0) (name : List ℕ) where
+module _ (are_devices : List ℕ → Type 0) (existing : Existing) (name : List ℕ) where
   -- a device is open, whether or not the image is written
-  pub opened : (a b : Option (List Step)) (is_written : Bool) → OpensDevice are_devices name a b → LeavesFile are_devices name a b is_written
+  pub opened : (a b : Option (List Step)) (is_written : Bool) → OpensDevice are_devices name a b → LeavesFile are_devices existing name a b is_written
   opened a b true p = inl p
   opened a b false p = inr (inl p)
 
   -- nothing was done, and no image is written
-  pub undone : (a b : Option (List Step)) (r : Result Report Fault) → Follow a b [] → is_ok r ≡ false → LeavesFile are_devices name a b (is_ok r)
+  pub undone : (a b : Option (List Step)) (r : Result Report Fault) → Follow a b [] → is_ok r ≡ false → LeavesFile are_devices existing name a b (is_ok r)
   undone a b (Ok report) p q = absurd (true≢false q)
   undone a b (Err f) p q = inl p
 
   -- a part was made, and then placed or removed
-  pub placed : (part : List ℕ) (a b c : Option (List Step)) (r : Result Report Fault) → Follow a b (Created part ∷ [])
-      → IfOk r (λ _. Follow b c (Renamed part name ∷ [])) → IfErr r (λ _. Follow b c (Removed part ∷ [])) → LeavesFile are_devices name a c (is_ok r)
-  placed part a b c (Ok report) made p q = inr (part, follow a b c (Created part ∷ []) (Renamed part name ∷ []) made p)
-  placed part a b c (Err f) made p q = inr (inr (part, follow a b c (Created part ∷ []) (Removed part ∷ []) made q))
+  pub ended : (part : List ℕ) (a b c : Option (List Step)) (r : Result Report Fault) → Follow a b (Created part ∷ [])
+      → IfOk r (λ _. Follow b c (Synced part ∷ placed existing part name ∷ [])) → IfErr r (λ _. Removes part b c) → LeavesFile are_devices existing name a c (is_ok r)
+  ended part a b c (Ok report) made p q = inr (part, follow a b c (Created part ∷ []) (Synced part ∷ placed existing part name ∷ []) made p)
+  ended part a b c (Err f) made p q = inr (inr (part, b, made, q))
 
 damage_tells : (b : Bool) → is_picture_status (if b then 0 else 3) ≡ true
 damage_tells true = refl
@@ -49,16 +56,30 @@ status_tells (Err fault.Write) n p q = rw q refl
 status_tells (Err fault.NoFile) n p q = rw q refl
 
 -- the files after a run that opens no device
-pub without_devices : (are_devices : List ℕ → Type 0) (name : List ℕ) (a b : Option (List Step)) (is_written : Bool) → LeavesFile (λ _. ⊥) name a b is_written → LeavesFile are_devices name a b is_written
-without_devices are_devices name a b true (inl p) = absurd p.is
-without_devices are_devices name a b true (inr p) = inr p
-without_devices are_devices name a b false (inl p) = inl p
-without_devices are_devices name a b false (inr (inl p)) = absurd p.is
-without_devices are_devices name a b false (inr (inr p)) = inr (inr p)
+pub without_devices : (are_devices : List ℕ → Type 0) (existing : Existing) (name : List ℕ) (a b : Option (List Step)) (is_written : Bool)
+    → LeavesFile (λ _. ⊥) existing name a b is_written → LeavesFile are_devices existing name a b is_written
+without_devices are_devices existing name a b true (inl p) = absurd p.is
+without_devices are_devices existing name a b true (inr p) = inr p
+without_devices are_devices existing name a b false (inl p) = inl p
+without_devices are_devices existing name a b false (inr (inl p)) = absurd p.is
+without_devices are_devices existing name a b false (inr (inr p)) = inr (inr p)
+
+-- arguments that ask for no image: nothing is done, and with a status of an image they are not taken
+pub answered : (words : List Text) (a : Option (List Step)) (unasked : Unasked) (has_failed : Bool) (n : ℕ)
+    → (AsksForHelp unasked → is_taken words ≡ false) → n ≡ answered_status unasked has_failed → AsksNothing words a a n
+answered words a (help.Help text) has_failed n help is = record { unmoved = none_yet a; unwritten = λ taken. absurd (true≢false (sym taken ∙ help tt)) }
+answered words a (help.Wrong text) has_failed n help is = record { unmoved = none_yet a; unwritten = λ _. rw is refl }
+answered words a help.Memory has_failed n help is = record { unmoved = none_yet a; unwritten = λ _. rw is refl }
+
+-- arguments that are not text have no status of an image
+pub unread : (unasked : Unasked) (has_failed : Bool) (n : ℕ) → (AsksForHelp unasked → ⊥) → n ≡ answered_status unasked has_failed → is_picture_status n ≡ false
+unread (help.Help text) has_failed n none is = absurd (none tt)
+unread (help.Wrong text) has_failed n none is = rw is refl
+unread help.Memory has_failed n none is = rw is refl
 
 -- one more image is made
-leaves_one_more : (es : List ImageEnd) (e : ImageEnd) (old mid new : Option (List Step)) → LeavesEach es old mid → LeavesFile (λ _. ⊥) e.name mid new (is_picture_status e.status) → LeavesEach (es ++ e ∷ []) old new
-leaves_one_more [] e old mid new p q = (new, subst (λ (o : Option (List Step)). LeavesFile (λ _. ⊥) e.name o new (is_picture_status e.status)) (sym p) q, refl)
+leaves_one_more : (es : List ImageEnd) (e : ImageEnd) (old mid new : Option (List Step)) → LeavesEach es old mid → LeavesFile (λ _. ⊥) Kept e.name mid new (is_picture_status e.status) → LeavesEach (es ++ e ∷ []) old new
+leaves_one_more [] e old mid new p q = (new, subst (λ (o : Option (List Step)). LeavesFile (λ _. ⊥) Kept e.name o new (is_picture_status e.status)) (sym p) q, refl)
 leaves_one_more (d ∷ ds) e old mid new p q = (p.0, p.1, leaves_one_more ds e p.0 mid new p.2 q)
 
 worst_one_more : (before : ℕ) (es : List ImageEnd) (e : ImageEnd) → worst_of before (es ++ e ∷ []) ≡ worse (worst_of before es) e.status
@@ -70,7 +91,7 @@ within_one_more P [] e p q = (q, tt)
 within_one_more P (d ∷ ds) e p q = (p.0, within_one_more P ds e p.1 q)
 
 pub decodes_one_more : (directory : List ℕ) (n : ℕ) (old mid new : Option (List Step)) (before status : ℕ) (name : List ℕ) → DecodesEach directory n old mid before → IsInDirectory directory name
-    → LeavesFile (λ _. ⊥) name mid new (is_picture_status status) → DecodesEach directory (n + 1) old new (worse before status)
+    → LeavesFile (λ _. ⊥) Kept name mid new (is_picture_status status) → DecodesEach directory (n + 1) old new (worse before status)
 decodes_one_more directory n old mid new before status name d is_in left =
     let e : ImageEnd = record { name = name; status = status } in
     record {

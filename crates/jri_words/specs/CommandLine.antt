@@ -3,6 +3,7 @@ use Rattle.std.specs.Prelude.{◌≡◌, ◌≢◌, Bool, true, false, List, [],
 use Rattle.std.specs.Str.{bytes_eq}
 use Rattle.std.specs.String.{string_bytes}
 use Rattle.clap.specs.Words.{App, Rule, Text, first_of, matches_of, new_app, new_rule, one_of, with_rule}
+use Rattle.clap.specs.Takes.{takes}
 use Rattle.clap.specs.declared.builder.action.ArgAction.TheVariants.{Set, SetTrue}
 use Rattle.clap.specs.declared.builder.value_parser.ValueParser.TheVariants as vp
 use Rattle.jri_words.specs.declared.answers.Target.{Target}
@@ -51,6 +52,10 @@ option_value name words = first_of name (matches_of jri words)
 -- the value of a flag, `true` or `false`, or of an option of numbers
 unfoldable pub reading : Text → List Text → Option Text
 reading name words = one_of name (matches_of jri words)
+
+-- the command line takes these arguments: it does not refuse them, and they do not ask for help or the version
+unfoldable pub is_taken : List Text → Bool
+is_taken words = takes jri words
 
 -- the name of a file, which - is not
 abbrev pub file_named : Option Text → Option Text

@@ -13,3 +13,9 @@ abbrev pub answered_status : Unasked → Bool → ℕ
 answered_status (Help text) has_failed = if has_failed then 1 else 0
 answered_status (Wrong text) has_failed = 2
 answered_status Memory has_failed = 1
+
+-- the arguments ask for the help or the version
+abbrev pub AsksForHelp : Unasked → Type 0
+AsksForHelp (Help text) = Unit {0}
+AsksForHelp (Wrong text) = ⊥
+AsksForHelp Memory = ⊥

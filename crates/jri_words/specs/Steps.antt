@@ -2,15 +2,27 @@
 use Rattle.std.specs.Prelude.{◌≡◌, ℕ, List, [], ◌∷◌, ◌++◌, Option, Some, None, ⊤, Bool, true, false, ◌==◌, ◌||◌, ◌⊎◌, length, if◌then◌else◌}
 use Rattle.std.specs.List.{AllByRecursion}
 use Rattle.std.specs.String.{string_bytes}
+use Rattle.clap.specs.Words.{Text}
+use Rattle.jri_words.specs.CommandLine.{IsTargetOf, is_taken}
+use Rattle.jri_words.specs.declared.devices.Existing.{Existing}
+use Rattle.jri_words.specs.declared.devices.Existing.TheVariants.{Replaced, Kept}
 use Rattle.jri_words.specs.declared.answers.Target.{Target}
 use Rattle.jri_words.specs.declared.answers.Target.TheVariants as target
 
--- a new file of this name is there; a file has another name; a file is removed, or was to be; a device of this name is open
+-- a new file of this name is there; what was written to it is on the disk; it has another name, and replaces what had that name; it has
+-- another name, which nothing had; a file is removed, or was to be; a device of this name is open
 pub data Step : Type 0 where
   Created : List ℕ → Step
+  Synced : List ℕ → Step
   Renamed : List ℕ → List ℕ → Step
+  Named : List ℕ → List ℕ → Step
   Removed : List ℕ → Step
   Opened : List ℕ → Step
+
+-- a file gets another name, and what has that name is replaced or keeps it
+abbrev pub placed : Existing → List ℕ → List ℕ → Step
+placed Replaced from to = Renamed from to
+placed Kept from to = Named from to
 
 -- known steps are followed by these
 abbrev pub Follow : Option (List Step) → Option (List Step) → List Step → Type 0
@@ -23,25 +35,43 @@ pub record OpensDevice (are_devices : List ℕ → Type 0) (name : List ℕ) (ol
   pub is : are_devices name
   pub opened : Follow old new (Opened name ∷ [])
 
+-- a part is made, is written to the disk, and takes the name of its file
+abbrev pub PlacesPart : Existing → List ℕ → Option (List Step) → Option (List Step) → Type 0
+PlacesPart existing name old new = (part : List ℕ) × Follow old new (Created part ∷ Synced part ∷ placed existing part name ∷ [])
+
+-- the last steps of a part that takes no name
+abbrev pub Removes : List ℕ → Option (List Step) → Option (List Step) → Type 0
+Removes part old new = Follow old new (Removed part ∷ []) ⊎ Follow old new (Synced part ∷ Removed part ∷ [])
+
+-- a part is made and removed
+abbrev pub RemovesPart : Option (List Step) → Option (List Step) → Type 0
+RemovesPart old new = (part : List ℕ) × (mid : Option (List Step)) × Follow old mid (Created part ∷ []) × Removes part mid new
+
 -- What a run does with an image's file: a device of that name is open; or a part is made, which takes the file's name if the image is
 -- written, and is otherwise removed; or, if no image is written, nothing.
-abbrev pub LeavesFile : (are_devices : List ℕ → Type 0) → List ℕ → Option (List Step) → Option (List Step) → Bool → Type 0
-LeavesFile are_devices name old new true = OpensDevice are_devices name old new ⊎ ((part : List ℕ) × Follow old new (Created part ∷ Renamed part name ∷ []))
-LeavesFile are_devices name old new false = Follow old new [] ⊎ OpensDevice are_devices name old new ⊎ ((part : List ℕ) × Follow old new (Created part ∷ Removed part ∷ []))
+abbrev pub LeavesFile : (are_devices : List ℕ → Type 0) → Existing → List ℕ → Option (List Step) → Option (List Step) → Bool → Type 0
+LeavesFile are_devices existing name old new true = OpensDevice are_devices name old new ⊎ PlacesPart existing name old new
+LeavesFile are_devices existing name old new false = Follow old new [] ⊎ OpensDevice are_devices name old new ⊎ RemovesPart old new
 
 -- what it does with the target of an image: nothing with a file if that is standard output
 abbrev pub Leaves : (are_devices : List ℕ → Type 0) → Target → Option (List Step) → Option (List Step) → Bool → Type 0
 Leaves are_devices target.Output old new is_written = Follow old new []
 Leaves are_devices target.AnyOutput old new is_written = Follow old new []
-Leaves are_devices (target.File name) old new is_written = LeavesFile are_devices (string_bytes name) old new is_written
-
--- what a run with such arguments does with files: nothing, or what belongs to the target that they name
-abbrev pub LeavesNamed : (are_devices : List ℕ → Type 0) → (is_named : Target → Type 0) → Option (List Step) → Option (List Step) → Bool → Type 0
-LeavesNamed are_devices is_named old new is_written = Follow old new [] ⊎ ((t : Target) × is_named t × Leaves are_devices t old new is_written)
+Leaves are_devices (target.File name) old new is_written = LeavesFile are_devices Replaced (string_bytes name) old new is_written
 
 -- the exit statuses of images that are written
 abbrev pub is_picture_status : ℕ → Bool
 is_picture_status status = (status == 0) || (status == 3)
+
+-- nothing is done with files; arguments that the command line takes then have no status of an image
+pub record AsksNothing (words : List Text) (old new : Option (List Step)) (status : ℕ) : Type 0 where
+  pub unmoved : Follow old new []
+  pub unwritten : is_taken words ≡ true → is_picture_status status ≡ false
+
+-- what a run with these arguments does with files: what belongs to the target that they name, or nothing
+abbrev pub LeavesNamed : (are_devices : List ℕ → Type 0) → List Text → Option (List Step) → Option (List Step) → ℕ → Type 0
+LeavesNamed are_devices words old new status =
+    AsksNothing words old new status ⊎ ((t : Target) × IsTargetOf words t × Leaves are_devices t old new (is_picture_status status))
 
 -- the name of a file in a directory: the directory's, a slash, and something
 abbrev pub IsInDirectory : List ℕ → List ℕ → Type 0
@@ -64,10 +94,10 @@ abbrev pub worst_of : ℕ → List ImageEnd → ℕ
 worst_of before [] = before
 worst_of before (e ∷ es) = worst_of (worse before e.status) es
 
--- images are made one after another, each by a part that takes its name if it is written, and is otherwise removed
+-- images are made one after another, each by a part that takes its name if it is written and nothing has the name, and is otherwise removed
 abbrev pub LeavesEach : List ImageEnd → Option (List Step) → Option (List Step) → Type 0
 LeavesEach [] old new = old ≡ new
-LeavesEach (e ∷ es) old new = (mid : Option (List Step)) × LeavesFile (λ _. ⊥) e.name old mid (is_picture_status e.status) × LeavesEach es mid new
+LeavesEach (e ∷ es) old new = (mid : Option (List Step)) × LeavesFile (λ _. ⊥) Kept e.name old mid (is_picture_status e.status) × LeavesEach es mid new
 
 -- the images of `files` files are made in a directory
 pub record DecodesEach (directory : List ℕ) (files : ℕ) (old new : Option (List Step)) (status : ℕ) : Type 0 where

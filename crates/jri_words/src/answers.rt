@@ -81,6 +81,11 @@ impl Unasked {
 }
 
 impl From<AllocError> for Unasked {
+    ghost use Rattle.std.specs.Prelude.{◌≡◌};
+    ghost use Rattle.jri_words.specs.declared.answers.Unasked.TheVariants.{Memory};
+
+    ghost from_gives = { λ _ e. e ≡ Memory };
+
     fn from(_refused: AllocError) -> Self {
         Unasked::Memory
     }

@@ -1,10 +1,13 @@
 //! The arguments of a command line.
 
-ghost use Rattle.std.specs.Prelude.{◌≡◌, ◌≤◌, IfOk, IfSome, false, codes, map, option_map};
+ghost use Rattle.std.specs.Prelude.{◌≡◌, ◌≤◌, IfOk, IfErr, IfSome, false, codes, map, option_map};
 ghost use Rattle.std.specs.String.{string_bytes};
 ghost use Rattle.clap.specs.Words.{App, app_of, first_value, found_of, one_text, rule_of, with_rule};
 ghost use Rattle.jr_base.specs.declared.limits.TheConstants.{MAX_WORKERS};
-ghost use Rattle.jri_words.specs.CommandLine.{IsFlag, IsTarget, IsTargetOf, decoding_app, file_named, file_rule, first_rule, flag_rule, jri, output_rule, reading, option_value, workers_rule, writing_app};
+ghost use Rattle.clap.specs.Values.{kind_of};
+ghost use Rattle.clap.specs.declared.error.kind.ErrorKind.TheVariants.{OutOfMemory};
+ghost use Rattle.jri_words.specs.Status.{AsksForHelp};
+ghost use Rattle.jri_words.specs.CommandLine.{IsFlag, IsTarget, IsTargetOf, decoding_app, file_named, file_rule, first_rule, flag_rule, is_taken, jri, output_rule, reading, option_value, workers_rule, writing_app};
 
 use crate::answers::{Asked, DecodeRequest, Target, Unasked, Verbosity};
 use crate::help::{ABOUT, AFTER_HELP};
@@ -147,7 +150,9 @@ fn command<'a>(alloc: Global) -> Result<Command<'a>, AllocError>
 }
 
 /// Returns the answer to arguments that the command line refuses: the help or the version if they ask for it.
-pub fn refusal(alloc: Global, error: &Error) -> Unasked {
+pub fn refusal(alloc: Global, error: &Error) -> Unasked
+    ensures { kind_of error.now ≡ OutOfMemory → AsksForHelp result → ⊥ }
+{
     if error.kind() == ErrorKind::OutOfMemory {
         return Unasked::Memory;
     }
@@ -232,6 +237,7 @@ fn request_in(alloc: Global, matches: &ArgMatches) -> Result<DecodeRequest, Unas
     ensures quiet { IfOk result (λ r. IsFlag (one_text (found_of matches.now) (codes "quiet")) r.asked.verbosity.is_quiet) }
     ensures verbose { IfOk result (λ r. IsFlag (one_text (found_of matches.now) (codes "verbose")) r.asked.verbosity.is_verbose) }
     ensures resync { IfOk result (λ r. IsFlag (one_text (found_of matches.now) (codes "resync")) r.is_resync) }
+    ensures unasked { IfErr result (λ unasked. AsksForHelp unasked → ⊥) }
 {
     let Some(workers) = workers_of(matches) else {
         return Err(Unasked::Wrong(String::new(alloc)));
@@ -261,6 +267,7 @@ pub fn decode_request(alloc: Global, words: &[String]) -> Result<DecodeRequest, 
     ensures quiet { IfOk result (λ r. IsFlag (reading (codes "quiet") (map string_bytes words.now)) r.asked.verbosity.is_quiet) }
     ensures verbose { IfOk result (λ r. IsFlag (reading (codes "verbose") (map string_bytes words.now)) r.asked.verbosity.is_verbose) }
     ensures resync { IfOk result (λ r. IsFlag (reading (codes "resync") (map string_bytes words.now)) r.is_resync) }
+    ensures help { IfErr result (λ unasked. AsksForHelp unasked → is_taken (map string_bytes words.now) ≡ false) }
 {
     match command(alloc)?.try_get_matches_from(words) {
         Ok(matches) => request_in(alloc, &matches),

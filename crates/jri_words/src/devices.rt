@@ -1,7 +1,10 @@
 //! What the program asks of the machine that it runs on.
 
-ghost use Rattle.std.specs.Prelude.{Option, List, ℕ, ⊤, None, OnOk, OnErr, ◌≡◌, ◌∷◌, []};
-ghost use Rattle.jri_words.specs.Steps.{Step, Created, Renamed, Removed, Opened, Follow};
+ghost use Rattle.std.specs.Prelude.{Option, List, ℕ, ⊤, None, OnOk, OnErr, ◌≡◌, ◌∷◌, [], true};
+ghost use Rattle.std.specs.String.{string_bytes};
+ghost use Rattle.std.specs.Io.KnownBytes.{Keeps};
+ghost use Rattle.jri_words.specs.Noted.{has_flushed, noted_in};
+ghost use Rattle.jri_words.specs.Steps.{Step, Created, Synced, Removed, Opened, Follow, placed};
 
 use std::io::{Error, Read, Result as IoResult, Write};
 
@@ -16,6 +19,24 @@ pub enum Destination {
     WrittenInto,
     /// The file that is read.
     Source,
+}
+
+/// What becomes of a file that has the name which another file is to get.
+#[derive(Clone, Copy)]
+pub enum Existing {
+    /// It is replaced.
+    Replaced,
+    /// It keeps its name.
+    Kept,
+}
+
+/// A new file, and its name.
+#[derive(Drop)]
+pub struct Part<F> {
+    /// The open file.
+    pub file: F,
+    /// Its name.
+    pub name: String,
 }
 
 /// The standard streams and the files of a machine.
@@ -48,6 +69,9 @@ pub trait Devices {
     /// Opens a file to be read.
     fn open(&self, name: &str) -> IoResult<Self::File>;
 
+    /// Returns the size in bytes of the file of a name, or of standard input if it is `None`; `None` if that is not a file.
+    fn size(&self, source: Option<&str>) -> Option<u64>;
+
     /// Returns what this name leads to if the file `source` is read, or standard input if it is `None`.
     fn destination(&self, name: &str, source: Option<&str>) -> Destination
         ensures { result ≡ Destination.WrittenInto → are_devices self.now name.now };
@@ -60,14 +84,20 @@ pub trait Devices {
     /// Returns a number that names this run of the program.
     fn run_number(&self) -> u64;
 
-    /// Creates a file if nothing has its name, with the permissions of `like` if that is a file. Flushing it writes it to the disk.
+    /// Creates a file if nothing has its name, with the permissions of `like` if that is a file.
     fn create(&mut self, name: &str, like: &str) -> IoResult<Self::File>
         ensures created { OnOk result (Follow (steps self.old) (steps self.new) (Created name.now ∷ [])) }
         ensures failed { OnErr result (Follow (steps self.old) (steps self.new) []) };
 
-    /// Gives a file another name, and replaces what has that name.
-    fn rename(&mut self, from: &str, to: &str) -> IoResult<()>
-        ensures renamed { OnOk result (Follow (steps self.old) (steps self.new) (Renamed from.now to.now ∷ [])) }
+    /// Writes to the disk what was written to a part.
+    fn sync(&mut self, part: &mut Part<Self::File>) -> IoResult<()>
+        ensures synced { OnOk result (Follow (steps self.old) (steps self.new) (Synced (string_bytes part.old.name) ∷ [])) }
+        ensures failed { OnErr result (Follow (steps self.old) (steps self.new) []) }
+        ensures name { part.new.name ≡ part.old.name };
+
+    /// Gives a file another name. If a file with that name is to keep it, this fails with `AlreadyExists`.
+    fn rename(&mut self, from: &str, to: &str, existing: Existing) -> IoResult<()>
+        ensures renamed { OnOk result (Follow (steps self.old) (steps self.new) (placed existing from.now to.now ∷ [])) }
         ensures failed { OnErr result (Follow (steps self.old) (steps self.new) []) };
 
     /// Removes a file.
@@ -93,20 +123,31 @@ impl<I: Read, F: Read> Read for Source<I, F> {
     }
 }
 
-/// A reader or a writer, and the system's reason for the last call that failed.
+/// A reader or a writer, the system's reason for the last call that failed, and whether all that was written is flushed.
 #[derive(Drop)]
 pub struct Noted<T> {
     inner: T,
     reason: Option<Error>,
+    is_flushed: bool,
 }
 
 impl<T> Noted<T> {
     /// Returns a device over this reader or writer, of which no call has failed yet.
-    pub fn of(inner: T) -> Self {
+    pub fn of(inner: T) -> Self
+        ensures { noted_in result ≡ inner }
+    {
         Noted {
             inner,
             reason: None,
+            is_flushed: false,
         }
+    }
+
+    /// Returns the reader or writer.
+    pub fn into_inner(self) -> T
+        ensures { result ≡ noted_in self }
+    {
+        self.inner
     }
 
     /// Returns the reason of the last failure.
@@ -116,6 +157,8 @@ impl<T> Noted<T> {
 }
 
 impl<R: Read> Read for Noted<R> {
+    ghost remaining = { λ noted. R.remaining (noted_in noted) };
+
     fn read(&mut self, buf: &mut [u8]) -> IoResult<usize> {
         let result = self.inner.read(buf);
         self.reason = result.err().or(self.reason);
@@ -124,14 +167,21 @@ impl<R: Read> Read for Noted<R> {
 }
 
 impl<W: Write> Write for Noted<W> {
+    ghost contents = { λ noted. W.contents (noted_in noted) };
+
     fn write(&mut self, buf: &[u8]) -> IoResult<usize> {
+        self.is_flushed = false;
         let result = self.inner.write(buf);
         self.reason = result.err().or(self.reason);
         result
     }
 
-    fn flush(&mut self) -> IoResult<()> {
+    fn flush(&mut self) -> IoResult<()>
+        ensures bytes { Keeps (W.contents (noted_in self.old)) (W.contents (noted_in self.new)) }
+        ensures flushed { OnOk result (has_flushed self.new ≡ true) }
+    {
         let result = self.inner.flush();
+        self.is_flushed = result.is_ok();
         self.reason = result.err().or(self.reason);
         result
     }

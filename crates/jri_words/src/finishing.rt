@@ -3,30 +3,32 @@
 ghost use Rattle.std.specs.Prelude.{◌≡◌, IfOk, IfErr, OnOk, true, false};
 ghost use Rattle.std.specs.Io.KnownBytes.{Keeps};
 ghost use Rattle.jr_base.specs.Tally.{has_failed, known_in};
+ghost use Rattle.jri_words.specs.Noted.{has_flushed, noted_in};
 ghost use Rattle.jr_picture.specs.Status.{fault_status, report_status};
 
 use crate::answers::Verbosity;
+use crate::devices::Noted;
 use crate::ending::{Ending, Names, report_ending};
 use jr_base::Tally;
 use jr_picture::{Fault, Report};
 use std::io::Write;
 
-/// Returns the outcome after a flush of the image that was written.
-pub fn flushed<W: Write>(
+/// Flushes an image that was written, and returns the outcome after that. A failed flush is a fault.
+pub fn flush_written<W: Write>(
     outcome: Result<Report, Fault>,
-    out: &mut Tally<W>,
+    out: &mut Noted<W>,
 ) -> Result<Report, Fault>
     ensures same { IfOk result (λ report. outcome ≡ Ok report) }
-    ensures flushed { IfOk result (λ _. has_failed out.new ≡ has_failed out.old) }
-    ensures write { IfOk outcome (λ _. IfErr result (λ fault. (fault ≡ Fault.Write) × (has_failed out.new ≡ true))) }
+    ensures flushed { IfOk result (λ _. has_flushed out.new ≡ true) }
+    ensures write { IfOk outcome (λ _. IfErr result (λ fault. fault ≡ Fault.Write)) }
     ensures fault { IfErr outcome (λ fault. result ≡ Err fault) }
-    ensures kept { Keeps (known_in W.contents out.old) (known_in W.contents out.new) }
+    ensures kept { Keeps (W.contents (noted_in out.old)) (W.contents (noted_in out.new)) }
     ensures untouched { IfErr outcome (λ _. out.new ≡ out.old) }
 {
-    match outcome {
-        Ok(report) if out.flush().is_ok() => Ok(report),
-        Ok(_) => Err(Fault::Write),
-        Err(fault) => Err(fault),
+    let report = outcome?;
+    match out.flush() {
+        Ok(()) => Ok(report),
+        Err(_) => Err(Fault::Write),
     }
 }
 
@@ -42,7 +44,11 @@ pub fn finish<W: Write, E: Write>(
     ensures kept { Keeps (known_in W.contents out.old) (known_in W.contents out.new) }
     ensures untouched { IfErr outcome (λ _. out.new ≡ out.old) }
 {
-    let outcome = flushed(outcome, out);
+    let outcome = match outcome {
+        Ok(report) if out.flush().is_ok() => Ok(report),
+        Ok(_) => Err(Fault::Write),
+        Err(fault) => Err(fault),
+    };
     let ending = Ending {
         outcome,
         reason: None,

@@ -1,8 +1,9 @@
 //! The machine on which a program runs.
 
-use crate::devices::{Destination, Devices};
+use crate::devices::{Destination, Devices, Existing, Part};
+use crate::retried::Retried;
 use std::fs::{File, Metadata, OpenOptions};
-use std::io::{IsTerminal, Read, Result as IoResult, Stdin, Stdout, Write};
+use std::io::{ErrorKind, IsTerminal, Result as IoResult, Stdin, Stdout};
 use std::os::fd::AsRawFd;
 use std::os::unix::fs::{MetadataExt, OpenOptionsExt};
 use std::rt::{Env, Files};
@@ -52,33 +53,6 @@ pub fn arguments<R: Env + AllocGlobal>(rt: &R) -> IoResult<Vec<String>> {
         words.push(word)?;
     }
     Ok(words)
-}
-
-/// An open file, or a part of an image, which flushing writes to the disk.
-#[derive(Drop)]
-pub struct Opened {
-    file: File,
-    is_part: bool,
-}
-
-impl Read for Opened {
-    fn read(&mut self, buf: &mut [u8]) -> IoResult<usize> {
-        self.file.read(buf)
-    }
-}
-
-impl Write for Opened {
-    fn write(&mut self, buf: &[u8]) -> IoResult<usize> {
-        self.file.write(buf)
-    }
-
-    fn flush(&mut self) -> IoResult<()> {
-        self.file.flush()?;
-        if self.is_part {
-            self.file.sync_all()?;
-        }
-        Ok(())
-    }
 }
 
 /// The machine on which a program runs.
@@ -131,21 +105,47 @@ impl Machine<'_> {
         }
         false
     }
+
+    /// Gives a file a name that nothing has. On a file system without links an empty file takes the name first.
+    fn take_name(&self, from: &str, to: &str) -> IoResult<()> {
+        match fs::hard_link(self.rt, from, to) {
+            Ok(()) => {
+                let _ = fs::remove_file(self.rt, from);
+                return Ok(());
+            }
+            Err(error) if error.kind() == ErrorKind::AlreadyExists => return Err(error),
+            Err(_) => {}
+        }
+        drop(File::create_new(self.rt, to)?);
+        fs::rename(self.rt, from, to)
+    }
+
+    /// Writes to the disk which names the directory of a file has. A file system that cannot is left alone.
+    fn sync_directory(&self, name: &str) {
+        let directory = match name.rsplit_once('/') {
+            Some(("", _)) => "/",
+            Some((directory, _)) => directory,
+            None => ".",
+        };
+        if let Ok(directory) = fs::open(self.rt, directory) {
+            let _ = directory.sync_all();
+        }
+    }
 }
 
 impl<'a> Devices for Machine<'a> {
-    type Input = Stdin;
+    type Input = Retried<Stdin>;
 
-    type Output = Stdout;
+    type Output = Retried<Stdout>;
 
-    type File = Opened;
+    type File = Retried<File>;
 
-    fn input(&self) -> Stdin {
-        self.rt.stdin()
+    fn input(&self) -> Retried<Stdin> {
+        Retried::of(self.rt.stdin())
     }
 
-    fn output(&self) -> Stdout {
-        self.rt.stdout()
+    fn output(&self) -> Retried<Stdout> {
+        Retried::of(self.rt.stdout())
     }
 
     fn is_input_terminal(&self) -> bool {
@@ -156,11 +156,15 @@ impl<'a> Devices for Machine<'a> {
         self.rt.stdout().is_terminal()
     }
 
-    fn open(&self, name: &str) -> IoResult<Opened> {
-        Ok(Opened {
-            file: fs::open(self.rt, name)?,
-            is_part: false,
-        })
+    fn open(&self, name: &str) -> IoResult<Retried<File>> {
+        Ok(Retried::of(fs::open(self.rt, name)?))
+    }
+
+    fn size(&self, source: Option<&str>) -> Option<u64> {
+        match fs::metadata(self.rt, source.unwrap_or(STANDARD_INPUT)) {
+            Ok(found) if found.is_file() => Some(found.len()),
+            _ => None,
+        }
     }
 
     fn destination(&self, name: &str, source: Option<&str>) -> Destination {
@@ -174,12 +178,10 @@ impl<'a> Devices for Machine<'a> {
         }
     }
 
-    fn open_device(&mut self, name: &str) -> IoResult<Opened> {
+    fn open_device(&mut self, name: &str) -> IoResult<Retried<File>> {
         // a stream that is a file continues at its end, where a shell's `>` or `>>` leaves it
-        Ok(Opened {
-            file: OpenOptions::new().append(true).open(self.rt, name)?,
-            is_part: false,
-        })
+        let file = OpenOptions::new().append(true).open(self.rt, name)?;
+        Ok(Retried::of(file))
     }
 
     fn run_number(&self) -> u64 {
@@ -191,7 +193,7 @@ impl<'a> Devices for Machine<'a> {
         process << 32 | clock
     }
 
-    fn create(&mut self, name: &str, like: &str) -> IoResult<Opened> {
+    fn create(&mut self, name: &str, like: &str) -> IoResult<Retried<File>> {
         let file = match fs::metadata(self.rt, like) {
             Ok(found) if found.is_file() => {
                 let mode = found.mode() & 0o777;
@@ -205,14 +207,20 @@ impl<'a> Devices for Machine<'a> {
             }
             _ => File::create_new(self.rt, name)?,
         };
-        Ok(Opened {
-            file,
-            is_part: true,
-        })
+        Ok(Retried::of(file))
     }
 
-    fn rename(&mut self, from: &str, to: &str) -> IoResult<()> {
-        fs::rename(self.rt, from, to)
+    fn sync(&mut self, part: &mut Part<Retried<File>>) -> IoResult<()> {
+        part.file.inner().sync_all()
+    }
+
+    fn rename(&mut self, from: &str, to: &str, existing: Existing) -> IoResult<()> {
+        match existing {
+            Existing::Replaced => fs::rename(self.rt, from, to)?,
+            Existing::Kept => self.take_name(from, to)?,
+        }
+        self.sync_directory(to);
+        Ok(())
     }
 
     fn remove(&mut self, name: &str) -> IoResult<()> {

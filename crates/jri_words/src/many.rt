@@ -63,6 +63,9 @@ const STREAM: &str = "-";
 /// The text if standard input is to be decoded.
 const NAMELESS: &str = "standard input has no name for its image; a file named - is ./-\n";
 
+/// The text if the directory has no name, as that of an unset variable.
+const NO_DIRECTORY: &str = "--output-dir is empty; the current directory is .\n";
+
 /// Returns what parsed arguments ask for.
 fn request_in(alloc: Global, matches: &ArgMatches<'_>) -> Result<ManyRequest, Unasked>
     ensures some { IfOk result (λ r. 1 ≤ r.workers) }
@@ -74,6 +77,9 @@ fn request_in(alloc: Global, matches: &ArgMatches<'_>) -> Result<ManyRequest, Un
     let Some(directory) = matches.get_str("output-dir") else {
         return Err(wrong(alloc, ""));
     };
+    if directory.is_empty() {
+        return Err(wrong(alloc, NO_DIRECTORY));
+    }
     let files = strings_of(alloc, matches, "files")?;
     if files.iter().any(|file| file.as_str() == STREAM) {
         return Err(wrong(alloc, NAMELESS));

@@ -1,11 +1,11 @@
 //! What the arguments of a run ask for, the answer if that is nothing, and the source that they name.
 
-ghost use Rattle.std.specs.Prelude.{◌≡◌, ◌≤◌, IfOk, map};
+ghost use Rattle.std.specs.Prelude.{◌≡◌, ◌≤◌, IfOk, IfErr, IsErr, map, false};
 ghost use Rattle.std.specs.String.{string_bytes};
 ghost use Rattle.jr_base.specs.declared.limits.TheConstants.{MAX_WORKERS};
 ghost use Rattle.jr_base.specs.Tally.{has_failed};
-ghost use Rattle.jri_words.specs.CommandLine.{IsTargetOf};
-ghost use Rattle.jri_words.specs.Status.{answered_status};
+ghost use Rattle.jri_words.specs.CommandLine.{IsTargetOf, is_taken};
+ghost use Rattle.jri_words.specs.Status.{AsksForHelp, answered_status};
 
 use crate::answers::{Asked, DecodeRequest, Target, Unasked};
 use crate::asking::decode_request;
@@ -38,7 +38,9 @@ const OTHER_ENDING: &str =
 const OTHER_ENDINGS: [&str; 8] = ["png", "jpg", "jpeg", "gif", "webp", "tif", "tiff", "bmp"];
 
 /// Returns a text as that of wrong arguments.
-pub fn wrong(alloc: Global, text: &str) -> Unasked {
+pub fn wrong(alloc: Global, text: &str) -> Unasked
+    ensures { AsksForHelp result → ⊥ }
+{
     match String::from_str(alloc, text) {
         Ok(text) => Unasked::Wrong(text),
         Err(_) => Unasked::Memory,
@@ -46,7 +48,9 @@ pub fn wrong(alloc: Global, text: &str) -> Unasked {
 }
 
 /// Returns the reason why there are no arguments.
-fn unread(alloc: Global, error: &Error) -> Unasked {
+fn unread(alloc: Global, error: &Error) -> Unasked
+    ensures { AsksForHelp result → ⊥ }
+{
     if error.kind() == ErrorKind::OutOfMemory {
         return Unasked::Memory;
     }
@@ -108,6 +112,7 @@ fn request_on<D: Devices>(
     ensures some { IfOk result (λ r. 1 ≤ r.asked.workers) }
     ensures few { IfOk result (λ r. r.asked.workers ≤ MAX_WORKERS) }
     ensures target { IfOk result (λ r. IsTargetOf (map string_bytes words.now) r.asked.target) }
+    ensures help { IfErr result (λ unasked. AsksForHelp unasked → is_taken (map string_bytes words.now) ≡ false) }
 {
     if has_outfile(words) {
         return Err(wrong(alloc, NO_OUTFILE));
@@ -131,6 +136,9 @@ pub fn understood<D: Devices>(
     ensures some { IfOk result (λ r. 1 ≤ r.asked.workers) }
     ensures few { IfOk result (λ r. r.asked.workers ≤ MAX_WORKERS) }
     ensures target { IfOk result (λ r. IfOk words (λ given. IsTargetOf (map string_bytes given.items) r.asked.target)) }
+    ensures help { IfErr result (λ unasked. AsksForHelp unasked → IfOk words (λ given. is_taken (map string_bytes given.items) ≡ false)) }
+    ensures unread { IfErr words (λ _. IfErr result (λ unasked. AsksForHelp unasked → ⊥)) }
+    ensures unasked { IfErr words (λ _. IsErr result) }
 {
     match words {
         Ok(words) => request_on(alloc, devices, &words),

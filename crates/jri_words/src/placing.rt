@@ -2,9 +2,9 @@
 
 ghost use Rattle.std.specs.Prelude.{IfOk, IfErr, List, ◌∷◌, [], ◌≡◌, is_ok, false};
 ghost use Rattle.std.specs.String.{string_bytes};
-ghost use Rattle.jri_words.specs.Steps.{Step, Created, Renamed, Removed, Follow};
+ghost use Rattle.jri_words.specs.Steps.{Step, Created, Synced, Removed, Removes, Follow, placed};
 
-use crate::devices::Devices;
+use crate::devices::{Devices, Existing, Part};
 use crate::ending::Ending;
 use jr_picture::Fault;
 use std::alloc::{AllocError, Global};
@@ -12,15 +12,6 @@ use std::io::{Error, ErrorKind};
 
 /// Maximum number of names that are tried for a part.
 const MAX_PARTS: u32 = 1000;
-
-/// A new file in the directory of another.
-#[derive(Drop)]
-pub struct Part<F> {
-    /// The open file.
-    pub file: F,
-    /// Its name.
-    pub name: String,
-}
 
 /// Returns the name of a part of this run, in the directory of the file that it is to be.
 fn part_name(alloc: Global, name: &str, run: u64, number: u32) -> Result<String, AllocError> {
@@ -67,21 +58,32 @@ pub fn make_part<D: Devices>(
     Err(unwritten(Error::from(ErrorKind::AlreadyExists)))
 }
 
-/// Gives a part the name of its file if it is a whole image; otherwise removes it.
-pub fn place<D: Devices>(devices: &mut D, ending: Ending, part: &str, name: &str) -> Ending
-    ensures placed { IfOk result.outcome (λ _. Follow (D.steps devices.old) (D.steps devices.new) (Renamed part.now name.now ∷ [])) }
-    ensures removed { IfErr result.outcome (λ _. Follow (D.steps devices.old) (D.steps devices.new) (Removed part.now ∷ [])) }
+/// Writes a part to the disk and gives it the name of its file if it is a whole image; otherwise removes it.
+pub fn place<D: Devices>(
+    devices: &mut D,
+    ending: Ending,
+    part: Part<D::File>,
+    name: &str,
+    existing: Existing,
+) -> Ending
+    ensures placed { IfOk result.outcome (λ _. Follow (D.steps devices.old) (D.steps devices.new) (Synced (string_bytes part.name) ∷ placed existing (string_bytes part.name) name.now ∷ [])) }
+    ensures removed { IfErr result.outcome (λ _. Removes (string_bytes part.name) (D.steps devices.old) (D.steps devices.new)) }
     ensures picture { IfOk result.outcome (λ report. ending.outcome ≡ Ok report) }
     ensures fault { IfErr ending.outcome (λ fault. result.outcome ≡ Err fault) }
 {
+    let mut part = part;
     if ending.outcome.is_err() {
-        let _ = devices.remove(part);
+        let _ = devices.remove(part.name.as_str());
         return ending;
     }
-    match devices.rename(part, name) {
+    let placed = match devices.sync(&mut part) {
+        Ok(()) => devices.rename(part.name.as_str(), name, existing),
+        Err(error) => Err(error),
+    };
+    match placed {
         Ok(()) => ending,
         Err(error) => {
-            let _ = devices.remove(part);
+            let _ = devices.remove(part.name.as_str());
             unwritten(error)
         }
     }

@@ -67,6 +67,7 @@ pub fn quality_of(head: &Head) -> Option<u32>
     ensures some { IfSome result (HasQuality head.now) }
     ensures none { IfNone result ((q : ℕ) → 1 ≤ q → q ≤ 100 → HasQuality head.now q → ⊥) }
     ensures within { IfSome result (λ q. (1 ≤ q) × (q ≤ 100)) }
+    ensures least { IfSome result (λ q. (lower : ℕ) → 1 ≤ lower → lower < q → HasQuality head.now lower → ⊥) }
 {
     head.assert_invariant();
     let table = head.quantiser(0);

@@ -1,9 +1,10 @@
-use Rattle.std.proofs.Common.{◌≡◌, ℕ, Bool, List, [], ◌∷◌, ◌++◌, Result, Err, refl, subst, sym}
+use Rattle.std.proofs.Common.{ℕ, Bool, List, [], ◌∷◌, ◌++◌, Result, Err, refl, subst, sym}
 use Rattle.std.specs.String.{string_bytes}
 use Rattle.jr_picture.specs.declared.report.Report.{Report}
 use Rattle.jr_picture.specs.declared.report.Fault.{Fault}
 use Rattle.jr_picture.specs.declared.report.Fault.TheVariants as fault
-use Rattle.jri_words.specs.Steps.{IsInDirectory, LeavesFile, is_picture_status}
+use Rattle.jri_words.specs.declared.devices.Existing.TheVariants.{Kept}
+use Rattle.jri_words.specs.Steps.{IsInDirectory, LeavesFile}
 use Rattle.jri_words.proofs.StepLemmas.{none_yet, status_tells, undone}
 use Rattle.jri_engine.proofs.many.decode_one.Goals as goal
 
@@ -13,8 +14,8 @@ returns-in_default g c =
     let directory = string_bytes c.args.request.now.directory in
     let outcome : Result Report Fault = Err fault.Memory in
     let told = status_tells outcome c.report_ending.result c.report_ending.ensures.written c.report_ending.ensures.fault in
-    let left = undone (λ _. ⊥) (directory ++ 47 ∷ []) old old outcome (none_yet old) refl in
-    (directory ++ 47 ∷ [], ([], refl), subst (λ (b : Bool). LeavesFile (λ _. ⊥) (directory ++ 47 ∷ []) old old b) (sym told) left)
+    let left = undone (λ _. ⊥) Kept (directory ++ 47 ∷ []) old old outcome (none_yet old) refl in
+    (directory ++ 47 ∷ [], ([], refl), subst (λ (b : Bool). LeavesFile (λ _. ⊥) Kept (directory ++ 47 ∷ []) old old b) (sym told) left)
 
 pub returns : goal.returns
 returns g c =
@@ -25,4 +26,4 @@ returns g c =
     subst (λ (n : List ℕ). IsInDirectory (string_bytes c.args.request.now.directory) n) (sym c.as_str-2.ensures.value)
     (subst (λ (d : List ℕ). IsInDirectory d (string_bytes c.in-Ok.image)) c.as_str.ensures.value c.in-Ok.ensures) in
     let told = status_tells c.decode_into_new-ending.result.outcome c.report_ending-2.result c.report_ending-2.ensures.written c.report_ending-2.ensures.fault in
-    (name, is_in, subst (λ (b : Bool). LeavesFile (λ _. ⊥) name old new b) (sym told) c.decode_into_new-ending.ensures)
+    (name, is_in, subst (λ (b : Bool). LeavesFile (λ _. ⊥) Kept name old new b) (sym told) c.decode_into_new-ending.ensures)

@@ -1,17 +1,14 @@
-use Rattle.std.proofs.Common.{rules, ℕ, List, [], ◌∷◌, subst, sym}
-use Rattle.jri_words.specs.Steps.{Created, Follow}
-use Rattle.jri_words.proofs.StepLemmas.{placed, undone}
+use Rattle.std.proofs.Common.{rules}
+use Rattle.std.specs.String.{string_bytes}
+use Rattle.jri_words.proofs.StepLemmas.{ended, undone}
 use Rattle.jri_engine.proofs.running.decode_to_part.Goals as goal
 
 pub returns : goal.returns
 returns g c =
-    let old = g.D.Devices.steps c.args.devices.now in
-    let made = g.D.Devices.steps c.make_part.new.devices in
-    let part = c.as_str.result.now in
-    let is_made : Follow old made (Created part ∷ []) = subst (λ (l : List ℕ). Follow old made (Created l ∷ [])) (sym c.as_str.ensures.value) c.in-Ok.ensures.made in
-    let fact = placed (λ _. ⊥) c.args.name.now part old made (g.D.Devices.steps c.place.new.devices) c.place.result.outcome is_made in
-    search (rules, fact, c.place.ensures.placed, c.place.ensures.removed)
+    let steps = g.D.Devices.steps in
+    ended (λ _. ⊥) c.args.image.existing c.args.image.name.now (string_bytes c.in-Ok.part.name) (steps c.args.devices.now) (steps c.make_part.new.devices) (steps c.place.new.devices) c.place.result.outcome
+    c.in-Ok.ensures.made c.place.ensures.placed c.place.ensures.removed
 
 pub returns-in-Err : goal.returns-in-Err
 returns-in-Err g c =
-    undone (λ _. ⊥) c.args.name.now _ _ c.in-Err.ending.outcome (search (rules, c.in-Err.ensures.none)) (search (rules, c.in-Err.ensures.unwritten))
+    undone (λ _. ⊥) c.args.image.existing c.args.image.name.now _ _ c.in-Err.ending.outcome (search (rules, c.in-Err.ensures.none)) (search (rules, c.in-Err.ensures.unwritten))

@@ -1,9 +1,11 @@
-use Rattle.std.proofs.Common.{rules, ◌≡◌, ◌⊎◌, inl, inr, Bool, false, List, [], ℕ, Option, is_ok, subst, sym}
+use Rattle.std.proofs.Common.{rules, ◌≡◌, ◌⊎◌, inl, inr, Bool, false, List, [], ℕ, Option, Result, IfErr, IsErr, is_ok, subst, sym}
+use Rattle.std.proofs.lemmas.Result.{IfOk-weaker}
 use Rattle.jri_words.specs.declared.answers.Target.{Target}
 use Rattle.jri_words.specs.declared.answers.Target.TheVariants as target
 use Rattle.jri_words.specs.declared.ending.Ending.{Ending}
-use Rattle.jri_words.specs.Steps.{Follow, Leaves, Step}
+use Rattle.jri_words.specs.Steps.{Follow, Leaves, Step, is_picture_status}
 use Rattle.jri_words.proofs.StepLemmas.{none_yet, status_tells}
+use Rattle.jri_engine.proofs.DecodingLemmas.{never}
 use Rattle.jri_engine.proofs.running.program.Goals as goal
 use Rattle.jri_engine.proofs.running.program.Goals.{in-Ok-opened+in-File, in-Ok-opened+in-Output, in-Err-opened}
 
@@ -17,8 +19,8 @@ without_input are_devices target.Output a b p = p
 without_input are_devices target.AnyOutput a b p = p
 without_input are_devices (target.File name) a b p = inl p
 
-pub returns : goal.returns
-returns g c =
+pub returns-clause-named : goal.returns-clause-named
+returns-clause-named g c =
     let steps = g.D.Devices.steps in
     let old = steps c.args.devices.now in
     let new = steps c.match-opened.devices in
@@ -30,4 +32,11 @@ returns g c =
       | in-Ok-opened+in-Output w ↦ to_output are_devices target old new (is_ok c.match-opened.ending.outcome) w.in-Output.is (rw w.devices-is (none_yet old))
       | in-Err-opened w ↦ subst (λ (e : Ending). Leaves are_devices target old new (is_ok e.outcome)) (sym w.ending-is) (without_input are_devices target old new (rw w.devices-is (none_yet old)))
     ] in
-    inr (target, c.in-Ok.ensures.target, subst (λ (b : Bool). Leaves are_devices target old new b) (sym told) left)
+    let named : Leaves are_devices target old new (is_picture_status c.report_ending-status.result) = subst (λ (b : Bool). Leaves are_devices target old new b) (sym told) left in
+    IfOk-weaker c.args.words _ _ (λ given is. inr (target, is, named)) c.in-Ok.ensures.target
+
+pub returns-clause-untouched : goal.returns-clause-untouched
+returns-clause-untouched g c = never c.args.words _ (subst (λ (u : Result _ _). IfErr c.args.words (λ _. IsErr u)) c.in-Ok.is c.understood.ensures.unasked)
+
+pub returns-clause-unread : goal.returns-clause-unread
+returns-clause-unread g c = never c.args.words _ (subst (λ (u : Result _ _). IfErr c.args.words (λ _. IsErr u)) c.in-Ok.is c.understood.ensures.unasked)

@@ -1,9 +1,9 @@
-use Rattle.std.proofs.Common.{Option, codes, map, ap, subst, ◌∙◌}
+use Rattle.std.proofs.Common.{rules, Option, codes, map, ap, subst, ◌∙◌}
 use Rattle.std.specs.String.{string_bytes}
 use Rattle.std.proofs.lemmas.Result.{IfOk-weaker}
 use Rattle.clap.specs.Words.{Text, app_of, first_value, found_of}
 use Rattle.jri_words.specs.CommandLine.{IsFlag, IsTarget, file_named, reading}
-use Rattle.jri_words.proofs.CommandLemmas.{found_value, found_reading}
+use Rattle.jri_words.proofs.CommandLemmas.{found_value, found_reading, untaken}
 use Rattle.jri_words.proofs.asking.decode_request.Goals as goal
 
 pub returns-in-Ok-clause-file : goal.returns-in-Ok-clause-file
@@ -37,3 +37,7 @@ pub returns-in-Ok-clause-resync : goal.returns-in-Ok-clause-resync
 returns-in-Ok-clause-resync c =
     let value = found_reading c.in-Ok.matches (app_of c.in_ok-command.field-0) (map string_bytes c.args.words.now) c.in_ok-command.ensures c.in-Ok.ensures.matches (codes "resync") in
     IfOk-weaker c.request_in.result _ _ (λ r h. subst (λ (t : Option Text). IsFlag t r.is_resync) value h) c.request_in.ensures.resync
+
+pub returns-in-Err-clause-help : goal.returns-in-Err-clause-help
+returns-in-Err-clause-help c =
+    untaken (app_of c.in_ok-command.field-0) (map string_bytes c.args.words.now) c.in-Err.error c.refusal.result c.in_ok-command.ensures c.in-Err.ensures.passes c.refusal.ensures
