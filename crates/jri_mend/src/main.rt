@@ -2,18 +2,7 @@
 //! interval from a copy in which it is sound.
 #![tactic(auto)]
 
-mod asking;
-mod breaks;
-mod ended;
-mod headers;
-mod preparing;
-mod reading;
-mod report;
-mod running;
-mod runs;
-
-use crate::ended::Ended;
-use crate::running::program;
+use jri_mending::{Ended, program};
 use jri_words::{Machine, arguments, hold_streams};
 
 fn main(rt: HostRuntime) -> Ended {

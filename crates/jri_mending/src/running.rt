@@ -13,8 +13,8 @@ use jr_base::{Printable, Tally};
 use jr_mend::{FileCopy, MendError, Mended, mend};
 use jr_picture::{Fault, Report};
 use jri_words::{
-    Destination, Devices, Ending, Noted, Target, Unasked, answer, flushed, make_part, place,
-    unwritten, wrong,
+    Destination, Devices, Ending, Existing, Noted, Part, Target, Unasked, answer, flush_written,
+    make_part, place, unwritten, wrong,
 };
 use std::alloc::Global;
 use std::io::{ErrorKind, Result as IoResult, Write};
@@ -71,19 +71,29 @@ fn requested<D: Devices>(
     }
 }
 
-/// Writes a file to an output, which is flushed and dropped.
-fn write_out<W: Write + Drop>(out: W, file: &[u8], report: Report) -> Ending {
-    let mut output = Tally::of(Noted::of(out));
+/// How the writing of a file ended, and the output.
+#[derive(Drop)]
+struct WrittenOut<W> {
+    ending: Ending,
+    out: W,
+}
+
+/// Writes a file to an output, which is flushed.
+fn write_out<W: Write + Drop>(out: W, file: &[u8], report: Report) -> WrittenOut<W> {
+    let mut output = Noted::of(out);
     let written = match output.write_all(file) {
         Ok(()) => Ok(report),
         Err(_) => Err(Fault::Write),
     };
-    let outcome = flushed(written, &mut output);
+    let outcome = flush_written(written, &mut output);
     let reason = match outcome {
-        Err(_) => output.into_inner().reason(),
+        Err(_) => output.reason(),
         Ok(_) => None,
     };
-    Ending { outcome, reason }
+    WrittenOut {
+        ending: Ending { outcome, reason },
+        out: output.into_inner(),
+    }
 }
 
 /// Writes a part, which takes the name of a file if it is whole, and is otherwise removed.
@@ -94,14 +104,22 @@ fn write_part<D: Devices>(
     report: Report,
     name: &str,
 ) -> Ending
-    ensures { LeavesFile (λ _. ⊥) name.now (D.steps devices.old) (D.steps devices.new) (is_ok result.outcome) }
+    ensures { LeavesFile (λ _. ⊥) Existing.Replaced name.now (D.steps devices.old) (D.steps devices.new) (is_ok result.outcome) }
 {
     let part = match make_part(alloc, devices, name) {
         Ok(part) => part,
         Err(ending) => return ending,
     };
-    let ending = write_out(part.file, file, report);
-    place(devices, ending, part.name.as_str(), name)
+    let Part {
+        file: out,
+        name: part,
+    } = part;
+    let WrittenOut { ending, out } = write_out(out, file, report);
+    let part = Part {
+        file: out,
+        name: part,
+    };
+    place(devices, ending, part, name, Existing::Replaced)
 }
 
 /// Writes a file, which is replaced once it is whole, or into a device.
@@ -112,11 +130,11 @@ fn write_file<D: Devices>(
     report: Report,
     name: &str,
 ) -> Ending
-    ensures { LeavesFile (D.are_devices devices.old) name.now (D.steps devices.old) (D.steps devices.new) (is_ok result.outcome) }
+    ensures { LeavesFile (D.are_devices devices.old) Existing.Replaced name.now (D.steps devices.old) (D.steps devices.new) (is_ok result.outcome) }
 {
     if let Destination::WrittenInto = devices.destination(name, None) {
         return match devices.open_device(name) {
-            Ok(device) => write_out(device, file, report),
+            Ok(device) => write_out(device, file, report).ending,
             Err(error) => unwritten(error),
         };
     }
@@ -132,7 +150,7 @@ fn write_mended<D: Devices>(
     report: Report,
 ) -> Ending {
     match target {
-        Target::Output | Target::AnyOutput => write_out(devices.output(), file, report),
+        Target::Output | Target::AnyOutput => write_out(devices.output(), file, report).ending,
         Target::File(name) => write_file(alloc, devices, file, report, name.as_str()),
     }
 }
@@ -269,7 +287,7 @@ fn mend_files<D: Devices, E: Write>(
 /// Does what the program's arguments ask for on these devices, and reports it. The status is 0 if each interval is
 /// sound, 1 if one is damaged in all copies, 2 for wrong arguments and copies of another file, 3 for copies that are
 /// not read, 4 for memory and the output.
-pub(crate) fn program<D: Devices, E: Write>(
+pub fn program<D: Devices, E: Write>(
     alloc: Global,
     devices: &mut D,
     words: IoResult<Vec<String>>,

@@ -8,8 +8,17 @@ use std::process::{ExitCode, Termination};
 
 /// The end of the program.
 #[derive(Drop)]
-pub(crate) struct Ended {
+pub struct Ended {
     pub(crate) status: u8,
+}
+
+impl Ended {
+    /// Returns the exit status.
+    pub fn status(&self) -> u8
+        ensures { result ≡ self.now.status }
+    {
+        self.status
+    }
 }
 
 impl Termination for Ended {

@@ -1,0 +1,15 @@
+//! What `jri_mend` does: it reads damaged copies of a file, mends them, and reports.
+#![tactic(auto)]
+
+mod asking;
+mod breaks;
+mod ended;
+mod headers;
+mod preparing;
+mod reading;
+mod report;
+mod running;
+mod runs;
+
+pub use ended::Ended;
+pub use running::program;
