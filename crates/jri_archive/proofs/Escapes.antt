@@ -7,7 +7,7 @@ use Rattle.std.proofs.lemmas.List.{append-nil, take_more, take_all, take-take, m
 use Rattle.std.proofs.lemmas.Bool.{cases_lt}
 use Rattle.std.proofs.lemmas.Nat.{div-add-mod'}
 use Rattle.std.proofs.lemmas.List.Concat.{flat_map-append}
-use Rattle.jri_archive.specs.Escapes.{NamePart, IsNamePart, spelt, byte_spelt, digit_of, IsEscaped}
+use Rattle.jri_archive.specs.Escapes.{NamePart, IsNamePart, IsPlainByte, spelt, byte_spelt, digit_of, IsEscaped}
 use Rattle.jri_archive.specs.Escapes.NamePart.{Plain, Number}
 
 all_push : (parts : List NamePart) (p : NamePart) → AllByRecursion IsNamePart parts → IsNamePart p → AllByRecursion IsNamePart (parts ++ p ∷ [])
@@ -27,7 +27,7 @@ escaped_more text name p r is = record {
 }
 
 -- the first n of some bytes, none of which is a backslash
-pub escaped_run : (text name more : List ℕ) (n : ℕ) → n ≤ length more → ((k : ℕ) → k < n → get_or more k 0 ≢ 92) → IsEscaped text name → IsEscaped (text ++ take n more) (name ++ take n more)
+pub escaped_run : (text name more : List ℕ) (n : ℕ) → n ≤ length more → ((k : ℕ) → k < n → IsPlainByte (get_or more k 0)) → IsEscaped text name → IsEscaped (text ++ take n more) (name ++ take n more)
 escaped_run text name more zero room plain r = subst (λ (x : List ℕ). IsEscaped x (name ++ [])) (sym (append-nil text)) (subst (IsEscaped text) (sym (append-nil name)) r)
 escaped_run text name more (suc n) room plain r =
     let before = escaped_run text name more n (omega arith) (λ k lt. plain k (omega arith)) r in
@@ -43,7 +43,7 @@ escaped_run text name more (suc n) room plain r =
 abbrev pub Puts : (line new name : List ℕ) → (at : ℕ) → Type 0
 Puts line new name at = (at ≤ length name) × ((text : List ℕ) × (new ≡ line ++ text) × IsEscaped text (take at name))
 
-pub put_run : (line new newer name run rest : List ℕ) (at count : ℕ) → rest ≡ take (length name - at) (drop at name) → count ≤ length rest → ((k : ℕ) → k < count → get_or rest k 0 ≢ 92)
+pub put_run : (line new newer name run rest : List ℕ) (at count : ℕ) → rest ≡ take (length name - at) (drop at name) → count ≤ length rest → ((k : ℕ) → k < count → IsPlainByte (get_or rest k 0))
     → length run ≤ length (take count rest) → run ≡ take (length run) (take count rest) → newer ≡ new ++ run → Puts line new name at → Puts line newer name (at + length run)
 put_run line new newer name run rest at count cut room plain few is wrote p =
     let n = length run in
@@ -88,8 +88,8 @@ same_byte b c d m = omega (arith, div-add-mod' b 16, div-add-mod' c 16, ap (λ (
 
 same_part : (p q : NamePart) (x y : List ℕ) → IsNamePart p → IsNamePart q → spelt p ++ x ≡ spelt q ++ y → (p ≡ q) × (x ≡ y)
 same_part (Plain a) (Plain b) x y hp hq e = let h : a ≡ b = cc in (ap Plain h, cc)
-same_part (Plain a) (Number b) x y hp hq e = let h : a ≡ 92 = cc in absurd (hp h)
-same_part (Number a) (Plain b) x y hp hq e = let h : b ≡ 92 = cc in absurd (hq h)
+same_part (Plain a) (Number b) x y hp hq e = let h : a ≡ 92 = cc in absurd (hp.no_backslash h)
+same_part (Number a) (Plain b) x y hp hq e = let h : b ≡ 92 = cc in absurd (hq.no_backslash h)
 same_part (Number a) (Number b) x y hp hq e =
     let high : digit_of (a / 16) ≡ digit_of (b / 16) = cc in
     let low : digit_of (a % 16) ≡ digit_of (b % 16) = cc in

@@ -1,5 +1,5 @@
 -- A name as the text of a JSON string, from which it comes back.
-use Rattle.std.specs.Prelude.{◌≡◌, ◌≢◌, ℕ, ◌+◌, ◌/◌, ◌%◌, ◌<◌, List, [], ◌∷◌, map, nat_lt, if◌then◌else◌}
+use Rattle.std.specs.Prelude.{◌≡◌, ◌≢◌, ℕ, ◌+◌, ◌/◌, ◌%◌, ◌<◌, ◌≤◌, List, [], ◌∷◌, map, nat_lt, if◌then◌else◌}
 use Rattle.std.specs.List.{flat_map, AllByRecursion}
 
 -- a byte as it is, or by its number
@@ -18,9 +18,16 @@ first_of b = if nat_lt b 128 then 48 else 100
 abbrev pub second_of : ℕ → ℕ
 second_of b = if nat_lt b 128 then 48 else 99
 
--- a backslash is written by its number alone
+-- A byte that a JSON string may have as it is: no control, quotation mark or backslash (RFC 8259, section 7); nor DEL, which terminals act on.
+pub record IsPlainByte (b : ℕ) : Type 0 where
+  pub printable : 32 ≤ b
+  pub no_quote : b ≢ 34
+  pub no_backslash : b ≢ 92
+  pub no_delete : b ≢ 127
+
+-- all other bytes are written by their numbers alone
 abbrev pub IsNamePart : NamePart → Type 0
-IsNamePart (Plain b) = b ≢ 92
+IsNamePart (Plain b) = IsPlainByte b
 IsNamePart (Number b) = b < 256
 
 -- \u and four digits

@@ -1,8 +1,8 @@
 //! Names as JSON strings.
 
-ghost use Rattle.std.specs.Prelude.{◌≡◌, ◌≢◌, ℕ, ◌<◌, ◌≤◌, ◌++◌, ◌∷◌, List, [], length, take, slice_index, IfOk, false};
+ghost use Rattle.std.specs.Prelude.{◌≡◌, ℕ, ◌<◌, ◌≤◌, ◌++◌, ◌∷◌, List, [], length, take, slice_index, IfOk, false};
 ghost use Rattle.std.specs.String.{string_bytes};
-ghost use Rattle.jri_archive.specs.Escapes.{IsEscaped, digit_of, spelt};
+ghost use Rattle.jri_archive.specs.Escapes.{IsEscaped, IsPlainByte, digit_of, spelt};
 ghost use Rattle.jri_archive.specs.Escapes.NamePart.{Number};
 
 use std::alloc::AllocError;
@@ -12,7 +12,7 @@ const BACKSLASH: u8 = b'\\';
 
 /// Returns whether a byte of text is escaped in a JSON string, or may move the cursor of a terminal.
 fn is_special(byte: u8) -> bool
-    ensures { result ≡ false → byte ≢ 92 }
+    ensures { result ≡ false → IsPlainByte byte }
 {
     byte < b' ' || byte == b'"' || byte == BACKSLASH || byte == 0x7F
 }
@@ -20,7 +20,7 @@ fn is_special(byte: u8) -> bool
 /// Returns the number of bytes at the start that are not special.
 fn plain_count(bytes: &[u8]) -> usize
     ensures within { result ≤ length bytes.now }
-    ensures plain { (k : ℕ) → k < result → slice_index bytes.now k ≢ 92 }
+    ensures plain { (k : ℕ) → k < result → IsPlainByte (slice_index bytes.now k) }
 {
     let mut count = 0;
     for byte in bytes {
