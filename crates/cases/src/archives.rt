@@ -234,8 +234,8 @@ fn compare_run<R: Threads + Wait + Sync>(
     let (mut written, mut told) = (Vec::new(out.alloc), Vec::new(out.alloc));
     let status = make(rt, out.alloc, run, &mut written, &mut told)?;
     out.compare_numbers(options, wanted, u64::from(status));
-    compare_field(options, field(line, 2), written.as_slice(), out);
-    compare_field(options, field(line, 4), told.as_slice(), out);
+    compare_field(options, table, field(line, 2), written.as_slice(), out);
+    compare_field(options, table, field(line, 4), told.as_slice(), out);
     Ok(())
 }
 

@@ -1,19 +1,29 @@
-//! Runs of the program over a machine of memory: its lines, its exit status, what it writes and what it leaves in the directory.
+//! Runs of `jri` and of `jri_mend` over a machine of memory: their lines, exit statuses, what they write and leave in the directory.
 
 use crate::differences::Differences;
 use crate::machine::Machine;
 use crate::row::field;
 use crate::texts::put_lines;
 use jri_engine::{
-    Mode, describe_request, many_request, program, program_for_headers, program_for_many,
+    Devices, Mode, describe_request, many_request, program, program_for_headers, program_for_many,
 };
 use std::alloc::{AllocError, Global};
 use std::io::{Error, ErrorKind, Result as IoResult};
+use std::mem::replace;
 use std::sync::Wait;
 use std::thread::Threads;
 use test_files::error::NotationError;
 use test_files::files::file;
 use test_files::pictures::picture;
+
+/// The program that a row runs.
+#[derive(Clone, Copy)]
+pub(crate) enum Program {
+    /// `jri`.
+    Decode,
+    /// `jri_mend`.
+    Mend,
+}
 
 /// Returns the name and the content of what a line of the table with this sign gives.
 pub(crate) fn named_by<'a>(line: &'a str, sign: char) -> Option<(&'a str, &'a str)> {
@@ -27,9 +37,16 @@ fn set(machine: &mut Machine, word: &str) -> Result<(), NotationError> {
         Some(("input", name)) => machine.read_from(name)?,
         Some(("device", name)) => machine.put(name, &[], true)?,
         Some(("old", name)) => machine.put(name, b"old\n", false)?,
+        Some(("meanwhile", name)) => {
+            let name = String::from_str(machine.alloc, name)?;
+            drop(replace(&mut machine.taken_meanwhile, Some(name)));
+        }
+        Some(("size", digits)) => machine.claimed_size = Some(digits.parse::<u64>()?),
         None if word == "reader-gone" => machine.refusal = ErrorKind::BrokenPipe,
         None if word == "no-create" => machine.can_create = false,
         None if word == "no-rename" => machine.can_rename = false,
+        None if word == "no-flush" => machine.can_flush = false,
+        None if word == "no-sync" => machine.can_sync = false,
         None if word == "input-terminal" => machine.has_input_terminal = true,
         None if word == "output-terminal" => machine.has_output_terminal = true,
         _ => return Err(NotationError::Malformed),
@@ -45,6 +62,18 @@ fn put_files(alloc: Global, table: &str, machine: &mut Machine) -> Result<(), No
         }
     }
     Ok(())
+}
+
+/// Returns the bytes of a file of a table.
+fn file_of(alloc: Global, table: &str, wanted: &str) -> Result<Vec<u8>, NotationError> {
+    for line in table.lines() {
+        if let Some((name, words)) = named_by(line, '=')
+            && name == wanted
+        {
+            return file(alloc, words);
+        }
+    }
+    Err(NotationError::Malformed)
 }
 
 /// Changes a machine as a command's settings say.
@@ -69,11 +98,11 @@ fn words_of(alloc: Global, line: &str) -> IoResult<Vec<String>> {
     Ok(words)
 }
 
-/// Runs the program on a machine as `main` does, and returns the exit status.
-fn run_on<R: Threads + Wait + Sync>(
+/// Runs `jri` on a machine as its `main` does, and returns the exit status.
+fn run_on<R: Threads + Wait + Sync, D: Devices>(
     rt: &R,
     alloc: Global,
-    machine: &mut Machine,
+    machine: &mut D,
     words: Vec<String>,
     errors: &mut Vec<u8>,
 ) -> u8 {
@@ -91,22 +120,27 @@ fn run_on<R: Threads + Wait + Sync>(
     ended.status()
 }
 
-/// Runs the program on a machine with the arguments of a command, and returns the exit status.
-fn run<R: Threads + Wait + Sync>(
+/// Runs a program on a machine with the arguments of a command, and returns the exit status.
+pub(crate) fn run<R: Threads + Wait + Sync, D: Devices>(
     rt: &R,
     alloc: Global,
-    machine: &mut Machine,
-    line: &str,
+    command: (Program, &str),
+    machine: &mut D,
     errors: &mut Vec<u8>,
 ) -> u8 {
-    match words_of(alloc, line) {
-        Ok(words) => run_on(rt, alloc, machine, words, errors),
-        Err(error) => program(rt, alloc, machine, Err(error), errors).status(),
+    match (command.0, words_of(alloc, command.1)) {
+        (Program::Mend, words) => jri_mending::program(alloc, machine, words, errors).status(),
+        (Program::Decode, Ok(words)) => run_on(rt, alloc, machine, words, errors),
+        (Program::Decode, Err(error)) => program(rt, alloc, machine, Err(error), errors).status(),
     }
 }
 
-/// Returns the bytes of a field: an image in the notation of images, or lines that are separated by `/`.
-fn content(alloc: Global, field: &str) -> Result<Vec<u8>, NotationError> {
+/// Returns the bytes of a field: an image in the notation of images, those of a file of the table after `@`, or lines that
+/// are separated by `/`.
+pub(crate) fn content(alloc: Global, table: &str, field: &str) -> Result<Vec<u8>, NotationError> {
+    if let Some(wanted) = field.strip_prefix('@') {
+        return file_of(alloc, table, wanted);
+    }
     if field.starts_with("P5 ") || field.starts_with("P6 ") {
         return picture(alloc, field);
     }
@@ -118,11 +152,17 @@ fn content(alloc: Global, field: &str) -> Result<Vec<u8>, NotationError> {
 }
 
 /// Compares bytes with those of a field, if it is not `*`.
-pub(crate) fn compare_field(path: &str, field: &str, found: &[u8], out: &mut Differences) {
+pub(crate) fn compare_field(
+    path: &str,
+    table: &str,
+    field: &str,
+    found: &[u8],
+    out: &mut Differences,
+) {
     if field == "*" {
         return;
     }
-    match content(out.alloc, field) {
+    match content(out.alloc, table, field) {
         Ok(wanted) => out.compare_bytes(path, wanted.as_slice(), found),
         Err(error) => out.fail(error),
     }
@@ -140,13 +180,14 @@ fn compare_file(machine: &Machine, path: &str, wanted: &[u8], out: &mut Differen
 /// Compares the files that a command makes, and returns their number.
 fn compare_made(
     machine: &Machine,
+    table: &str,
     files: &str,
     out: &mut Differences,
 ) -> Result<usize, NotationError> {
     let mut count: usize = 0;
     for made in files.split(';') {
         if let Some((name, field)) = made.split_once(" = ") {
-            let wanted = content(out.alloc, field.trim())?;
+            let wanted = content(out.alloc, table, field.trim())?;
             compare_file(machine, name.trim(), wanted.as_slice(), out);
             count = count.saturating_add(1);
         }
@@ -155,7 +196,7 @@ fn compare_made(
 }
 
 /// Returns whether a file of this name is among those that a command makes.
-fn makes(files: &str, name: &str) -> bool {
+pub(crate) fn makes(files: &str, name: &str) -> bool {
     for made in files.split(';') {
         if let Some((found, _field)) = made.split_once(" = ")
             && found.trim() == name
@@ -189,6 +230,7 @@ fn compare_kept(
 /// Runs a command on a machine, and compares what comes of it.
 fn compare_run<R: Threads + Wait + Sync>(
     rt: &R,
+    program: Program,
     table: &str,
     line: &str,
     machine: &mut Machine,
@@ -199,21 +241,35 @@ fn compare_run<R: Threads + Wait + Sync>(
     set_all(field(line, 1), machine)?;
     let wanted = u64::from(field(line, 3).parse::<u8>()?);
     let mut errors = Vec::new(alloc);
-    let status = run(rt, alloc, machine, field(line, 0), &mut errors);
+    let command = (program, field(line, 0));
+    let status = run(rt, alloc, command, machine, &mut errors);
     out.compare_numbers("status", wanted, u64::from(status));
-    compare_field("standard error", field(line, 2), errors.as_slice(), out);
+    compare_field(
+        "standard error",
+        table,
+        field(line, 2),
+        errors.as_slice(),
+        out,
+    );
     let written = machine.written()?;
-    compare_field("standard output", field(line, 4), written.as_slice(), out);
-    let made = compare_made(machine, field(line, 5), out)?;
+    compare_field(
+        "standard output",
+        table,
+        field(line, 4),
+        written.as_slice(),
+        out,
+    );
+    let made = compare_made(machine, table, field(line, 5), out)?;
     let kept = compare_kept(machine, table, field(line, 5), out)?;
     let (wanted, found) = (made.saturating_add(kept), machine.files.len());
     out.compare_numbers("files", wanted as u64, found as u64);
     Ok(())
 }
 
-/// Checks a row of a table of commands: what a line has after `$`.
+/// Checks a row of a table of commands: what a line has after its sign.
 pub(crate) fn check_command<R: Threads + Wait + Sync>(
     rt: &R,
+    program: Program,
     table: &str,
     line: &str,
     out: &mut Differences,
@@ -221,7 +277,7 @@ pub(crate) fn check_command<R: Threads + Wait + Sync>(
     let Ok(mut machine) = Machine::new(out.alloc) else {
         return out.fail(NotationError::Memory);
     };
-    if let Err(error) = compare_run(rt, table, line, &mut machine, out) {
+    if let Err(error) = compare_run(rt, program, table, line, &mut machine, out) {
         out.fail(error);
     }
 }

@@ -2,7 +2,7 @@
 
 ghost use Rattle.std.specs.Io.{ReadsAtMost};
 
-use jri_engine::{Destination, Devices};
+use jri_engine::{Destination, Devices, Existing, Part};
 use std::alloc::{AllocError, Global};
 use std::cell::RefCell;
 use std::io::{Error, ErrorKind, Read, Result as IoResult, Write};
@@ -19,6 +19,7 @@ pub(crate) struct Handle {
     at: usize,
     room: usize,
     refusal: ErrorKind,
+    can_flush: bool,
 }
 
 /// Reads the bytes starting at an offset.
@@ -63,7 +64,11 @@ impl Write for Handle {
     }
 
     fn flush(&mut self) -> IoResult<()> {
-        Ok(())
+        if self.can_flush {
+            Ok(())
+        } else {
+            Err(Error::from(self.refusal))
+        }
     }
 }
 
@@ -78,7 +83,7 @@ pub(crate) struct Named {
 /// The machine.
 #[derive(Drop)]
 pub(crate) struct Machine {
-    alloc: Global,
+    pub(crate) alloc: Global,
     input: Bytes,
     output: Bytes,
     pub(crate) files: Vec<Named>,
@@ -90,6 +95,12 @@ pub(crate) struct Machine {
     pub(crate) refusal: ErrorKind,
     pub(crate) can_rename: bool,
     pub(crate) can_create: bool,
+    pub(crate) can_flush: bool,
+    pub(crate) can_sync: bool,
+    /// The size that each file claims to have, if it is not that of its bytes.
+    pub(crate) claimed_size: Option<u64>,
+    /// The name that another run gives a file while this one decodes, if there is one.
+    pub(crate) taken_meanwhile: Option<String>,
 }
 
 fn shared(alloc: Global, bytes: &[u8]) -> Result<Bytes, AllocError> {
@@ -119,6 +130,10 @@ impl Machine {
             refusal: ErrorKind::StorageFull,
             can_rename: true,
             can_create: true,
+            can_flush: true,
+            can_sync: true,
+            claimed_size: None,
+            taken_meanwhile: None,
         })
     }
 
@@ -179,6 +194,15 @@ impl Machine {
             at: 0,
             room: self.room,
             refusal: self.refusal,
+            can_flush: self.can_flush,
+        }
+    }
+
+    /// Does what another run does while this one decodes: takes a name.
+    fn let_others_run(&mut self) -> Result<(), AllocError> {
+        match replace(&mut self.taken_meanwhile, None) {
+            Some(name) => self.put(name.as_str(), b"old\n", false),
+            None => Ok(()),
         }
     }
 }
@@ -213,6 +237,12 @@ impl Devices for Machine {
         }
     }
 
+    fn size(&self, source: Option<&str>) -> Option<u64> {
+        let file = self.named(source?)?;
+        let bytes = file.bytes.try_borrow().ok()?;
+        Some(self.claimed_size.unwrap_or(bytes.len() as u64))
+    }
+
     fn destination(&self, name: &str, source: Option<&str>) -> Destination {
         match (source, self.named(name)) {
             (Some(source), _) if source == name => Destination::Source,
@@ -241,9 +271,20 @@ impl Devices for Machine {
         self.open(name)
     }
 
-    fn rename(&mut self, from: &str, to: &str) -> IoResult<()> {
+    fn sync(&mut self, _part: &mut Part<Handle>) -> IoResult<()> {
+        if !self.can_sync {
+            return Err(Error::from(ErrorKind::StorageFull));
+        }
+        self.let_others_run()?;
+        Ok(())
+    }
+
+    fn rename(&mut self, from: &str, to: &str, existing: Existing) -> IoResult<()> {
         if !self.can_rename {
             return Err(Error::from(ErrorKind::PermissionDenied));
+        }
+        if matches!(existing, Existing::Kept) && self.named(to).is_some() {
+            return Err(Error::from(ErrorKind::AlreadyExists));
         }
         if self.named(from).is_none() {
             return Err(Error::from(ErrorKind::NotFound));

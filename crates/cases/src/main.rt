@@ -1,5 +1,5 @@
-//! `cases TABLE ..`: decodes the file of each row of a table on every path of the decoder, or makes the row's run of `jri` or of
-//! `jri_check`, and compares what comes of it with the row. It writes a line for each difference, and `every case holds` if there
+//! `cases TABLE ..`: decodes the file of each row of a table on every path of the decoder, or makes the row's run of `jri`, of
+//! `jri_mend` or of `jri_check`, over a machine of memory or on the disk, and compares what comes of it with the row. It writes a line for each difference, and `every case holds` if there
 //! is none. The exit status is 0 then, otherwise 1.
 //!
 //! The tables are text that the program reads when it runs: a row needs no proof. The first lines of each explain it.
@@ -12,6 +12,7 @@ mod case;
 mod commands;
 mod damage;
 mod differences;
+mod disk;
 mod lines;
 mod machine;
 mod places;
@@ -24,10 +25,10 @@ mod texts;
 
 use crate::archives::check_archive;
 use crate::case::check_row;
-use crate::commands::check_command;
+use crate::commands::{Program, check_command};
 use crate::differences::Differences;
+use crate::disk::check_on_disk;
 use crate::row::{field, row_of};
-use std::alloc::Global;
 use std::io::{Result as IoResult, Write};
 use std::process::ExitCode;
 use std::sync::Wait;
@@ -43,16 +44,28 @@ fn is_row(line: &str) -> bool {
 /// Returns a row without the sign of its kind.
 fn fields_of(line: &str) -> &str {
     line.strip_prefix('$')
+        .or(line.strip_prefix('+'))
         .or(line.strip_prefix('%'))
+        .or(line.strip_prefix('&'))
         .unwrap_or(line)
 }
 
 /// Checks a row of a table.
-fn check_line<R: Threads + Wait + Sync>(rt: &R, table: &str, line: &str, out: &mut Differences) {
+fn check_line<R: Threads + Wait + Sync>(
+    host: &HostRuntime,
+    rt: &R,
+    table: &str,
+    line: &str,
+    out: &mut Differences,
+) {
     if line.starts_with('$') {
-        check_command(rt, table, fields_of(line), out);
+        check_command(rt, Program::Decode, table, fields_of(line), out);
+    } else if line.starts_with('+') {
+        check_command(rt, Program::Mend, table, fields_of(line), out);
     } else if line.starts_with('%') {
         check_archive(rt, table, fields_of(line), out);
+    } else if line.starts_with('&') {
+        check_on_disk(host, rt, table, fields_of(line), out);
     } else {
         match row_of(line) {
             Ok(row) => check_row(rt, &row, out),
@@ -82,18 +95,19 @@ impl Rows {
     /// Checks each row of a table, and writes the differences.
     fn check_table<R: Threads + Wait + Sync, W: Write>(
         &mut self,
+        host: &HostRuntime,
         rt: &R,
-        alloc: Global,
         table: &str,
         out: &mut W,
     ) -> IoResult<()> {
+        let alloc = host.alloc();
         let mut number: usize = 0;
         for line in table.lines() {
             number = number.saturating_add(1);
             let line = line.trim();
             if is_row(line) {
                 let mut differences = Differences::new(alloc);
-                check_line(rt, table, line, &mut differences);
+                check_line(host, rt, table, line, &mut differences);
                 self.count(&differences);
                 differences.write(number, field(fields_of(line), 0), out)?;
             }
@@ -122,7 +136,7 @@ fn check<R: Threads + Wait + Sync, W: Write>(
     let mut rows = Rows { all: 0, wrong: 0 };
     for name in env::args(rt)?.skip(1) {
         let table = fs::read_to_string(rt, name.as_str())?;
-        rows.check_table(threads, rt.alloc(), table.as_str(), out)?;
+        rows.check_table(rt, threads, table.as_str(), out)?;
     }
     rows.report(out)
 }
