@@ -269,8 +269,9 @@ uint32_t jri_check(const uint8_t *file, size_t file_length, uint32_t resync, uin
  * unchanged, the position has moved by rows->rows rows, and the numbers fit the image. With JRI_COMPLETE these are all
  * rows that were asked for, are left and fit; with JRI_PARTIAL at most that number, and none before the header is
  * complete; without rows the position is unchanged. With any other status pixels and position are unchanged. With
- * JRI_PARTIAL a refusal is that of every file that begins with these bytes. JRI_NO_LINES is returned only if the image
- * has no row at the position or none was asked for, JRI_BUFFER_TOO_SMALL only if the next row does not fit.
+ * JRI_PARTIAL a refusal is that of every file that begins with these bytes. Unless it is JRI_NO_MEMORY, the status is
+ * JRI_NO_LINES if and only if the header is complete and the image has no row at the position or none was asked for;
+ * otherwise JRI_BUFFER_TOO_SMALL if and only if the next row does not fit.
  *
  * Proved: if the position is the top, or was returned by a call with JRI_PARTIAL on bytes with which these begin, or
  * with JRI_COMPLETE by a call on these very bytes, the lines are those that jri_decode returns for these bytes or,
@@ -302,11 +303,12 @@ uint32_t jri_skip_rows(const uint8_t *file, size_t file_length, uint32_t more, s
  * from the header to the window, and those before the position, are not needed. Reads the header, and of the window
  * what follows the position.
  *
- * Proved: all that is proved of jri_decode_rows, with the file that ends with the window in place of these bytes, and
- * with the files that have the window's bytes at its offset in place of those that begin with these. The window has the
- * position if position->at, or the offset after the scan header if that is larger, is neither before window_at nor after
- * the window's end. If the image has a row at the position and one is asked for, JRI_OK means that the window has it,
- * and JRI_NOT_IN_WINDOW that it has not; then pixels and position are unchanged.
+ * Proved: all that is proved of jri_decode_rows, with the file that ends with the window instead of these bytes, and
+ * with the files that have the window's bytes at its offset instead of those that begin with these. The window has the
+ * position if position->at, or the offset after the scan header if that is larger, is neither before window_at nor
+ * after the window's end. If the image has a row at the position and one is asked for, the status is JRI_NOT_IN_WINDOW,
+ * unless it is JRI_NO_MEMORY, if and only if the window does not have the position; then pixels and position are
+ * unchanged.
  *
  * A position is an offset in the file whichever call returns it: it serves for any window that has it, and for
  * jri_decode_rows. After a call with JRI_PARTIAL, let the next window begin at or before position->at and end later.

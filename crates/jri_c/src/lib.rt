@@ -176,9 +176,11 @@ pub extern "C" fn jri_decode_rows(
     ensures given { result ≡ 0 → GivesRows file.now (file_part file.now more) rows place.old place.new pixels.old pixels.new report.new }
     ensures refused { result ≡ 2 → TellsPartialFault file.now (are_all more) report.new }
     ensures memory { result ≡ 1 → report.new.refusal ≡ 19 }
-    ensures room { result ≡ 4 → LacksRoomForRow file.now place.old (length pixels.old) }
+    ensures room { result ≡ 4 → LacksRoomForRow file.now place.old rows (length pixels.old) }
+    ensures each_room { LacksRoomForRow file.now place.old rows (length pixels.old) → result ≢ 1 → result ≡ 4 }
     ensures room_alone { result ≡ 4 → TellsNothing report.new }
     ensures rows { result ≡ 5 → LacksRows file.now place.old rows }
+    ensures each_rows { LacksRows file.now place.old rows → result ≢ 1 → result ≡ 5 }
     ensures rows_alone { result ≡ 5 → TellsNothing report.new }
     ensures no_rows { result ≢ 0 → TellsNoRows report.new }
     ensures pixels { result ≢ 0 → pixels.new ≡ pixels.old }
@@ -206,6 +208,7 @@ pub extern "C" fn jri_skip_rows(
     ensures refused { result ≡ 2 → TellsPartialFault file.now (are_all more) report.new }
     ensures memory { result ≡ 1 → report.new.refusal ≡ 19 }
     ensures rows { result ≡ 5 → LacksRows file.now place.old rows }
+    ensures each_rows { LacksRows file.now place.old rows → result ≢ 1 → result ≡ 5 }
     ensures rows_alone { result ≡ 5 → TellsNothing report.new }
     ensures no_room { result ≢ 4 }
     ensures no_rows { result ≢ 0 → TellsNoRows report.new }
@@ -234,12 +237,15 @@ pub extern "C" fn jri_decode_window(
     ensures given { result ≡ 0 → GivesRows header.now (window_part window_at window.now more) rows place.old place.new pixels.old pixels.new report.new }
     ensures refused { result ≡ 2 → TellsPartialFault header.now (are_all more) report.new }
     ensures memory { result ≡ 1 → report.new.refusal ≡ 19 }
-    ensures room { result ≡ 4 → LacksRoomForRow header.now place.old (length pixels.old) }
+    ensures room { result ≡ 4 → LacksRoomForRow header.now place.old rows (length pixels.old) }
+    ensures each_room { LacksRoomForRow header.now place.old rows (length pixels.old) → result ≢ 1 → result ≢ 11 → result ≡ 4 }
     ensures room_alone { result ≡ 4 → TellsNothing report.new }
     ensures rows { result ≡ 5 → LacksRows header.now place.old rows }
+    ensures each_rows { LacksRows header.now place.old rows → result ≢ 1 → result ≡ 5 }
     ensures rows_alone { result ≡ 5 → TellsNothing report.new }
     ensures inside { result ≡ 0 → WantsMore header.now ⊎ LiesInside header.now (window_part window_at window.now more) place.old rows }
     ensures outside { result ≡ 11 → LiesOutside header.now (window_part window_at window.now more) place.old rows }
+    ensures each_outside { LiesOutside header.now (window_part window_at window.now more) place.old rows → result ≢ 1 → result ≡ 11 }
     ensures outside_alone { result ≡ 11 → TellsNothing report.new }
     ensures no_rows { result ≢ 0 → TellsNoRows report.new }
     ensures pixels { result ≢ 0 → pixels.new ≡ pixels.old }
@@ -273,9 +279,11 @@ pub extern "C" fn jri_skip_window(
     ensures refused { result ≡ 2 → TellsPartialFault header.now (are_all more) report.new }
     ensures memory { result ≡ 1 → report.new.refusal ≡ 19 }
     ensures rows { result ≡ 5 → LacksRows header.now place.old rows }
+    ensures each_rows { LacksRows header.now place.old rows → result ≢ 1 → result ≡ 5 }
     ensures rows_alone { result ≡ 5 → TellsNothing report.new }
     ensures inside { result ≡ 0 → WantsMore header.now ⊎ LiesInside header.now (window_part window_at window.now more) place.old rows }
     ensures outside { result ≡ 11 → LiesOutside header.now (window_part window_at window.now more) place.old rows }
+    ensures each_outside { LiesOutside header.now (window_part window_at window.now more) place.old rows → result ≢ 1 → result ≡ 11 }
     ensures outside_alone { result ≡ 11 → TellsNothing report.new }
     ensures no_room { result ≢ 4 }
     ensures no_rows { result ≢ 0 → TellsNoRows report.new }

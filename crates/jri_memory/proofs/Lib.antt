@@ -6,3 +6,4 @@ pub mod Marks
 pub mod Mending
 pub mod OnResults
 pub mod ReadAs
+pub mod Reasons

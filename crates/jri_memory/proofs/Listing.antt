@@ -1,5 +1,5 @@
 -- Damaged intervals that are listed one after the other.
-use Rattle.std.proofs.Common.{arith, refl, subst, sym, ap, ◌∙◌, ◌≡◌, ℕ, List, [], length, get_or, set, drop, max, min, ◌-◌, ◌+◌, ◌<◌, ◌≤◌, inl, inr}
+use Rattle.std.proofs.Common.{arith, refl, subst, sym, ap, ◌∙◌, ◌≡◌, ℕ, List, [], length, set, drop, max, min, ◌-◌, ◌+◌, ◌<◌, ◌≤◌, inl, inr}
 use Rattle.std.specs.List.{All}
 use Rattle.std.proofs.lemmas.Bool.{cases_lt}
 use Rattle.std.proofs.lemmas.List.{drop-drop, get_or_past, get_or-set_same, get_or-set_other}

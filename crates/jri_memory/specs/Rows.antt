@@ -87,11 +87,12 @@ pub record AwaitsHead (header : List ℕ) (x : FilePart) (old new : RowPlace) (r
   pub place : new ≡ old
   pub told : TellsNothing r
 
--- rows are decoded, those requested that fit into the pixels: their lines are those of the image of each file that may have
+-- rows are decoded, those requested that fit into the pixels, of which the next does: their lines are those of the image of each file that may have
 -- this part and of which the position was one; what follows their lines is unchanged
 pub record DecodesRows (header : List ℕ) (x : FilePart) (rows : ℕ) (old new : RowPlace) (old_pixels pixels : List ℕ) (r : RowsReport) : Type 0 where
   pub h : HeadValue
   pub there : HasRowAt h old rows
+  pub room : 0 < rows_with_room h old.row (length old_pixels)
   pub moves : MovesOn header x (rows_to_give h old.row rows (length old_pixels)) old new h r
   pub are : AreLines x h old (lines_above h old.row) r.lines (take (r.lines * line_size h) pixels)
   pub long : length pixels ≡ length old_pixels
@@ -116,11 +117,11 @@ pub record LacksRows (bytes : List ℕ) (p : RowPlace) (rows : ℕ) : Type 0 whe
   pub is : HeadOf bytes h
   pub none : HasRowAt h p rows → ⊥
 
--- the bytes' image has a row of MCUs at the position, whose lines do not fit into that number of bytes
-pub record LacksRoomForRow (bytes : List ℕ) (p : RowPlace) (room : ℕ) : Type 0 where
+-- the bytes' image has a row of MCUs at the position and some are requested, but its lines do not fit into that number of bytes
+pub record LacksRoomForRow (bytes : List ℕ) (p : RowPlace) (rows room : ℕ) : Type 0 where
   pub h : HeadValue
   pub is : HeadOf bytes h
-  pub row : p.row < mcus_down h
+  pub there : HasRowAt h p rows
   pub less : rows_with_room h p.row room ≡ 0
 
 -- the position is at a byte of the part, or after its last one
@@ -146,7 +147,7 @@ pub record LiesOutside (header : List ℕ) (x : FilePart) (p : RowPlace) (rows :
 abbrev pub IsWhy : (header : List ℕ) → FilePart → (p : RowPlace) (rows room : ℕ) → PlaceError → Type 0
 IsWhy header x p rows room (Refused fault) = fault ≢ Memory → IsPartialFault header x.are_all fault
 IsWhy header x p rows room NoRows = LacksRows header p rows
-IsWhy header x p rows room NoRoom = LacksRoomForRow header p room
+IsWhy header x p rows room NoRoom = LacksRoomForRow header p rows room
 IsWhy header x p rows room NotInWindow = LiesOutside header x p rows
 
 -- it is not moved since the bytes are refused, and the report says so

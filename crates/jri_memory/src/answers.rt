@@ -43,8 +43,10 @@ pub(crate) fn tell_why(undecoded: DecodeError, report: &mut DecodeReport) -> u32
     ensures refused { result ≡ 2 → IsRefusal undecoded report.new }
     ensures memory { result ≡ 1 → report.new.refusal ≡ 19 }
     ensures room { result ≡ 4 → undecoded ≡ DecodeError.NoRoom }
+    ensures each_room { undecoded ≡ DecodeError.NoRoom → result ≡ 4 }
     ensures room_alone { result ≡ 4 → TellsNoRefusal report.new }
     ensures long { result ≡ 8 → undecoded ≡ DecodeError.TooLong }
+    ensures each_long { undecoded ≡ DecodeError.TooLong → result ≡ 8 }
     ensures long_alone { result ≡ 8 → TellsNoRefusal report.new }
     ensures no_picture { TellsNoPicture report.new }
 {

@@ -1,6 +1,7 @@
 //! The calls that continue from a position: rows of MCUs that are decoded, or skipped.
 
 ghost use Rattle.std.specs.Prelude.{◌≡◌, ◌≢◌, ◌≤◌, ◌⊎◌, length};
+ghost use Rattle.jr_segments.specs.declared.refusal.Refusal.TheVariants.{Memory};
 ghost use Rattle.jr_arrival.specs.Settled.{WantsMore};
 ghost use Rattle.jr_arrival.specs.Parts.{part_of};
 ghost use Rattle.jri_memory.specs.Rows.{GivesRows, IsRefusedPlace, LacksRoomForRow, LacksRows, LiesInside, LiesOutside, SkipsRows, TellsPartialFault, TellsNoRows, TellsNothing, are_all, file_part};
@@ -21,11 +22,16 @@ fn tell_why(unmoved: PlaceError, report: &mut RowsReport) -> u32
     ensures few { result ≢ 11 → result ≤ 5 }
     ensures refused { result ≡ 2 → IsRefusedPlace unmoved report.new }
     ensures memory { result ≡ 1 → report.new.refusal ≡ 19 }
+    ensures by_memory { result ≡ 1 → unmoved ≡ PlaceError.Refused Memory }
+    ensures each_memory { unmoved ≡ PlaceError.Refused Memory → result ≡ 1 }
     ensures room { result ≡ 4 → unmoved ≡ PlaceError.NoRoom }
+    ensures each_room { unmoved ≡ PlaceError.NoRoom → result ≡ 4 }
     ensures room_alone { result ≡ 4 → TellsNothing report.new }
     ensures rows { result ≡ 5 → unmoved ≡ PlaceError.NoRows }
+    ensures each_rows { unmoved ≡ PlaceError.NoRows → result ≡ 5 }
     ensures rows_alone { result ≡ 5 → TellsNothing report.new }
     ensures outside { result ≡ 11 → unmoved ≡ PlaceError.NotInWindow }
+    ensures each_outside { unmoved ≡ PlaceError.NotInWindow → result ≡ 11 }
     ensures outside_alone { result ≡ 11 → TellsNothing report.new }
     ensures no_rows { TellsNoRows report.new }
 {
@@ -65,9 +71,11 @@ pub fn decode_file_rows(
     ensures given { result ≡ 0 → GivesRows file.now (file_part file.now more) rows place.old place.new pixels.old pixels.new report.new }
     ensures refused { result ≡ 2 → TellsPartialFault file.now (are_all more) report.new }
     ensures memory { result ≡ 1 → report.new.refusal ≡ 19 }
-    ensures room { result ≡ 4 → LacksRoomForRow file.now place.old (length pixels.old) }
+    ensures room { result ≡ 4 → LacksRoomForRow file.now place.old rows (length pixels.old) }
+    ensures each_room { LacksRoomForRow file.now place.old rows (length pixels.old) → result ≢ 1 → result ≡ 4 }
     ensures room_alone { result ≡ 4 → TellsNothing report.new }
     ensures rows { result ≡ 5 → LacksRows file.now place.old rows }
+    ensures each_rows { LacksRows file.now place.old rows → result ≢ 1 → result ≡ 5 }
     ensures rows_alone { result ≡ 5 → TellsNothing report.new }
     ensures no_rows { result ≢ 0 → TellsNoRows report.new }
     ensures pixels { result ≢ 0 → pixels.new ≡ pixels.old }
@@ -108,6 +116,7 @@ pub fn skip_file_rows(
     ensures refused { result ≡ 2 → TellsPartialFault file.now (are_all more) report.new }
     ensures memory { result ≡ 1 → report.new.refusal ≡ 19 }
     ensures rows { result ≡ 5 → LacksRows file.now place.old rows }
+    ensures each_rows { LacksRows file.now place.old rows → result ≢ 1 → result ≡ 5 }
     ensures rows_alone { result ≡ 5 → TellsNothing report.new }
     ensures no_room { result ≢ 4 }
     ensures no_rows { result ≢ 0 → TellsNoRows report.new }
@@ -146,12 +155,15 @@ pub fn decode_window_rows(
     ensures given { result ≡ 0 → GivesRows header.now (part_of window.entry) rows place.old place.new pixels.old pixels.new report.new }
     ensures refused { result ≡ 2 → TellsPartialFault header.now window.entry.are_all report.new }
     ensures memory { result ≡ 1 → report.new.refusal ≡ 19 }
-    ensures room { result ≡ 4 → LacksRoomForRow header.now place.old (length pixels.old) }
+    ensures room { result ≡ 4 → LacksRoomForRow header.now place.old rows (length pixels.old) }
+    ensures each_room { LacksRoomForRow header.now place.old rows (length pixels.old) → result ≢ 1 → result ≢ 11 → result ≡ 4 }
     ensures room_alone { result ≡ 4 → TellsNothing report.new }
     ensures rows { result ≡ 5 → LacksRows header.now place.old rows }
+    ensures each_rows { LacksRows header.now place.old rows → result ≢ 1 → result ≡ 5 }
     ensures rows_alone { result ≡ 5 → TellsNothing report.new }
     ensures inside { result ≡ 0 → WantsMore header.now ⊎ LiesInside header.now (part_of window.entry) place.old rows }
     ensures outside { result ≡ 11 → LiesOutside header.now (part_of window.entry) place.old rows }
+    ensures each_outside { LiesOutside header.now (part_of window.entry) place.old rows → result ≢ 1 → result ≡ 11 }
     ensures outside_alone { result ≡ 11 → TellsNothing report.new }
     ensures no_rows { result ≢ 0 → TellsNoRows report.new }
     ensures pixels { result ≢ 0 → pixels.new ≡ pixels.old }
@@ -183,9 +195,11 @@ pub fn skip_window_rows(
     ensures refused { result ≡ 2 → TellsPartialFault header.now window.entry.are_all report.new }
     ensures memory { result ≡ 1 → report.new.refusal ≡ 19 }
     ensures rows { result ≡ 5 → LacksRows header.now place.old rows }
+    ensures each_rows { LacksRows header.now place.old rows → result ≢ 1 → result ≡ 5 }
     ensures rows_alone { result ≡ 5 → TellsNothing report.new }
     ensures inside { result ≡ 0 → WantsMore header.now ⊎ LiesInside header.now (part_of window.entry) place.old rows }
     ensures outside { result ≡ 11 → LiesOutside header.now (part_of window.entry) place.old rows }
+    ensures each_outside { LiesOutside header.now (part_of window.entry) place.old rows → result ≢ 1 → result ≡ 11 }
     ensures outside_alone { result ≡ 11 → TellsNothing report.new }
     ensures no_room { result ≢ 4 }
     ensures no_rows { result ≢ 0 → TellsNoRows report.new }

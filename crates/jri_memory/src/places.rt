@@ -128,6 +128,7 @@ pub(crate) fn decode_in_window(
     ensures given { IfOk result (λ r. GivesRows source.entry.header.now (part_of source.entry.window) rows place.old place.new pixels.old pixels.new r) }
     ensures why { IfErr result (IsWhy source.entry.header.now (part_of source.entry.window) place.old rows (length pixels.old)) }
     ensures inside { OnOk result (WantsMore source.entry.header.now ⊎ LiesInside source.entry.header.now (part_of source.entry.window) place.old rows) }
+    ensures room { result ≡ Err PlaceError.NoRoom → LiesInside source.entry.header.now (part_of source.entry.window) place.old rows }
     ensures place { IfErr result (λ _. place.new ≡ place.old) }
     ensures pixels { IfErr result (λ _. pixels.new ≡ pixels.old) }
 {

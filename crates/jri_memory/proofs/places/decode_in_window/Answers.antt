@@ -5,3 +5,7 @@ use Rattle.jri_memory.proofs.places.decode_in_window.Goals as goal
 pub returns-else-not-is_in_window-clause-inside : goal.returns-else-not-is_in_window-clause-inside
 returns-else-not-is_in_window-clause-inside c =
     on_ok c.decode_there.result _ (inr (record { h = _; is = search rules; there = c.has_row_at.ensures.there c.if-not-has_row_at.false; within = c.is_in_window.ensures.there c.if-not-is_in_window.false }))
+
+pub returns-else-not-is_in_window-clause-room : goal.returns-else-not-is_in_window-clause-room
+returns-else-not-is_in_window-clause-room c room =
+    record { h = _; is = search rules; there = c.has_row_at.ensures.there c.if-not-has_row_at.false; within = c.is_in_window.ensures.there c.if-not-is_in_window.false }

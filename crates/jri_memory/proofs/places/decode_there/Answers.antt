@@ -12,6 +12,7 @@ returns-clause-given c =
     inr (record {
       h = h;
       there = there;
+      room = omega (arith, c.rows_with_room.ensures.value, c.if-rows_with_room-eq0.false);
       moves = record {
         head = c.requires;
         from = there.stands;
