@@ -31,7 +31,7 @@ extern "C" {
 #define JRI_RELEASE "0.1.0"
 
 /* The number of this interface; jri_version() returns that of the library. */
-#define JRI_VERSION 8
+#define JRI_VERSION 9
 
 /* The status of a call. */
 enum {
@@ -84,14 +84,23 @@ enum {
  * JRI_OK and JRI_NEED_MORE these two are 0.
  */
 struct jri_header {
-    uint32_t width;      /* in pixels, 1 to 65535 */
-    uint32_t height;     /* in lines, 1 to 65535 */
-    uint32_t kind;       /* JRI_GREY, JRI_RGB or JRI_YCBCR */
-    uint32_t components; /* 1 or 3; a pixel has as many bytes */
-    uint32_t intervals;  /* number of restart intervals; the marks have as many bytes */
-    uint32_t refusal;    /* the number of the refusal, 1 to 18, or 19 with JRI_NO_MEMORY; otherwise 0 */
-    uint64_t pixels;     /* size of the pixels in bytes: width * height * components */
-    uint64_t detail;     /* the refusal's offset or marker code */
+    uint32_t width;         /* in pixels, 1 to 65535 */
+    uint32_t height;        /* in lines, 1 to 65535 */
+    uint32_t kind;          /* JRI_GREY, JRI_RGB or JRI_YCBCR */
+    uint32_t components;    /* 1 or 3; a pixel has as many bytes */
+    uint32_t intervals;     /* number of restart intervals; the marks have as many bytes */
+    uint32_t refusal;       /* the number of the refusal, 1 to 18, or 19 with JRI_NO_MEMORY; otherwise 0 */
+    uint64_t pixels;        /* size of the pixels in bytes: width * height * components */
+    uint64_t detail;        /* the refusal's offset or marker code */
+    uint64_t scan_at;       /* offset of the first byte after the scan header: the header has as many bytes */
+    uint32_t restart;       /* number of MCUs of a restart interval; 0 if there are no restart markers */
+    uint32_t mcu_width;     /* in pixels: 8, 16, 24 or 32 */
+    uint32_t mcu_height;    /* in lines: 8, 16, 24 or 32, as many as a row of MCUs has */
+    uint32_t mcus_across;   /* number of MCUs of a row */
+    uint32_t mcus_down;     /* number of rows of MCUs */
+    uint32_t mcus;          /* number of MCUs of the image */
+    uint32_t horizontal[3]; /* horizontal sampling factor of each component, 1 to 4; 0 if there is no such component */
+    uint32_t vertical[3];   /* vertical sampling factor of each component, 1 to 4; 0 if there is no such component */
 };
 
 /*
@@ -247,7 +256,7 @@ uint32_t jri_decode_lines(const uint8_t *file, size_t file_length, uint32_t resy
 
 /*
  * Checks a file, with JRI_RESYNC as jri_resynchronise writes it: reads each restart interval as jri_decode does, and
- * makes no image. Allocates for the scan alone, and takes a third to a half of the time.
+ * makes no image. Allocates for the scan alone, and takes about half of the time.
  *
  * Proved: with JRI_SOUND and JRI_DAMAGED the first bytes of `marks` are the marks of its intervals unless marks_size
  * is 0: JRI_MARK_SOUND if the interval has a decoding, otherwise JRI_MARK_DAMAGED; bytes after them are unchanged;

@@ -88,9 +88,10 @@ class Head:
         factors = [(payload[7 + 3 * c] >> 4, payload[7 + 3 * c] & 15) for c in range(payload[5])]
         if len(factors) == 1:
             factors = [(1, 1)]
-        self.high = 8 * max(v for _, v in factors)
-        self.across = -(-self.width // (8 * max(h for h, _ in factors)))
-        self.mcus = self.across * -(-self.height // self.high)
+        self.factors = factors
+        self.wide, self.high = (8 * max(numbers) for numbers in zip(*factors))
+        self.across, self.down = -(-self.width // self.wide), -(-self.height // self.high)
+        self.mcus = self.across * self.down
         self.step_numbers = [payload[8 + 3 * c] for c in range(payload[5])]
         self.order = [c for c, (h, v) in enumerate(factors) for _ in range(h * v)]
 

@@ -10,7 +10,7 @@
 #define SIZE(name, size) static_assert(sizeof(struct name) == (size), "the size of " #name)
 #define AT(name, field, offset) static_assert(offsetof(struct name, field) == (offset), "the offset of " #name "." #field)
 
-SIZE(jri_header, 40);
+SIZE(jri_header, 96);
 AT(jri_header, width, 0);
 AT(jri_header, height, 4);
 AT(jri_header, kind, 8);
@@ -19,6 +19,15 @@ AT(jri_header, intervals, 16);
 AT(jri_header, refusal, 20);
 AT(jri_header, pixels, 24);
 AT(jri_header, detail, 32);
+AT(jri_header, scan_at, 40);
+AT(jri_header, restart, 48);
+AT(jri_header, mcu_width, 52);
+AT(jri_header, mcu_height, 56);
+AT(jri_header, mcus_across, 60);
+AT(jri_header, mcus_down, 64);
+AT(jri_header, mcus, 68);
+AT(jri_header, horizontal, 72);
+AT(jri_header, vertical, 84);
 
 SIZE(jri_report, 48);
 AT(jri_report, intervals, 0);

@@ -359,12 +359,12 @@ static void rows_by_index(const struct trial *t) {
     }
 }
 
-/* The number of the file's first bytes that have the header. */
+/* The number of the file's first bytes that have the header, as it says itself: one byte fewer is too few. */
 static size_t header_length(const struct trial *t) {
     struct jri_header header;
-    size_t length = 0;
-    while (jri_read_header(t->file, length, JRI_PARTIAL, &header) == JRI_NEED_MORE)
-        length++;
+    size_t length = t->header.scan_at;
+    see(jri_read_header(t->file, length, JRI_PARTIAL, &header) == JRI_OK, t, "a header's length");
+    see(jri_read_header(t->file, length - 1, JRI_PARTIAL, &header) == JRI_NEED_MORE, t, "a header without its last byte");
     return length;
 }
 

@@ -24,12 +24,12 @@ use jri_memory::{
 use std::alloc::Global;
 
 /// The version number of these calls: it changes if one of them does.
-const VERSION: u32 = 8;
+const VERSION: u32 = 9;
 
 /// The number of these calls.
 #[unsafe(no_mangle)]
 pub extern "C" fn jri_version() -> u32
-    ensures { result ≡ 8 }
+    ensures { result ≡ 9 }
 {
     VERSION
 }

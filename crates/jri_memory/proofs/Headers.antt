@@ -18,6 +18,15 @@ header_stays bytes whole m can of_bytes = record {
   components = of_bytes.components;
   intervals = of_bytes.intervals;
   pixels = of_bytes.pixels;
+  scan_at = of_bytes.scan_at;
+  restart = of_bytes.restart;
+  mcu_width = of_bytes.mcu_width;
+  mcu_height = of_bytes.mcu_height;
+  across = of_bytes.across;
+  down = of_bytes.down;
+  mcus = of_bytes.mcus;
+  horizontal = of_bytes.horizontal;
+  vertical = of_bytes.vertical;
   no_fault = of_bytes.no_fault;
   no_detail = of_bytes.no_detail;
 }

@@ -1,11 +1,11 @@
 -- What the calls that decode a file in memory return.
-use Rattle.std.specs.Prelude.{◌≡◌, ◌≢◌, ℕ, ◌+◌, ◌*◌, ◌<◌, ◌≤◌, ◌⊎◌, List, ◌++◌, length, drop, map, None}
+use Rattle.std.specs.Prelude.{◌≡◌, ◌≢◌, ℕ, ◌+◌, ◌*◌, ◌<◌, ◌≤◌, ◌⊎◌, List, [], ◌∷◌, ◌++◌, length, drop, map, None}
 use Rattle.jr_segments.specs.declared.refusal.Refusal.{Refusal}
 use Rattle.jr_segments.specs.declared.refusal.Refusal.TheVariants as refusal
 use Rattle.jr_segments.specs.Refusal.{number_of}
 use Rattle.jr_head.specs.HeadValue.{HeadValue, kind_number}
 use Rattle.jr_head.specs.Heads.{HeadOf, RefusalOf}
-use Rattle.jr_head.specs.Geometry.{components_of}
+use Rattle.jr_head.specs.Geometry.{components_of, horizontal_max, horizontal_of, mcus_across, mcus_down, mcus_of, vertical_max, vertical_of}
 use Rattle.jr_paint.specs.Lines.{line_size, next_lines_of}
 use Rattle.jr_paint.specs.Text.{lines_of}
 use Rattle.jr_scan.specs.ScanValue.{ScanValue, intervals_of}
@@ -58,7 +58,11 @@ pub record TellsFault (file : List ℕ) (number detail : ℕ) : Type 0 where
 abbrev pub picture_size : HeadValue → ℕ
 picture_size h = h.height * line_size h
 
--- what the file's header says about its image
+-- a number for each of three components
+abbrev pub of_three : (ℕ → ℕ) → List ℕ
+of_three each = each 0 ∷ each 1 ∷ each 2 ∷ []
+
+-- what the file's header says about its image; the sampling factors of a component that it does not have are 0
 pub record IsHeaderOf (file : List ℕ) (m : Header) : Type 0 where
   pub head : HeadValue
   pub is : HeadOf file head
@@ -68,6 +72,15 @@ pub record IsHeaderOf (file : List ℕ) (m : Header) : Type 0 where
   pub components : m.components ≡ components_of head
   pub intervals : m.intervals ≡ intervals_of head
   pub pixels : m.pixels ≡ picture_size head
+  pub scan_at : m.scan_at ≡ head.scan_at
+  pub restart : m.restart ≡ head.restart
+  pub mcu_width : m.mcu_width ≡ 8 * horizontal_max head
+  pub mcu_height : m.mcu_height ≡ 8 * vertical_max head
+  pub across : m.mcus_across ≡ mcus_across head
+  pub down : m.mcus_down ≡ mcus_down head
+  pub mcus : m.mcus ≡ mcus_of head
+  pub horizontal : m.horizontal ≡ of_three (horizontal_of head)
+  pub vertical : m.vertical ≡ of_three (vertical_of head)
   pub no_fault : m.refusal ≡ 0
   pub no_detail : m.detail ≡ 0
 
@@ -79,6 +92,15 @@ pub record TellsNoHeader (m : Header) : Type 0 where
   pub components : m.components ≡ 0
   pub intervals : m.intervals ≡ 0
   pub pixels : m.pixels ≡ 0
+  pub scan_at : m.scan_at ≡ 0
+  pub restart : m.restart ≡ 0
+  pub mcu_width : m.mcu_width ≡ 0
+  pub mcu_height : m.mcu_height ≡ 0
+  pub across : m.mcus_across ≡ 0
+  pub down : m.mcus_down ≡ 0
+  pub mcus : m.mcus ≡ 0
+  pub horizontal : m.horizontal ≡ of_three (λ _. 0)
+  pub vertical : m.vertical ≡ of_three (λ _. 0)
 
 -- what ended the scan, as numbers: 0 for what that end has not
 abbrev pub IsScanEnd : ScanEnd → (ended found due at : ℕ) → Type 0

@@ -1,10 +1,10 @@
-"""The structs, calls and numbers of jri.h, version 7."""
+"""The structs, calls and numbers of jri.h."""
 
 from __future__ import annotations
 
 from typing import Any
 
-CALLS = 8
+CALLS = 9
 
 SOUND, NO_MEMORY, REFUSED, DAMAGED, BUFFER_TOO_SMALL, NO_LINES, NO_LAYOUT, NEED_MORE, TOO_LONG, NO_COPIES, OTHER_HEADER = range(11)
 
@@ -23,7 +23,8 @@ def declare(builder: Any) -> None:
     """Declares libjri to a builder of cffi. python/make_ffi.py writes _ffi.py from these declarations."""
     builder.cdef(
         """
-        struct jri_header { uint32_t width, height, kind, components, intervals, refusal; uint64_t pixels, detail; };
+        struct jri_header { uint32_t width, height, kind, components, intervals, refusal; uint64_t pixels, detail, scan_at;
+                            uint32_t restart, mcu_width, mcu_height, mcus_across, mcus_down, mcus, horizontal[3], vertical[3]; };
         struct jri_report { uint32_t intervals, sound, damaged, blank, ended, found, due, refusal; uint64_t at, detail; };
         struct jri_position { uint64_t at; uint32_t bit, row, interval, mcu; int32_t predictions[3]; uint32_t state; };
         struct jri_rows { uint32_t rows, lines, first_line, refusal; uint64_t detail; };
