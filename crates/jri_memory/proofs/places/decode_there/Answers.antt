@@ -1,4 +1,4 @@
-use Rattle.std.proofs.Common.{ℕ, ◌*◌, take, drop, inr, sym, ap, ◌∙◌, arith}
+use Rattle.std.proofs.Common.{ℕ, ◌*◌, take, drop, inr, sym, ap, ◌∙◌, arith, rules}
 use Rattle.jr_paint.specs.Lines.{line_size, next_lines_of}
 use Rattle.jr_arrival.specs.Places.{lines_above}
 use Rattle.jri_memory.proofs.places.decode_there.Goals as goal
@@ -12,7 +12,7 @@ returns-clause-given c =
     inr (record {
       h = h;
       there = there;
-      room = omega (arith, c.rows_with_room.ensures.value, c.if-rows_with_room-eq0.false);
+      room = search (rules, arith, c.rows_with_room.ensures.value, c.if-rows_with_room-eq0.false);
       moves = record {
         head = c.requires;
         from = there.stands;
