@@ -28,16 +28,5 @@ sum_sources() {
     { rt version; find $(list_parts) -type f -print0 | LC_ALL=C sort -z | xargs -0 sha256sum; } | sha256sum
 }
 
-# Writes the name of the toolchain that built these files over the text that crates/jr_base has for it, in the same length.
-# Returns another status than 0 if one cannot be written.
-name_toolchain() {
-    local unnamed="an unnamed toolchain" built_by file
-    built_by=$(rt version | cut -d " " -f 1)
-    built_by=$(printf "%-${#unnamed}.${#unnamed}s" "$built_by")
-    for file; do
-        LC_ALL=C sed -i "s|$unnamed|$built_by|" "$file" || return 1
-    done
-}
-
 crates=""
 closure "$name"
