@@ -1,4 +1,4 @@
-"""Makes a wheel that has libjri.so.1 one of a platform, which JRI_WHEEL_PLATFORM names. pyproject.toml has all else."""
+"""Makes a wheel that has libjri one of a platform, which JRI_WHEEL_PLATFORM names. pyproject.toml has all else."""
 
 import os
 

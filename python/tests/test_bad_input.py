@@ -1,14 +1,19 @@
 """What comes of files that are refused or damaged, and of wrong arguments."""
 
+import io
 import mmap
+import os
 import pickle
+import re
 import subprocess
+import textwrap
 
 import numpy
 import pytest
 from conftest import by_djpeg, made
 
 import jri
+from jri.refusals import unsupported_text
 
 
 def damaged(photo):
@@ -240,10 +245,49 @@ def test_checks_as_it_decodes(photo):
     assert jri.check(damaged(photo)).text == "1 of 19 intervals are damaged"
 
 
-def test_a_refusal_is_an_answer_of_a_check():
-    health = jri.check(b"\xff\xd8\xff\xc2\x00\x0b")
-    assert (health.verdict, health.report, health.refusal, health.detail) == ("refused", None, 5, 0xC2)
-    assert health.text.startswith("refused: ")
+@pytest.mark.parametrize(
+    "data, verdict, number, detail, text",
+    [
+        (b"", "refused", 1, 0, "not a JPEG file"),
+        (b"\xff\xd8\xff\xc2\x00\x0b", "unsupported", 5, 0xC2, "progressive JPEG (SOF2) is not supported"),
+        (b"\xff\xd8\xff\xcf\x00\x0b", "unsupported", 5, 0xCF, "hierarchical JPEG (SOF15) is not supported"),
+        (b"\xff\xd8\xff\xcc\x00\x04\x00\x10", "unsupported", 4, 0xCC, "arithmetic-coded JPEG (DAC) is not supported"),
+    ],
+)
+def test_a_refusal_is_an_answer_of_a_check(data, verdict, number, detail, text):
+    health = jri.check(data)
+    assert (health.verdict, health.report, health.refusal, health.detail) == (verdict, None, number, detail)
+    assert health.text == f"{verdict}: {text}"
+    with pytest.raises(jri.RefusedError) as raised:
+        jri.decode(data)
+    assert str(raised.value) == text and (type(raised.value) is jri.UnsupportedError) == (verdict == "unsupported")
+
+
+def test_unsupported_files_have_the_words_of_jri_check():
+    path = os.path.join(os.path.dirname(os.path.abspath(__file__)), "..", "..", "crates", "jri_archive", "src", "unsupported.rt")
+    with open(path, encoding="utf-8") as file:
+        source = file.read()
+    details = {4: (0xCC, 0xDE), 5: [it for it in range(0xC2, 0xD0) if it not in (0xC4, 0xC8, 0xCC)]}
+    texts = {unsupported_text(number, detail) for number in range(1, 20) for detail in details.get(number, (0,))} - {None}
+    frames = {it for it in texts if "(SOF" in it}
+    assert texts - frames == set(re.findall(r'=> "([^"]* supported)"', source)) and len(texts - frames) == 10
+    assert {it.partition(" (SOF")[0] for it in frames} == set(re.findall(r'=> "([^"]* JPEG)"', source)) and len(frames) == 11
+
+
+def test_leaves_an_open_file_where_it_was(photo, tmp_path):
+    path = tmp_path / "photo.jpg"
+    path.write_bytes(b"before" + photo)
+    with open(path, "rb") as file:
+        file.seek(6)
+        assert jri.measure(file).intervals == 19 and file.tell() == 6
+        assert numpy.array_equal(jri.decode(file), jri.decode(io.BytesIO(photo))) and jri.check(file).verdict == "sound"
+
+
+def test_reads_a_file_that_cannot_be_sought(photo):
+    with subprocess.Popen(["cat"], stdin=subprocess.PIPE, stdout=subprocess.PIPE) as process:
+        process.stdin.write(photo)
+        process.stdin.close()
+        assert jri.measure(process.stdout).intervals == 19
 
 
 @pytest.mark.parametrize("workers", [1, 2, 64, None])
@@ -261,6 +305,16 @@ def test_checks_many_in_their_order(photo, tmp_path, workers):
             assert isinstance(health, FileNotFoundError)
         else:
             assert health.verdict == ("damaged" if number % 3 == 0 else "sound")
+
+
+def test_the_loop_of_the_readme_takes_what_cannot_be_read(photo, tmp_path, capsys):
+    readme = os.path.join(os.path.dirname(os.path.abspath(__file__)), "..", "README.md")
+    with open(readme, encoding="utf-8") as file:
+        (loop,) = re.findall(r"^    for path, result in jri\.check_many\(paths\):.*\n(?:^ {8}.*\n)+", file.read(), re.M)
+    (tmp_path / "photo.jpg").write_bytes(photo)
+    exec(textwrap.dedent(loop), {"jri": jri, "paths": [str(tmp_path / name) for name in ("photo.jpg", "none.jpg")]})
+    said = capsys.readouterr().out.splitlines()
+    assert said[0].endswith("photo.jpg sound") and "No such file" in said[1] and len(said) == 2
 
 
 def test_refuses_no_workers():

@@ -52,6 +52,10 @@ def test_the_declarations_are_compiled(tmp_path):
     assert (tmp_path / "made").read_text() == read("src", "jri", "_ffi.py")
 
 
+def test_shows_the_public_names():
+    assert dir(jri) == sorted([*jri.__all__, "__version__"]) and all(hasattr(jri, name) for name in dir(jri))
+
+
 def test_an_import_parses_nothing():
     code = "import sys, numpy; before = set(sys.modules); import jri; print(*sorted(set(sys.modules) - before))"
     loaded = imported(jri._loaded._path(), code).split()
@@ -62,19 +66,19 @@ def test_an_import_parses_nothing():
 def compiled(tmp_path, code):
     if shutil.which("cc") is None:
         pytest.skip("no C compiler")
-    path = tmp_path / "libjri.so.1"
+    path = tmp_path / jri._loaded._SONAME
     subprocess.run(["cc", "-shared", "-fPIC", "-x", "c", "-o", str(path), "-"], input=code.encode(), check=True)
     return path
 
 
 def test_a_library_that_is_not_there():
-    told = imported("/nowhere/libjri.so.1")
-    assert "ImportError: cannot load /nowhere/libjri.so.1: install the package libjri1" in told
+    told = imported("/nowhere/libjri.so")
+    assert f"ImportError: cannot load /nowhere/libjri.so: install the package libjri0.{interface()}" in told
     assert "tools/install" in told and "JRI_LIBRARY" in told
 
 
 def test_a_library_that_is_another_one():
-    assert "is not libjri: install the package libjri1" in imported(_cffi_backend.__file__)
+    assert f"is not libjri: install the package libjri0.{interface()}" in imported(_cffi_backend.__file__)
 
 
 def test_a_library_of_another_version(tmp_path):
@@ -90,6 +94,27 @@ def test_a_library_without_a_call(tmp_path):
 
 def test_a_library_in_the_modules_directory(tmp_path):
     shutil.copytree(os.path.join(PYTHON, "src", "jri"), tmp_path / "jri")
-    shutil.copy(jri._loaded._path(), tmp_path / "jri" / "libjri.so.1")
+    any_path = tmp_path / "jri" / jri._loaded._SONAME
+    fast_path = tmp_path / "jri" / "x86-64-v3" / jri._loaded._SONAME
+    fast_path.parent.mkdir()
     code = f"import sys; sys.path.insert(0, {str(tmp_path)!r}); import jri._loaded; print(jri._loaded._path())"
-    assert imported("", code).strip() == str(tmp_path / "jri" / "libjri.so.1")
+    shutil.copy(jri._loaded._path(), any_path)
+    assert imported("", code).strip() == str(any_path)
+    shutil.copy(jri._loaded._path(), fast_path)
+    assert imported("", code).strip() == str(fast_path if jri._loaded._has_v3() else any_path)
+
+
+@pytest.mark.parametrize(
+    "described, has_v3",
+    [
+        ("processor : 0\nflags\t\t: fpu sse4_2 avx movbe abm f16c fma bmi1 avx2 bmi2 avx512f\n", True),
+        ("processor : 0\nflags\t\t: fpu sse4_2 avx movbe abm f16c fma bmi1 bmi2\n", False),
+        ("processor : 0\nflags : avx\nflags : avx movbe abm f16c fma bmi1 avx2 bmi2\n", False),
+        ("processor : 0\nFeatures : fp asimd\n", False),
+        ("", False),
+    ],
+)
+def test_processors_for_the_faster_library(tmp_path, described, has_v3):
+    path = tmp_path / "cpuinfo"
+    path.write_text(described)
+    assert jri._loaded._has_v3(str(path)) == has_v3 and not jri._loaded._has_v3("/nowhere/cpuinfo")

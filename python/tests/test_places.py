@@ -1,6 +1,7 @@
 import concurrent.futures
 import hashlib
 import io
+import pickle
 import struct
 
 import jri
@@ -196,6 +197,18 @@ def test_a_saved_index(picture, rows, tmp_path):
         assert again.head == places.head
         for first, count in [(0, 149), (148, 1), (30, 5)]:
             assert numpy.array_equal(again.lines(first, count), expected[first : first + count])
+
+
+def test_a_pickled_index(picture, tmp_path):
+    data, expected = picture
+    path = tmp_path / "photo.jpg"
+    path.write_bytes(data)
+    places = pickle.loads(pickle.dumps(jri.index(path, 2)))
+    path.unlink()
+    assert numpy.array_equal(places.lines(20, 100), expected[20:120])
+    with concurrent.futures.ProcessPoolExecutor(2) as pool:
+        parts = list(pool.map(places.lines, (0, 64), (64, 85)))
+    assert numpy.array_equal(numpy.concatenate(parts), expected)
 
 
 def saved_index(data, rows=1):

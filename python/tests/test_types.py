@@ -34,7 +34,7 @@ def checked(tmp_path, *words):
 
 
 def test_the_module_has_types_throughout(tmp_path):
-    assert "no issues found in 7 source files" in checked(tmp_path, "jri")
+    assert "no issues found in 8 source files" in checked(tmp_path, "jri")
 
 
 def test_a_caller_sees_them(tmp_path):
@@ -42,7 +42,7 @@ def test_a_caller_sees_them(tmp_path):
     caller.write_text(CALLER)
     told = [line.split(": ", 1)[1] for line in checked(tmp_path, str(caller)).splitlines() if line.startswith(str(caller))]
     assert "tuple[builtins.int, ...]" in told[0].lower()
-    assert "Union[Literal['sound'], Literal['damaged'], Literal['refused']]" in told[1]
+    assert "Union[Literal['sound'], Literal['damaged'], Literal['refused'], Literal['unsupported']]" in told[1]
     assert '"builtins.int"' in told[2]
     assert "Union[jri.Health, builtins.OSError]" in told[3]
     assert all("numpy.ndarray[Any, numpy.dtype[" in line for line in told[4:6])

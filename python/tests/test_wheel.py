@@ -16,6 +16,7 @@ CALLER = """
 import sys
 import jri, jri._loaded
 assert jri._loaded._path().startswith(sys.prefix), jri._loaded._path()
+assert ("x86-64-v3" in jri._loaded._path()) == jri._loaded._has_v3(), jri._loaded._path()
 sys.stdout.buffer.write(jri.decode(sys.stdin.buffer.read()).tobytes())
 """
 
@@ -29,7 +30,7 @@ def test_the_wheel_decodes_without_an_installed_library(tmp_path, photo):
     if None in map(importlib.util.find_spec, ("pip", "setuptools", "wheel", "venv")):
         pytest.skip("pip, setuptools, wheel or venv is missing")
     library = jri._loaded._path()
-    name = run(sys.executable, MAKER, library, tmp_path / "out").decode().strip()
+    name = run(sys.executable, MAKER, tmp_path / "out", library, library).decode().strip()
     assert name.startswith(f"jri-{jri.__version__}-py3-none-manylinux_2_")
     python = tmp_path / "empty" / "bin" / "python"
     run(sys.executable, "-m", "venv", "--system-site-packages", "--without-pip", tmp_path / "empty")

@@ -9,7 +9,8 @@
 Each call releases the interpreter's lock while libjri works, so threads use all processors.
 
 A source that can be written (a bytearray, a numpy array, a writable memoryview or mmap) is copied before libjri reads
-it. What a read-only memoryview or mmap leads to must not change while a call, an iterator or an index uses it.
+it. What a read-only memoryview or mmap leads to must not change while a call, an iterator or an index uses it. An open
+file is read from where it is, and left there if it can be sought.
 """
 
 from __future__ import annotations
@@ -26,6 +27,7 @@ from typing import (
     Dict,
     Iterable,
     Iterator,
+    List,
     Literal,
     NamedTuple,
     NoReturn,
@@ -51,7 +53,8 @@ from ._library import (
     SOUND,
     TOO_LONG,
 )
-from ._loaded import ffi, library, refusal_text
+from ._loaded import ffi, library
+from .refusals import refusal_text, unsupported_text
 
 if TYPE_CHECKING:
     import concurrent.futures
@@ -91,7 +94,7 @@ __all__ = [
 Pixels = numpy.ndarray[Any, numpy.dtype[numpy.uint8]]
 Path = Union[str, "os.PathLike[str]"]
 Source = Union[bytes, bytearray, memoryview, mmap.mmap, numpy.ndarray[Any, numpy.dtype[Any]], Path, BinaryIO]
-Verdict = Literal["sound", "damaged", "refused"]
+Verdict = Literal["sound", "damaged", "refused", "unsupported"]
 Layout = Literal["rgb", "bgr", "rgbx", "bgrx"]
 Ended = Literal["EOI", "marker", "out of step", "extra restart", "end of file"]
 
@@ -187,8 +190,9 @@ class Picture:
 class Health:
     """What a check comes to: no picture is made."""
 
+    #: "unsupported" if the refusal is one that a valid file may have, as for UnsupportedError
     verdict: Verdict
-    #: None where the file is refused
+    #: None where the file is refused or unsupported
     report: Optional[Report]
     #: the number of the refusal, 1 to 18, as in jri.h; None where there is none
     refusal: Optional[int]
@@ -197,9 +201,9 @@ class Health:
 
     @property
     def text(self) -> str:
-        """The verdict in words, those of a refusal with it."""
+        """The verdict in words, those of a refusal with it, as jri_check has them."""
         if self.refusal is not None:
-            return "refused: " + refusal_text(self.refusal, self.detail or 0)
+            return f"{self.verdict}: {refusal_text(self.refusal, self.detail or 0)}"
         if self.report is None or self.verdict == "sound":
             return "sound"
         return f"{self.report.damaged} of {self.report.intervals} intervals are damaged"
@@ -220,6 +224,21 @@ class _File(NamedTuple):
     is_fixed: bool
 
 
+def __dir__() -> List[str]:
+    return sorted([*__all__, "__version__"])
+
+
+def _rest_of(file: Any) -> Any:
+    """Returns what an open file has from where it is, and leaves it there if it can be sought."""
+    is_seekable = getattr(file, "seekable", None)
+    if is_seekable is None or not is_seekable():
+        return file.read()
+    at = file.tell()
+    held = file.read()
+    file.seek(at)
+    return held
+
+
 def _view(source: Source) -> memoryview:
     """Returns the bytes of a source, without a copy if it has them in memory."""
     held: Any = source
@@ -227,7 +246,7 @@ def _view(source: Source) -> memoryview:
         with open(source, "rb") as file:
             held = file.read()
     elif hasattr(source, "read"):
-        held = source.read()
+        held = _rest_of(source)
     try:
         return memoryview(held).cast("B")
     except (TypeError, ValueError, BufferError):
@@ -270,15 +289,6 @@ def _name_of(source: Source) -> Optional[str]:
     return os.fsdecode(name) if isinstance(name, (str, bytes, os.PathLike)) else None
 
 
-def _is_unsupported(number: int, detail: int) -> bool:
-    """Returns whether a valid file may have this refusal (docs/FORMAT.md).
-
-    These are other frames, samples, sizes, components, samplings and scans, tables that are not in the file, and the
-    markers DAC and DHP of arithmetic-coded and hierarchical files.
-    """
-    return number in (5, 10, 11, 12, 13, 14, 15, 17, 18) or (number == 4 and detail in (0xCC, 0xDE))
-
-
 def _raise(status: int, number: int, detail: int, name: Optional[str] = None) -> NoReturn:
     """Raises the error for a status without an image, of a file of this name."""
     if status == NO_MEMORY:
@@ -286,7 +296,7 @@ def _raise(status: int, number: int, detail: int, name: Optional[str] = None) ->
     if status == TOO_LONG:
         status, number, detail = REFUSED, _TOO_LONG, 0
     if status == REFUSED:
-        raise (UnsupportedError if _is_unsupported(number, detail) else RefusedError)(number, detail, name)
+        raise (UnsupportedError if unsupported_text(number, detail) else RefusedError)(number, detail, name)
     text = {BUFFER_TOO_SMALL: "the buffer is too small", NO_LINES: "the image has no such lines"}[status]
     raise ValueError(_with_name(name, text))
 
@@ -406,7 +416,7 @@ def decode(
 
 
 def check(source: Source, *, resync: bool = False) -> Health:
-    """Returns whether a file is sound, damaged or refused; raises no `RefusedError`. Makes no picture.
+    """Returns whether a file is sound, damaged, refused or unsupported; raises no `RefusedError`. Makes no picture.
 
     With `resync` the file is resynchronised first, as by `jri.resync`.
     """
@@ -419,7 +429,8 @@ def _check(file: _File, resync: bool = False) -> Health:
     if status == NO_MEMORY:
         raise MemoryError("out of memory")
     if status in (REFUSED, TOO_LONG):
-        return Health("refused", None, told.refusal or _TOO_LONG, told.detail)
+        number = told.refusal or _TOO_LONG
+        return Health("unsupported" if unsupported_text(number, told.detail) else "refused", None, number, told.detail)
     return Health("damaged" if status == DAMAGED else "sound", _reported(told), None, None)
 
 

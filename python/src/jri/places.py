@@ -288,12 +288,18 @@ def _lay_out(pixels: Pixels, head: Measure, layout: Layout, laid: Pixels) -> Non
 
 
 class Index:
-    """Positions of a file, from which any lines are decoded at their own cost; threads may share it."""
+    """Positions of a file, from which any lines are decoded at their own cost; threads may share it.
+
+    A pickled index has the file's bytes with it.
+    """
 
     def __init__(self, file: _File, head: Measure, row_lines: int, places: List[Any]) -> None:
         self.head = head
         self._file, self._row_lines, self._places = file, row_lines, places
         self._firsts = [place.row * row_lines for place in places]
+
+    def __reduce__(self) -> Tuple[Any, ...]:
+        return _unpickled, (self._to_bytes(), bytes(ffi.buffer(self._file.data)), self._file.name)
 
     def lines(self, first: int, count: int) -> Pixels:
         """Returns `count` lines of the picture starting at `first`."""
@@ -354,13 +360,21 @@ def index(source: Source, rows: int = 8) -> Index:
     return Index(file, head, row_lines, places)
 
 
+def _unpickled(written: bytes, data: bytes, name: Optional[str]) -> Index:
+    return _index_of(written, None, _file(data)._replace(name=name))
+
+
 def load_index(saved: Source, source: Source) -> Index:
     """Returns the index of a source that `Index.save` wrote; `saved` is a path, an open file or bytes.
 
     Reads the source once for its SHA-256, and none of its bits. Raises ValueError if the index is damaged, of another
     version, or of another file.
     """
-    written, name, file = bytes(_view(saved)), _name_of(saved), _file(source)
+    return _index_of(bytes(_view(saved)), _name_of(saved), _file(source))
+
+
+def _index_of(written: bytes, name: Optional[str], file: _File) -> Index:
+    """Returns the index of a file that was written with this name."""
     if len(written) < _INDEX_HEAD.size or not written.startswith(_INDEX_MAGIC):
         _refuse_index(name, "not an index of jri")
     _, version, *numbers, row_lines, count, length, digest = _INDEX_HEAD.unpack_from(written)
@@ -387,11 +401,10 @@ def _refuse_index(name: Optional[str], text: str) -> NoReturn:
 
 def _lines_of_row(file: _File) -> int:
     """Returns the number of lines of the first row of MCUs."""
-    told = ffi.new("struct jri_rows *")
-    status = library.jri_skip_rows(file.data, len(file.data), COMPLETE, ffi.new("struct jri_position *"), 1, told)
-    if status != OK:
-        _raise(status, told.refusal, told.detail, file.name)
-    return int(told.lines)
+    told = ffi.new("struct jri_header *")
+    status = library.jri_read_header(file.data, len(file.data), COMPLETE, told)
+    head = _measure(status, told, file.name)
+    return min(int(told.mcu_height), head.height)
 
 
 class Damage(NamedTuple):
