@@ -14,9 +14,9 @@
 #include <jri.h>
 #include <string.h>
 
-/* How many bytes more are awaited before rows are asked for again: those of a row, or this part of a row where it was longer than
- * the one before; within these bounds. */
-enum { PART_OF_ROW = 8, LEAST_AWAITED = 256, MOST_AWAITED = 65536 };
+/* The number of bytes that are awaited before rows are asked for again: those of a row, or this part of a row where it was longer
+ * than the one before; within these bounds, and at least this part of the header, which each call reads again. */
+enum { PART_OF_ROW = 8, LEAST_AWAITED = 256, MOST_AWAITED = 65536, PART_OF_HEADER = 8 };
 
 enum { CHANNELS = 3, GREY = 128 };
 
@@ -57,7 +57,11 @@ static gboolean refuse(guint32 refusal, guint64 detail, GError **error) {
     return FALSE;
 }
 
-static void await(struct loading *l, gsize bytes) { l->awaited = l->file.length + CLAMP(bytes, LEAST_AWAITED, MOST_AWAITED); }
+/* Awaits some bytes more. While the header is incomplete, its part is one of the bytes so far. */
+static void await(struct loading *l, gsize bytes) {
+    gsize header = l->header.scan_at ? l->header.scan_at : l->file.length;
+    l->awaited = l->file.length + MAX(CLAMP(bytes, LEAST_AWAITED, MOST_AWAITED), header / PART_OF_HEADER);
+}
 
 /* Makes room for so many bytes more. */
 static gboolean make_room(struct bytes *file, gsize more, GError **error) {

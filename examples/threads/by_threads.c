@@ -168,14 +168,14 @@ static void work(void *argument, unsigned number) {
 }
 
 /*
- * Returns the number of lines of a part if each of two parts a thread has eight intervals or more, otherwise 0. Parts are few,
- * since each call reads the whole file to find its intervals. 96 lines are whole rows of MCUs, which have 8, 16, 24 or 32.
+ * Returns the number of lines of a part, whole rows of MCUs, if each of two parts a thread has eight intervals or more, otherwise 0.
+ * Parts are few, since each call reads the whole file to find its intervals.
  */
 static uint32_t lines_of_part(const struct jri_header *header, unsigned threads) {
     if (threads < 2 || header->intervals / 16 < threads)
         return 0;
-    uint32_t lines = header->height / (2 * threads) + 1;
-    return (lines + 95) / 96 * 96;
+    uint32_t rows = header->mcus_down / (2 * threads) + 1;
+    return rows * header->mcu_height;
 }
 
 uint32_t decode_by_threads(const uint8_t *file, size_t length, const struct jri_header *header, uint8_t *pixels, unsigned threads,
@@ -183,7 +183,7 @@ uint32_t decode_by_threads(const uint8_t *file, size_t length, const struct jri_
     struct decoding d = {.file = file, .length = length, .pixels = pixels, .height = header->height, .rows = rows ? rows : 1};
     d.line_size = header->pixels / header->height;
     d.lines = lines_of_part(header, threads);
-    d.capacity = header->height / 8 + 1; /* a row of MCUs has 8 lines or more */
+    d.capacity = header->mcus_down; /* a part has a row of MCUs or more */
     d.parts = malloc(d.capacity * sizeof *d.parts);
     if (!d.parts)
         return JRI_NO_MEMORY;
