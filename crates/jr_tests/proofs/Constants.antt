@@ -1,5 +1,5 @@
 -- The numbers that the definitions take from the code, as numerals: a code that has another one does not meet these examples.
-use Rattle.std.proofs.Common.{◌≡◌, ℕ, ◌^◌, List, [], ◌∷◌, refl}
+use Rattle.std.proofs.Common.{◌≡◌, ◌^◌, [], ◌∷◌, refl}
 use Rattle.jr_base.specs.declared.limits.TheConstants.{MAX_FILE_BYTES, MAX_PIXELS, MAX_MCUS_ACROSS, MAX_WORKERS}
 use Rattle.jr_base.specs.declared.marker.TheConstants.{APP0, APP14, APP15, COM, DHT, DQT, DRI, EOI, PREFIX, RST0, RST7, SOF0, SOF1, SOF10, SOF11, SOF13, SOF14, SOF15, SOF2, SOF3, SOF5, SOF6, SOF7, SOF9, SOI, SOS}
 use Rattle.jr_base.specs.declared.quantisers.TheConstants.{MAX_PRODUCT}
