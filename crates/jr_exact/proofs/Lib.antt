@@ -1,0 +1,2 @@
+pub mod Moderate
+pub mod Parseval
