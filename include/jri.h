@@ -316,8 +316,8 @@ uint32_t jri_skip_rows(const uint8_t *file, size_t file_length, uint32_t more, s
  * with the files that have the window's bytes at its offset instead of those that begin with these. The window has the
  * position if position->at, or the offset after the scan header if that is larger, is neither before window_at nor
  * after the window's end. If the image has a row at the position and one is asked for, the status is JRI_NOT_IN_WINDOW,
- * unless it is JRI_NO_MEMORY, if and only if the window does not have the position; then pixels and position are
- * unchanged.
+ * unless it is JRI_NO_MEMORY, if and only if the window does not have the position, whether or not the row fits; then
+ * pixels and position are unchanged.
  *
  * A position is an offset in the file whichever call returns it: it serves for any window that has it, and for
  * jri_decode_rows. After a call with JRI_PARTIAL, let the next window begin at or before position->at and end later.
