@@ -11,8 +11,8 @@ use Rattle.jr_cut.specs.declared.scan_end.ScanEnd.TheVariants.{EndOfImage, Other
 use Rattle.jr_cut.specs.Cut.{CodedSegment, Cutting, HasMarker, IsEnding, IsRaw, marker, with_markers}
 use Rattle.jr_cut.proofs.EachCut.{each_scan_has_a_cut}
 use Rattle.jr_cut.proofs.Segments.{length_marker}
-use Rattle.jr_mend.specs.declared.pace.Pace.{Pace}
-use Rattle.jr_mend.specs.Resync.{EndsResync, IsAhead, IsMeaning, IsResync, Part, PartsFrom, Resync, first_pace, pace_after, max_missing, number_after, part_bytes}
+use Rattle.jr_mend.specs.Markers.{markers_in, most_missing, scan_bytes}
+use Rattle.jr_mend.specs.Resync.{EndsResync, IsAhead, IsMeaning, IsResync, Part, PartsFrom, Resync, number_after, part_bytes, since_after}
 use Rattle.jr_mend.proofs.ResyncLaw.{is_due, same_below}
 use Rattle.jr_mend.proofs.Resyncs.{few_after, parts_last, parts_next, with_part}
 
@@ -118,40 +118,40 @@ small_behind bytes before rest e all = subst (All (λ b. b < 256)) (ap (drop (le
 
 -- ---- all of them
 
-record Follows (n size : ℕ) (pace : Pace) (k at : ℕ) (bytes : List ℕ) : Type 0 where
+record Follows (n size since k at : ℕ) (bytes : List ℕ) : Type 0 where
   r : Resync
-  is : PartsFrom n size pace k at bytes r
+  is : PartsFrom n size since k at bytes r
 
-last : (n size : ℕ) (pace : Pace) (k at : ℕ) (tail : List ℕ) (end : ScanEnd) → EndsResync n k at tail end → Follows n size pace k at tail
-last n size pace k at tail end ends = record { r = record { raws = []; datas = []; breaks = []; end = end }; is = parts_last n size pace k at tail end ends }
+last : (n size since k at : ℕ) (tail : List ℕ) (end : ScanEnd) → EndsResync n k at tail end → Follows n size since k at tail
+last n size since k at tail end ends = record { r = record { raws = []; datas = []; breaks = []; end = end }; is = parts_last n size since k at tail end ends }
 
-module _ (n size : ℕ) (pace : Pace) (k at : ℕ) (tail : List ℕ) (few : k < n) (small : All (λ b. b < 256) tail)
-    (next : (pace : Pace) (k at o : ℕ) (t : List ℕ) (end : ScanEnd) → length t < length tail → k < n → IsEnding 1 0 o t end → All (λ b. b < 256) t → Follows n size pace k at t) where
-  goes_on : (code : ℕ) → HasMarker tail code → 0 < code → code < PREFIX → code ≢ EOI → k + 1 < n → Follows n size pace k at tail
+module _ (n size since k at : ℕ) (tail : List ℕ) (few : k < n) (small : All (λ b. b < 256) tail)
+    (next : (since k at o : ℕ) (t : List ℕ) (end : ScanEnd) → length t < length tail → k < n → IsEnding 1 0 o t end → All (λ b. b < 256) t → Follows n size since k at t) where
+  goes_on : (code : ℕ) → HasMarker tail code → 0 < code → code < PREFIX → code ≢ EOI → k + 1 < n → Follows n size since k at tail
   goes_on code m some less goes further =
       let mark = marker m.0 code in
-      let a = meaning_of n k (max_missing n size pace) code some less goes further in
+      let a = meaning_of n k (most_missing n size since k (markers_in 0 tail)) code some less goes further in
       let small_rest = small_behind tail mark m.1 m.2 small in
       let f = front m.1 small_rest in
       let p : Part = record { more = m.0; code = code; missing = a.missing; raw = f.raw; bytes = f.found } in
       let spelled : tail ≡ part_bytes p ++ f.tail = m.2 ∙ ap (λ (x : List ℕ). mark ++ x) f.whole ∙ sym (append_assoc mark f.raw f.tail) in
       let shorter : length f.tail < length tail = omega (arith, ap length spelled, length-append (part_bytes p) f.tail, length-append mark f.raw, length_marker m.0 code) in
-      let others = next (pace_after pace a.missing (length (part_bytes p)) (length f.raw)) (number_after k a.missing) (at + length (part_bytes p)) f.at f.tail f.end shorter (few_after n k (max_missing n size pace) code a.missing a.is) f.ends (small_behind m.1 f.raw f.tail f.whole small_rest) in
-      record { r = with_part at k p others.r; is = parts_next n size pace k at p tail f.tail others.r a.is f.is_raw spelled others.is }
+      let others = next (since_after since a.missing (length (part_bytes p))) (number_after k a.missing) (at + length (part_bytes p)) f.at f.tail f.end shorter (few_after n k (most_missing n size since k (markers_in 0 tail)) code a.missing a.is) f.ends (small_behind m.1 f.raw f.tail f.whole small_rest) in
+      record { r = with_part at k p others.r; is = parts_next n size since k at p tail f.tail others.r a.is f.is_raw spelled others.is }
 
-  restart : (number : ℕ) → number < 8 → HasMarker tail (RST0 + number) → Follows n size pace k at tail
+  restart : (number : ℕ) → number < 8 → HasMarker tail (RST0 + number) → Follows n size since k at tail
   restart number lt m = elim (cases_eq (k + 1) n) [
-    | inl all ↦ last n size pace k at tail (ExtraRestart at) ((number, lt, m, all, refl), inr (inr all))
+    | inl all ↦ last n size since k at tail (ExtraRestart at) ((number, lt, m, all, refl), inr (inr all))
     | inr further ↦ goes_on (RST0 + number) m (omega arith) (omega (arith, lt)) (λ e. omega (arith, lt, e)) (omega (arith, few, further))
   ]
 
-  follows : (o : ℕ) (end : ScanEnd) → IsEnding 1 0 o tail end → Follows n size pace k at tail
-  follows o EndOfFile h = last n size pace k at tail EndOfFile (h, inl refl)
-  follows o EndOfImage h = last n size pace k at tail EndOfImage (h, inr (inl refl))
+  follows : (o : ℕ) (end : ScanEnd) → IsEnding 1 0 o tail end → Follows n size since k at tail
+  follows o EndOfFile h = last n size since k at tail EndOfFile (h, inl refl)
+  follows o EndOfImage h = last n size since k at tail EndOfImage (h, inr (inl refl))
   follows o (ExtraRestart at') h = restart h.0 h.1 h.2
   follows o (OutOfStep f x at') h = absurd (omega (arith, h.2))
   follows o (OtherMarker c at') h = elim (cases_eq (k + 1) n) [
-    | inl all ↦ last n size pace k at tail (OtherMarker c at) ((h.0, h.1, h.2, h.3, refl), inr (inr all))
+    | inl all ↦ last n size since k at tail (OtherMarker c at) ((h.0, h.1, h.2, h.3, refl), inr (inr all))
     | inr further ↦ goes_on c h.2 h.0 h.1 (not_end c h.3) (omega (arith, few, further))
   ]
     where
@@ -160,14 +160,14 @@ module _ (n size : ℕ) (pace : Pace) (k at : ℕ) (tail : List ℕ) (few : k < 
       not_end c (inr (inl q)) e = omega (arith, q, e)
       not_end c (inr (inr g)) e = omega (arith, g, e)
 
-follows_from : (fuel n size : ℕ) (pace : Pace) (k at o : ℕ) (tail : List ℕ) (end : ScanEnd) → length tail ≤ fuel → k < n → IsEnding 1 0 o tail end → All (λ b. b < 256) tail → Follows n size pace k at tail
-follows_from zero n size pace k at o tail end short few ends small = last n size pace k at tail EndOfFile ((0, nil_from_length tail (omega (arith, short))), inl refl)
-follows_from (suc fuel) n size pace k at o tail end short few ends small =
-    follows n size pace k at tail few small (λ pace' k' at' o' t e shorter few' ends' small'. follows_from fuel n size pace' k' at' o' t e (omega (arith, short, shorter)) few' ends' small') o end ends
+follows_from : (fuel n size since k at o : ℕ) (tail : List ℕ) (end : ScanEnd) → length tail ≤ fuel → k < n → IsEnding 1 0 o tail end → All (λ b. b < 256) tail → Follows n size since k at tail
+follows_from zero n size since k at o tail end short few ends small = last n size since k at tail EndOfFile ((0, nil_from_length tail (omega (arith, short))), inl refl)
+follows_from (suc fuel) n size since k at o tail end short few ends small =
+    follows n size since k at tail few small (λ since' k' at' o' t e shorter few' ends' small'. follows_from fuel n size since' k' at' o' t e (omega (arith, short, shorter)) few' ends' small') o end ends
 
 pub each_scan_resyncs : (n at : ℕ) (bytes : List ℕ) → 0 < n → All (λ b. b < 256) bytes → (r : Resync) × IsResync n at bytes r
 each_scan_resyncs n at bytes some small =
     let f = front bytes small in
-    let others = follows_from (length f.tail) n (length bytes) (first_pace (length f.raw)) 0 (at + length f.raw) f.at f.tail f.end (omega arith) some f.ends (small_behind bytes f.raw f.tail f.whole small) in
+    let others = follows_from (length f.tail) n (scan_bytes (markers_in 0 bytes)) (length f.raw) 0 (at + length f.raw) f.at f.tail f.end (omega arith) some f.ends (small_behind bytes f.raw f.tail f.whole small) in
     let r : Resync = record { raws = f.raw ∷ others.r.raws; datas = f.found ∷ others.r.datas; breaks = others.r.breaks; end = others.r.end } in
     (r, record { some = some; raw = f.raw; first = f.found; rest = f.tail; after = others.r; is_raw = f.is_raw; spelled = f.whole; parts = others.is; is = refl })

@@ -5,20 +5,20 @@ use Rattle.jr_base.specs.declared.marker.TheConstants.{RST0}
 use Rattle.jr_cut.specs.declared.scan_end.ScanEnd.{ScanEnd}
 use Rattle.jr_cut.specs.declared.scan_end.ScanEnd.TheVariants.{EndOfImage, OtherMarker, OutOfStep, ExtraRestart, EndOfFile}
 use Rattle.jr_cut.specs.Cut.{CodedSegment, IsCut, IsEnding, IsRaw, marker, with_markers}
-use Rattle.jr_mend.specs.declared.pace.Pace.{Pace}
-use Rattle.jr_mend.specs.Resync.{AreParts, EndsResync, IsInStep, IsResync, Part, PartsFrom, Resync, breaks_of, first_pace, last_number, new_segments, pace_after, part_bytes}
+use Rattle.jr_mend.specs.Markers.{markers_in, scan_bytes}
+use Rattle.jr_mend.specs.Resync.{AreParts, EndsResync, IsInStep, IsResync, Part, PartsFrom, Resync, breaks_of, last_number, new_segments, part_bytes, since_after}
 use Rattle.jr_mend.proofs.ResyncLaw.{one_resync}
 
 unfoldable pub parts_of : ℕ → List CodedSegment → List Part
 parts_of k [] = []
 parts_of k (p ∷ ps) = (record { more = p.more; code = RST0 + k % 8; missing = Some 0; raw = p.raw; bytes = p.bytes }) ∷ parts_of (suc k) ps
 
-are_parts : (n size : ℕ) (pace : Pace) (j k : ℕ) (ps : List CodedSegment) → j ≡ k → AllByRecursion (λ p. IsRaw p.raw p.bytes) ps → k + length ps < n → AreParts n size pace j (parts_of k ps)
+are_parts : (n size since j k : ℕ) (tail : List ℕ) (ps : List CodedSegment) → j ≡ k → AllByRecursion (λ p. IsRaw p.raw p.bytes) ps → k + length ps < n → AreParts n size since j tail (parts_of k ps)
 unfolding parts_of
-are_parts n size pace j k [] same each few = tt
-are_parts n size pace j k (p ∷ ps) same each few =
+are_parts n size since j k tail [] same each few = tt
+are_parts n size since j k tail (p ∷ ps) same each few =
     let due : k ≡ j + 0 = omega (arith, same) in
-    ((omega (arith, same, few), ap (λ (i : ℕ). RST0 + i % 8) due, inl refl), each.0, are_parts n size (pace_after pace (Some 0) (length (marker p.more (RST0 + k % 8) ++ p.raw)) (length p.raw)) (suc (j + 0)) (suc k) ps (omega (arith, same)) each.1 (omega (arith, few)))
+    ((omega (arith, same, few), ap (λ (i : ℕ). RST0 + i % 8) due, inl refl), each.0, are_parts n size (since_after since (Some 0) (length (marker p.more (RST0 + k % 8) ++ p.raw))) (suc (j + 0)) (suc k) tail ps (omega (arith, same)) each.1 (omega (arith, few)))
 
 bytes_are : (k : ℕ) (ps : List CodedSegment) → flat_map part_bytes (parts_of k ps) ≡ with_markers k ps
 unfolding parts_of
@@ -62,7 +62,7 @@ module _ (n at : ℕ) (bytes : List ℕ) (datas : List (List ℕ)) (end : ScanEn
   abbrev pub whole : Resync
   whole = record { raws = c.raw ∷ after.raws; datas = c.first ∷ after.datas; breaks = after.breaks; end = after.end }
 
-  follows : PartsFrom n (length bytes) (first_pace (length c.raw)) 0 (at + length c.raw) rest after
+  follows : PartsFrom n (scan_bytes (markers_in 0 bytes)) (length c.raw) 0 (at + length c.raw) rest after
   unfolding after
   follows =
       let spelled = bytes_are 0 c.segments in
@@ -71,7 +71,7 @@ module _ (n at : ℕ) (bytes : List ℕ) (datas : List (List ℕ)) (end : ScanEn
       record {
         parts = parts;
         tail = c.tail;
-        are = are_parts n (length bytes) (first_pace (length c.raw)) 0 0 c.segments refl c.each c.few;
+        are = are_parts n (scan_bytes (markers_in 0 bytes)) (length c.raw) 0 0 c.tail c.segments refl c.each c.few;
         spelled = ap (λ (x : List ℕ). x ++ c.tail) (sym spelled);
         raws = refl;
         datas = sym (datas_are 0 c.segments);

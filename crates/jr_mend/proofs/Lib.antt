@@ -4,6 +4,8 @@ pub mod ScanOfCopies
 pub mod Splices
 pub mod Resyncs
 pub mod Readings
+pub mod MarkersLaw
+pub mod TrailerLaw
 pub mod ResyncLaw
 pub mod InStep
 pub mod EachResync

@@ -1,8 +1,8 @@
 -- A file is read marker by marker.
-use Rattle.std.specs.Prelude.{nat_le}
-use Rattle.std.proofs.Common.{◌≡◌, ℕ, zero, suc, Bool, true, false, ◌+◌, ◌-◌, ◌<◌, ◌≤◌, List, [], ◌∷◌, ◌++◌, length, take, drop, sym, ap, subst, ◌∙◌, append_assoc, length-append, length-drop, Option, Some, None, arith}
+use Rattle.std.proofs.Common.{◌≡◌, ◌≢◌, ℕ, suc, ◌+◌, ◌-◌, ◌<◌, ◌≤◌, List, [], ◌∷◌, ◌++◌, length, take, drop, refl, sym, ap, subst, ◌∙◌, append_assoc, length-append, length-drop, Option, Some, None, arith}
 use Rattle.std.proofs.lemmas.List.{append-nil, drop-drop}
 use Rattle.jr_base.specs.declared.limits.TheConstants.{MAX_FILE_BYTES}
+use Rattle.jr_base.specs.declared.marker.TheConstants.{EOI}
 use Rattle.jr_cut.specs.declared.scan_end.ScanEnd.{ScanEnd}
 use Rattle.jr_cut.specs.Cut.{IsRaw, IsStop, marker}
 use Rattle.jr_cut.proofs.Cuts.{rest_is}
@@ -15,12 +15,14 @@ use Rattle.jr_scan.specs.ScanValue.{intervals_of}
 use Rattle.jr_cut.specs.declared.breaks.Break.{Break}
 use Rattle.jr_mend.specs.declared.following.FoundMarker.{FoundMarker}
 use Rattle.jr_mend.specs.declared.reading.Reading.{Reading}
-use Rattle.jr_mend.specs.Reading.{Becomes, HasResyncedTo, IsTooLong, Meets, Takes}
-use Rattle.jr_mend.specs.declared.pace.Pace.{Pace}
-use Rattle.jr_mend.specs.declared.pace.TheConstants.{SURE_BYTES}
-use Rattle.jr_mend.specs.Resync.{EndsResync, IsResync, Part, PartsFrom, Resync, after_due, break_at, first_pace, pace_after, max_missing, new_segments, number_after, part_bytes}
+use Rattle.jr_mend.specs.Reading.{Becomes, HasResyncedTo, IsOutlook, IsTooLong, Meets, Takes}
+use Rattle.jr_mend.specs.declared.markers.ScanMarker.{ScanMarker}
+use Rattle.jr_mend.specs.Markers.{markers_in, most_missing, scan_bytes}
+use Rattle.jr_mend.specs.Resync.{EndsResync, IsResync, Part, PartsFrom, Resync, break_at, new_segments, number_after, part_bytes, since_after}
 use Rattle.jr_mend.specs.Splice.{coded_intervals, joined_intervals, spliced}
 use Rattle.jr_mend.proofs.Resyncs.{count_after, few_after, new_spelled, parts_last, parts_next, with_part, zip_append}
+use Rattle.jr_mend.proofs.MarkersLaw.{marker_on, outlook_rebased, raw_on}
+use Rattle.jr_mend.proofs.ResyncLaw.{means}
 use Rattle.jr_mend.proofs.Splices.{scan_is}
 
 -- ---- the bytes up to a marker
@@ -53,59 +55,66 @@ module _ (file : List ℕ) (h : HeadValue) (w : Reading) (len : ℕ) (s : Segmen
   abbrev first : List ℕ
   first = take len (drop h.scan_at file)
 
-  on_first : 0 < intervals_of h → w.k ≡ 0 → w.at ≡ h.scan_at + len → w.breaks.items ≡ [] → w.pace ≡ first_pace len → (r : Resync) → PartsFrom (intervals_of h) (length (drop h.scan_at file)) w.pace w.k w.at (drop w.at file) r
+  abbrev whole : ℕ
+  whole = scan_bytes (markers_in 0 (drop h.scan_at file))
+
+  on_first : 0 < intervals_of h → w.k ≡ 0 → w.at ≡ h.scan_at + len → w.breaks.items ≡ [] → w.since ≡ len → w.outlook.size ≡ whole → (r : Resync) → PartsFrom (intervals_of h) w.outlook.size w.since w.k w.at (drop w.at file) r
       → IsResync (intervals_of h) h.scan_at (drop h.scan_at file) (record { raws = first ∷ r.raws; datas = s.found ∷ r.datas; breaks = w.breaks.items ++ r.breaks; end = r.end })
-  on_first some number at none paced r p =
+  on_first some number at none since size r p =
+      let n = intervals_of h in
+      let rest = drop w.at file in
       let long : w.at ≡ h.scan_at + length first = omega (arith, at, length_front file h.scan_at len s.within) in
-      let pace : w.pace ≡ first_pace (length first) = paced ∙ ap first_pace (sym (length_front file h.scan_at len s.within)) in
-      let size = length (drop h.scan_at file) in
+      let since : w.since ≡ length first = since ∙ sym (length_front file h.scan_at len s.within) in
+      let sized = subst (λ (z : ℕ). PartsFrom n z w.since w.k w.at rest r) size p in
+      let counted = subst (λ (z : ℕ). PartsFrom n whole z w.k w.at rest r) since sized in
+      let numbered = subst (λ (k : ℕ). PartsFrom n whole (length first) k w.at rest r) number counted in
       record {
         some = some;
         raw = first;
         first = s.found;
-        rest = drop w.at file;
+        rest = rest;
         after = r;
         is_raw = s.raw;
         spelled = split_at file h.scan_at len ∙ ap (λ (k : ℕ). first ++ drop k file) (sym at);
-        parts = subst (λ (o : ℕ). PartsFrom (intervals_of h) size (first_pace (length first)) 0 o (drop w.at file) r) long (subst (λ (k : ℕ). PartsFrom (intervals_of h) size (first_pace (length first)) k w.at (drop w.at file) r) number (subst (λ (b : Pace). PartsFrom (intervals_of h) size b w.k w.at (drop w.at file) r) pace p));
+        parts = subst (λ (o : ℕ). PartsFrom n whole (length first) 0 o rest r) long numbered;
         is = ap (λ (b : List Break). record { raws = first ∷ r.raws; datas = s.found ∷ r.datas; breaks = b ++ r.breaks; end = r.end }) none;
       }
 
-  pub read_first : 0 < intervals_of h → w.k ≡ 0 → w.at ≡ h.scan_at + len → w.breaks.items ≡ [] → w.pace ≡ first_pace len → w.bytes.items ≡ take h.scan_at file ++ joined_intervals (first ∷ []) → HasResyncedTo file h w
-  read_first some number at none paced written = record {
+  -- what is known of the markers of the scan is known of those after its first segment
+  ahead : w.at ≡ h.scan_at + len → IsOutlook (intervals_of h) (markers_in 0 (drop h.scan_at file)) w.outlook → IsOutlook (intervals_of h) (markers_in 0 (drop w.at file)) w.outlook
+  ahead at is =
+      let here : markers_in 0 (drop h.scan_at file) ≡ markers_in (0 + length first) (drop w.at file) =
+      ap (markers_in 0) (split_at file h.scan_at len) ∙ raw_on 0 first s.found (drop (h.scan_at + len) file) s.raw ∙ ap (λ (k : ℕ). markers_in (0 + length first) (drop k file)) (sym at) in
+      outlook_rebased (intervals_of h) (0 + length first) (drop w.at file) w.outlook (subst (λ (ms : List ScanMarker). IsOutlook (intervals_of h) ms w.outlook) here is)
+
+  pub read_first : 0 < intervals_of h → w.k ≡ 0 → w.at ≡ h.scan_at + len → w.breaks.items ≡ [] → w.since ≡ len → w.outlook.size ≡ whole → IsOutlook (intervals_of h) (markers_in 0 (drop h.scan_at file)) w.outlook → w.bytes.items ≡ take h.scan_at file ++ joined_intervals (first ∷ []) → HasResyncedTo file h w
+  read_first some number at none since size is written = record {
     raws = first ∷ [];
     datas = s.found ∷ [];
     count = omega (arith, number);
     few = omega (arith, number, some);
     each = (s.raw, tt);
-    near = (omega (arith, ap (λ (q : Pace). q.bytes) paced, at), omega (arith, ap (λ (q : Pace). q.run) paced, at), omega (arith, ap (λ (q : Pace). q.intervals) paced, number));
+    near = omega (arith, since, at);
+    size = size;
+    outlook = ahead at is;
     within = omega (arith, at, s.within);
     stop = subst (λ (k : ℕ). IsStop (drop k file)) (sym at) s.stop;
     written = written;
-    on = on_first some number at none paced;
+    on = on_first some number at none since size;
   }
 
 -- ---- a marker, and the bytes after it
 
--- the pace counts no byte before the scan, and no segment that is not placed
-Near : Pace → (low at k : ℕ) → Type 0
-Near p low at k = (low + p.bytes ≤ at) × (p.run ≤ at) × (p.intervals ≤ k)
+near_after : (since : ℕ) (a : Option ℕ) (low at part : ℕ) → low + since ≤ at → low + since_after since a part ≤ at + part
+near_after since None low at part near = omega (arith, near)
+near_after since (Some d) low at part near = omega (arith, near)
 
-near_after : (p : Pace) (a : Option ℕ) (low at part raw k : ℕ) → Near p low at k → raw ≤ part → Near (pace_after p a part raw) low (at + part) (number_after k a)
-unfolding Near
-near_after p None low at part raw k near r = (omega (arith, near.0), omega arith, near.2)
-near_after p (Some (suc d)) low at part raw k near r = (omega (arith, near.0), omega arith, omega (arith, near.2))
-near_after p (Some zero) low at part raw k near r = due (nat_le SURE_BYTES p.run)
-  where
-    due : (is_sure : Bool) → Near (after_due is_sure p part raw) low (at + part) (number_after k (Some 0))
-    due true = (omega (arith, near.0, r), omega (arith, near.1), omega arith)
-    due false = (omega (arith, near.0), omega (arith, near.1), omega (arith, near.2))
-
-pub takes : (file : List ℕ) (old mid v : Reading) (m : FoundMarker) (len : ℕ) (raw : List ℕ) → Segment file (mid.at + m.length) len → mid.breaks.items ≡ old.breaks.items ++ break_at old.at old.k m.code m.missing → mid.bytes ≡ old.bytes → mid.k ≡ old.k → mid.pace ≡ old.pace → mid.at ≡ old.at
-    → v.at ≡ mid.at + m.length + len → v.k ≡ number_after mid.k m.missing → v.pace ≡ pace_after mid.pace m.missing (m.length + len) len → v.breaks ≡ mid.breaks
+pub takes : (file : List ℕ) (old mid v : Reading) (m : FoundMarker) (len : ℕ) (raw : List ℕ) → Segment file (mid.at + m.length) len → mid.breaks.items ≡ old.breaks.items ++ break_at old.at old.k m.code m.missing → mid.bytes ≡ old.bytes → mid.k ≡ old.k → mid.since ≡ old.since → mid.outlook ≡ old.outlook → mid.at ≡ old.at
+    → v.at ≡ mid.at + m.length + len → v.k ≡ number_after mid.k m.missing → v.since ≡ since_after mid.since m.missing (m.length + len) → v.outlook.size ≡ mid.outlook.size
+    → ((n : ℕ) (x : ScanMarker) (ms : List ScanMarker) → x.code ≡ m.code → x.code ≢ EOI → IsOutlook n (x ∷ ms) mid.outlook → IsOutlook n ms v.outlook) → v.breaks ≡ mid.breaks
     → ((front : List ℕ) (raws : List (List ℕ)) → length raws ≡ suc mid.k → mid.bytes.items ≡ front ++ joined_intervals raws → v.bytes.items ≡ front ++ joined_intervals (raws ++ new_segments m.missing raw))
     → raw ≡ take len (drop (mid.at + m.length) file) → Takes file old v m
-takes file old mid v m len raw s noted bytes number pace at place next paced breaks written slice =
+takes file old mid v m len raw s noted bytes number since outlook at place next counted size ahead breaks written slice =
     let start : mid.at + m.length ≡ old.at + m.length = ap (λ a. a + m.length) at in
     let told = subst (λ (a : ℕ). Segment file a len) start s in
     let end : v.at ≡ old.at + m.length + len = omega (arith, place, at) in
@@ -117,14 +126,16 @@ takes file old mid v m len raw s noted bytes number pace at place next paced bre
       at = end;
       stop = subst (λ (k : ℕ). IsStop (drop k file)) (sym end) told.stop;
       number = next ∙ ap (λ (k : ℕ). number_after k m.missing) number;
-      pace = paced ∙ ap (λ (q : Pace). pace_after q m.missing (m.length + len) len) pace;
+      since = counted ∙ ap (λ (q : ℕ). since_after q m.missing (m.length + len)) since;
+      size = size ∙ ap (λ o. o.size) outlook;
+      outlook = λ n x ms code on is. ahead n x ms code on (subst (IsOutlook n (x ∷ ms)) (sym outlook) is);
       breaks = ap (λ b. b.items) breaks ∙ noted;
       written = λ front raws count e.
           written front raws (count ∙ ap suc (sym number)) (ap (λ b. b.items) bytes ∙ e)
           ∙ ap (λ (x : List ℕ). front ++ joined_intervals (raws ++ new_segments m.missing x)) (slice ∙ ap (λ (a : ℕ). take len (drop a file)) start);
     }
 
-module _ (file : List ℕ) (h : HeadValue) (w v : Reading) (m : FoundMarker) (has : HasResyncedTo file h w) (meets : Meets (intervals_of h) w.k (max_missing (intervals_of h) (length (drop h.scan_at file)) w.pace) (drop w.at file) m) (t : Takes file w v m) where
+module _ (file : List ℕ) (h : HeadValue) (w v : Reading) (m : FoundMarker) (has : HasResyncedTo file h w) (meets : Meets (intervals_of h) w.k (most_missing (intervals_of h) w.outlook.size w.since w.k (markers_in 0 (drop w.at file))) (drop w.at file) m) (t : Takes file w v m) where
   abbrev raw : List ℕ
   raw = take t.len (drop (w.at + m.length) file)
 
@@ -140,24 +151,38 @@ module _ (file : List ℕ) (h : HeadValue) (w v : Reading) (m : FoundMarker) (ha
   place : v.at ≡ w.at + length (part_bytes part)
   place = omega (arith, t.at, meets.long, length-append (marker meets.more m.code) raw, length_marker meets.more m.code, length_front file (w.at + m.length) t.len t.within)
 
-  raw_long : length raw ≡ t.len
-  raw_long = length_front file (w.at + m.length) t.len t.within
-
-  pace : v.pace ≡ pace_after w.pace m.missing (length (part_bytes part)) (length raw)
-  pace =
+  since : v.since ≡ since_after w.since m.missing (length (part_bytes part))
+  since =
       let whole : m.length + t.len ≡ length (part_bytes part) = omega (arith, place, t.at) in
-      t.pace ∙ ap (λ (n : ℕ). pace_after w.pace m.missing n t.len) whole ∙ ap (pace_after w.pace m.missing (length (part_bytes part))) (sym raw_long)
+      t.since ∙ ap (λ (n : ℕ). since_after w.since m.missing n) whole
 
-  abbrev size : ℕ
-  size = length (drop h.scan_at file)
+  abbrev limit : ℕ
+  limit = most_missing (intervals_of h) w.outlook.size w.since w.k (markers_in 0 (drop w.at file))
 
-  next : (r : Resync) → PartsFrom (intervals_of h) size v.pace v.k v.at (drop v.at file) r → PartsFrom (intervals_of h) size w.pace w.k w.at (drop w.at file) (with_part w.at w.k part r)
+  next : (r : Resync) → PartsFrom (intervals_of h) v.outlook.size v.since v.k v.at (drop v.at file) r → PartsFrom (intervals_of h) w.outlook.size w.since w.k w.at (drop w.at file) (with_part w.at w.k part r)
   next r p =
-      let after = pace_after w.pace m.missing (length (part_bytes part)) (length raw) in
-      let counted = subst (λ (b : Pace). PartsFrom (intervals_of h) size b v.k v.at (drop v.at file) r) pace p in
-      let numbered = subst (λ (k : ℕ). PartsFrom (intervals_of h) size after k v.at (drop v.at file) r) t.number counted in
-      parts_next (intervals_of h) size w.pace w.k w.at part (drop w.at file) (drop v.at file) r meets.means t.raw spelled
-      (subst (λ (o : ℕ). PartsFrom (intervals_of h) size after (number_after w.k m.missing) o (drop v.at file) r) place numbered)
+      let n = intervals_of h in
+      let after = since_after w.since m.missing (length (part_bytes part)) in
+      let sized = subst (λ (z : ℕ). PartsFrom n z v.since v.k v.at (drop v.at file) r) t.size p in
+      let counted = subst (λ (z : ℕ). PartsFrom n w.outlook.size z v.k v.at (drop v.at file) r) since sized in
+      let numbered = subst (λ (k : ℕ). PartsFrom n w.outlook.size after k v.at (drop v.at file) r) t.number counted in
+      parts_next n w.outlook.size w.since w.k w.at part (drop w.at file) (drop v.at file) r meets.means t.raw spelled
+      (subst (λ (o : ℕ). PartsFrom n w.outlook.size after (number_after w.k m.missing) o (drop v.at file) r) place numbered)
+
+  -- what is known of the markers after this one
+  ahead_after : IsOutlook (intervals_of h) (markers_in 0 (drop v.at file)) v.outlook
+  ahead_after =
+      let n = intervals_of h in
+      let has_code = means n w.k limit m.code m.missing meets.means in
+      let rest = raw ++ drop v.at file in
+      let mark = marker meets.more m.code in
+      let marked : drop w.at file ≡ mark ++ rest = spelled ∙ append_assoc mark raw (drop v.at file) in
+      let first = marker_on 0 meets.more m.code rest (λ e. omega (arith, e, has_code.some)) (λ e. omega (arith, e, has_code.less)) in
+      let x : ScanMarker = record { before = 0 + meets.more; code = m.code } in
+      let here : markers_in 0 (drop w.at file) ≡ x ∷ markers_in (0 + length raw) (drop v.at file) =
+      ap (markers_in 0) marked ∙ first ∙ ap (λ (ms : List ScanMarker). x ∷ ms) (raw_on 0 raw t.data' (drop v.at file) t.raw) in
+      let is = subst (λ (ms : List ScanMarker). IsOutlook n ms w.outlook) here has.outlook in
+      outlook_rebased n (0 + length raw) (drop v.at file) v.outlook (t.outlook n x (markers_in (0 + length raw) (drop v.at file)) refl has_code.goes is)
 
   joins : (r : Resync) → IsResync (intervals_of h) h.scan_at (drop h.scan_at file) (record { raws = has.raws ++ (new_segments m.missing raw ++ r.raws); datas = has.datas ++ (new_segments m.missing t.data' ++ r.datas); breaks = w.breaks.items ++ (break_at w.at w.k m.code m.missing ++ r.breaks); end = r.end })
       → IsResync (intervals_of h) h.scan_at (drop h.scan_at file) (record { raws = (has.raws ++ new_segments m.missing raw) ++ r.raws; datas = (has.datas ++ new_segments m.missing t.data') ++ r.datas; breaks = v.breaks.items ++ r.breaks; end = r.end })
@@ -170,20 +195,19 @@ module _ (file : List ℕ) (h : HeadValue) (w v : Reading) (m : FoundMarker) (ha
       let same : old ≡ new = cc (a, b, c) in
       subst (IsResync (intervals_of h) h.scan_at (drop h.scan_at file)) same is
 
-  near : (h.scan_at + v.pace.bytes ≤ v.at) × (v.pace.run ≤ v.at) × (v.pace.intervals ≤ v.k)
-  unfolding Near
-  near =
-      let after = near_after w.pace m.missing h.scan_at w.at (m.length + t.len) t.len w.k has.near (omega arith) in
-      (omega (arith, ap (λ (q : Pace). q.bytes) t.pace, after.0, t.at), omega (arith, ap (λ (q : Pace). q.run) t.pace, after.1, t.at), omega (arith, ap (λ (q : Pace). q.intervals) t.pace, after.2, t.number))
+  near : h.scan_at + v.since ≤ v.at
+  near = omega (arith, near_after w.since m.missing h.scan_at w.at (m.length + t.len) has.near, t.since, t.at)
 
   pub read_more : HasResyncedTo file h v
   read_more = record {
     raws = has.raws ++ new_segments m.missing raw;
     datas = has.datas ++ new_segments m.missing t.data';
     count = count_after w.k m.missing has.raws raw has.count ∙ ap suc (sym t.number);
-    few = omega (arith, t.number, few_after (intervals_of h) w.k (max_missing (intervals_of h) size w.pace) m.code m.missing meets.means);
+    few = omega (arith, t.number, few_after (intervals_of h) w.k limit m.code m.missing meets.means);
     each = zip_append has.raws has.datas (new_segments m.missing raw) (new_segments m.missing t.data') has.each (new_spelled m.missing raw t.data' t.raw);
     near = near;
+    size = t.size ∙ has.size;
+    outlook = ahead_after;
     within = omega (arith, t.at, t.within);
     stop = t.stop;
     written = t.written (take h.scan_at file) has.raws has.count has.written;
@@ -203,7 +227,7 @@ module _ (file : List ℕ) (h : HeadValue) (w : Reading) (end : ScanEnd) (has : 
       let c = append-nil w.breaks.items in
       let old : Resync = record { raws = has.raws ++ []; datas = has.datas ++ []; breaks = w.breaks.items ++ []; end = end } in
       let same : old ≡ segments_read = cc (a, b, c) in
-      subst (IsResync (intervals_of h) h.scan_at (drop h.scan_at file)) same (has.on (record { raws = []; datas = []; breaks = []; end = end }) (parts_last (intervals_of h) (length (drop h.scan_at file)) w.pace w.k w.at (drop w.at file) end ends))
+      subst (IsResync (intervals_of h) h.scan_at (drop h.scan_at file)) same (has.on (record { raws = []; datas = []; breaks = []; end = end }) (parts_last (intervals_of h) w.outlook.size w.since w.k w.at (drop w.at file) end ends))
 
   pub becomes : (new : List ℕ) (breaks : List Break) (ended : ScanEnd) → HeadOf file h → new ≡ spliced file h has.raws → length new ≤ MAX_FILE_BYTES → breaks ≡ w.breaks.items → ended ≡ end → Becomes file h new breaks ended
   becomes new breaks ended head bytes small listed ends_so =

@@ -9,8 +9,8 @@ use Rattle.jr_cut.specs.Cut.{HasMarker, IsCut, IsEnding, IsStop, marker}
 use Rattle.jr_cut.proofs.CutLaw.{ending_stop, marker_stop, one_cut, run_of, same_marker}
 use Rattle.jr_cut.proofs.Cuts.{cut_last, raw_none, run_end, run_same}
 use Rattle.jr_cut.proofs.Spellings.{one_stop}
-use Rattle.jr_mend.specs.declared.pace.Pace.{Pace}
-use Rattle.jr_mend.specs.Resync.{AreParts, EndsResync, IsAhead, IsMeaning, IsResync, Part, PartsFrom, Resync, breaks_of, first_pace, pace_after, last_number, max_missing, new_segments, number_after, part_bytes}
+use Rattle.jr_mend.specs.Markers.{markers_in, most_missing, scan_bytes}
+use Rattle.jr_mend.specs.Resync.{AreParts, EndsResync, IsAhead, IsMeaning, IsResync, Part, PartsFrom, Resync, breaks_of, last_number, new_segments, number_after, part_bytes, since_after}
 
 -- ---- the meaning of a marker
 
@@ -37,13 +37,13 @@ same_meaning n k limit code (Some d) None x y = absurd (y.4 d x)
 same_meaning n k limit code (Some d) (Some e) x y = ap Some (same_ahead n k limit code d e x y)
 
 -- it has a code, and is not EOI nor after the last segment
-record Means (n k code : ℕ) : Type 0 where
-  some : 0 < code
-  less : code < PREFIX
-  goes : code ≢ EOI
-  further : k + 1 < n
+pub record Means (n k code : ℕ) : Type 0 where
+  pub some : 0 < code
+  pub less : code < PREFIX
+  pub goes : code ≢ EOI
+  pub further : k + 1 < n
 
-means : (n k limit code : ℕ) (a : Option ℕ) → IsMeaning n k limit code a → Means n k code
+pub means : (n k limit code : ℕ) (a : Option ℕ) → IsMeaning n k limit code a → Means n k code
 means n k limit code None m = record { some = m.0; less = m.1; goes = m.2; further = m.3 }
 means n k limit code (Some d) m = record { some = omega (arith, m.1); less = omega (arith, m.1); goes = λ e. omega (arith, e, m.1); further = omega (arith, m.0) }
 
@@ -70,32 +70,37 @@ not_ended n k limit at code a tail end ends meaning m = go ends.1
 first_part : (p : Part) (ps : List Part) (tail : List ℕ) → flat_map part_bytes (p ∷ ps) ++ tail ≡ marker p.more p.code ++ (p.raw ++ (flat_map part_bytes ps ++ tail))
 first_part p ps tail = append_assoc (part_bytes p) (flat_map part_bytes ps) tail ∙ append_assoc (marker p.more p.code) p.raw (flat_map part_bytes ps ++ tail)
 
-parts_stop : (n size : ℕ) (pace : Pace) (k : ℕ) (ps : List Part) (tail : List ℕ) → AreParts n size pace k ps → IsStop tail → IsStop (flat_map part_bytes ps ++ tail)
-parts_stop n size pace k [] tail are stop = stop
-parts_stop n size pace k (p ∷ ps) tail are stop =
-    let has = means n k (max_missing n size pace) p.code p.missing are.0 in
+-- the most segments that may be missing before a part
+abbrev most : (n size since k : ℕ) → List Part → List ℕ → ℕ
+most n size since k ps tail = most_missing n size since k (markers_in 0 (flat_map part_bytes ps ++ tail))
+
+parts_stop : (n size since k : ℕ) (ps : List Part) (tail : List ℕ) → AreParts n size since k tail ps → IsStop tail → IsStop (flat_map part_bytes ps ++ tail)
+parts_stop n size since k [] tail are stop = stop
+parts_stop n size since k (p ∷ ps) tail are stop =
+    let has = means n k (most n size since k (p ∷ ps) tail) p.code p.missing are.0 in
     marker_stop _ p.code (p.more, p.raw ++ (flat_map part_bytes ps ++ tail), first_part p ps tail) (λ e. omega (arith, e, has.some)) (λ e. omega (arith, e, has.less))
 
-same_parts : (n size : ℕ) (pace : Pace) (k at o : ℕ) (ps qs : List Part) (s t : List ℕ) (a b : ScanEnd) → AreParts n size pace k ps → AreParts n size pace k qs → EndsResync n (last_number k ps) at s a → EndsResync n (last_number k qs) o t b
+same_parts : (n size since k at o : ℕ) (ps qs : List Part) (s t : List ℕ) (a b : ScanEnd) → AreParts n size since k s ps → AreParts n size since k t qs → EndsResync n (last_number k ps) at s a → EndsResync n (last_number k qs) o t b
     → flat_map part_bytes ps ++ s ≡ flat_map part_bytes qs ++ t → (ps ≡ qs) × (s ≡ t)
-same_parts n size pace k at o [] [] s t a b hp hq ha hb e = (refl, e)
-same_parts n size pace k at o [] (q ∷ qs) s t a b hp hq ha hb e = absurd (not_ended n k (max_missing n size pace) at q.code q.missing s a ha hq.0 (q.more, _, e ∙ first_part q qs t))
-same_parts n size pace k at o (p ∷ ps) [] s t a b hp hq ha hb e = absurd (not_ended n k (max_missing n size pace) o p.code p.missing t b hb hp.0 (p.more, _, sym e ∙ first_part p ps s))
-same_parts n size pace k at o (p ∷ ps) (q ∷ qs) s t a b hp hq ha hb e =
+same_parts n size since k at o [] [] s t a b hp hq ha hb e = (refl, e)
+same_parts n size since k at o [] (q ∷ qs) s t a b hp hq ha hb e = absurd (not_ended n k (most n size since k (q ∷ qs) t) at q.code q.missing s a ha hq.0 (q.more, _, e ∙ first_part q qs t))
+same_parts n size since k at o (p ∷ ps) [] s t a b hp hq ha hb e = absurd (not_ended n k (most n size since k (p ∷ ps) s) o p.code p.missing t b hb hp.0 (p.more, _, sym e ∙ first_part p ps s))
+same_parts n size since k at o (p ∷ ps) (q ∷ qs) s t a b hp hq ha hb e =
     let x = p.raw ++ (flat_map part_bytes ps ++ s) in
     let y = q.raw ++ (flat_map part_bytes qs ++ t) in
-    let limit = max_missing n size pace in
-    let has_p = means n k limit p.code p.missing hp.0 in
+    let limit = most n size since k (q ∷ qs) t in
+    let means_p : IsMeaning n k limit p.code p.missing = subst (λ (z : List ℕ). IsMeaning n k (most_missing n size since k (markers_in 0 z)) p.code p.missing) e hp.0 in
+    let has_p = means n k limit p.code p.missing means_p in
     let has_q = means n k limit q.code q.missing hq.0 in
     let mark = run_same (suc p.more) (suc q.more) p.code q.code x y (λ z. omega (arith, z, has_p.less)) (λ z. omega (arith, z, has_q.less))
     (sym (run_of p.more p.code x) ∙ sym (first_part p ps s) ∙ e ∙ first_part q qs t ∙ run_of q.more q.code y) in
     let more : p.more ≡ q.more = omega (arith, mark.0) in
     let code : p.code ≡ q.code = mark.1 in
-    let missing : p.missing ≡ q.missing = same_meaning n k limit q.code p.missing q.missing (subst (λ (c : ℕ). IsMeaning n k limit c p.missing) code hp.0) hq.0 in
+    let missing : p.missing ≡ q.missing = same_meaning n k limit q.code p.missing q.missing (subst (λ (c : ℕ). IsMeaning n k limit c p.missing) code means_p) hq.0 in
     let number = number_after k p.missing in
     let ends = subst (λ (m : Option ℕ). EndsResync n (last_number (number_after k m) qs) o t b) (sym missing) hb in
-    let after_p = pace_after pace p.missing (length (part_bytes p)) (length p.raw) in
-    let after_q = pace_after pace q.missing (length (part_bytes q)) (length q.raw) in
+    let after_p = since_after since p.missing (length (part_bytes p)) in
+    let after_q = since_after since q.missing (length (part_bytes q)) in
     let stop_s = parts_stop n size after_p number ps s hp.2 (ending_stop n (last_number number ps) at s a ha.0) in
     let stop_t = parts_stop n size after_q (number_after k q.missing) qs t hq.2 (ending_stop n (last_number number qs) o t b ends.0) in
     let data' = one_stop p.raw p.bytes q.raw q.bytes (flat_map part_bytes ps ++ s) (flat_map part_bytes qs ++ t) hp.1 hq.1 mark.2 stop_s stop_t in
@@ -104,7 +109,7 @@ same_parts n size pace k at o (p ∷ ps) (q ∷ qs) s t a b hp hq ha hb e =
     let one : Part = record { more = p.more; code = p.code; missing = p.missing; raw = p.raw; bytes = p.bytes } in
     let other : Part = record { more = q.more; code = q.code; missing = q.missing; raw = q.raw; bytes = q.bytes } in
     let here : one ≡ other = cc (more, code, missing, raw, bytes) in
-    let are : AreParts n size after_p number qs = subst (λ (r : Part). AreParts n size (pace_after pace r.missing (length (part_bytes r)) (length r.raw)) (number_after k r.missing) qs) (sym here) hq.2 in
+    let are : AreParts n size after_p number t qs = subst (λ (r : Part). AreParts n size (since_after since r.missing (length (part_bytes r))) (number_after k r.missing) t qs) (sym here) hq.2 in
     let others = same_parts n size after_p number at o ps qs s t a b hp.2 are ha ends data'.1 in
     (ap (λ (r : Part). r ∷ ps) here ∙ ap (λ (rs : List Part). q ∷ rs) others.0, others.1)
 
@@ -134,9 +139,9 @@ same_end n k at tail a b ha hb = (one_cut 1 at tail ([] ∷ []) ([] ∷ []) a b 
 
 -- ---- the whole
 
-module _ (n size : ℕ) (pace : Pace) (k at : ℕ) (bytes : List ℕ) (r s : Resync) (f : PartsFrom n size pace k at bytes r) (g : PartsFrom n size pace k at bytes s) where
+module _ (n size since k at : ℕ) (bytes : List ℕ) (r s : Resync) (f : PartsFrom n size since k at bytes r) (g : PartsFrom n size since k at bytes s) where
   same : (f.parts ≡ g.parts) × (f.tail ≡ g.tail)
-  same = same_parts n size pace k (at + length (flat_map part_bytes f.parts)) (at + length (flat_map part_bytes g.parts)) f.parts g.parts f.tail g.tail r.end s.end f.are g.are f.ends g.ends (sym f.spelled ∙ g.spelled)
+  same = same_parts n size since k (at + length (flat_map part_bytes f.parts)) (at + length (flat_map part_bytes g.parts)) f.parts g.parts f.tail g.tail r.end s.end f.are g.are f.ends g.ends (sym f.spelled ∙ g.spelled)
 
   pub one_following : r ≡ s
   one_following =
@@ -150,16 +155,17 @@ module _ (n size : ℕ) (pace : Pace) (k at : ℕ) (bytes : List ℕ) (r s : Res
       let here : one ≡ other = cc (raws, datas, breaks, end) in
       here
 
-following_stop : (n size : ℕ) (pace : Pace) (k at : ℕ) (bytes : List ℕ) (r : Resync) → PartsFrom n size pace k at bytes r → IsStop bytes
-following_stop n size pace k at bytes r f = subst IsStop (sym f.spelled) (parts_stop n size pace k f.parts f.tail f.are (ending_stop n (last_number k f.parts) (at + length (flat_map part_bytes f.parts)) f.tail r.end f.ends.0))
+following_stop : (n size since k at : ℕ) (bytes : List ℕ) (r : Resync) → PartsFrom n size since k at bytes r → IsStop bytes
+following_stop n size since k at bytes r f = subst IsStop (sym f.spelled) (parts_stop n size since k f.parts f.tail f.are (ending_stop n (last_number k f.parts) (at + length (flat_map part_bytes f.parts)) f.tail r.end f.ends.0))
 
 pub one_resync : (n at : ℕ) (bytes : List ℕ) (a b : Resync) → IsResync n at bytes a → IsResync n at bytes b → a ≡ b
 one_resync n at bytes a b x y =
-    let data' = one_stop x.raw x.first y.raw y.first x.rest y.rest x.is_raw y.is_raw (sym x.spelled ∙ y.spelled) (following_stop n (length bytes) (first_pace (length x.raw)) 0 (at + length x.raw) x.rest x.after x.parts) (following_stop n (length bytes) (first_pace (length y.raw)) 0 (at + length y.raw) y.rest y.after y.parts) in
+    let size = scan_bytes (markers_in 0 bytes) in
+    let data' = one_stop x.raw x.first y.raw y.first x.rest y.rest x.is_raw y.is_raw (sym x.spelled ∙ y.spelled) (following_stop n size (length x.raw) 0 (at + length x.raw) x.rest x.after x.parts) (following_stop n size (length y.raw) 0 (at + length y.raw) y.rest y.after y.parts) in
     let first : x.first ≡ y.first = sym data'.0 in
     let raw : x.raw ≡ y.raw = append_cancel_right x.raw y.raw y.rest (ap (λ (z : List ℕ). x.raw ++ z) (sym data'.1) ∙ sym x.spelled ∙ y.spelled) in
-    let moved = subst (λ (z : List ℕ). PartsFrom n (length bytes) (first_pace (length z)) 0 (at + length z) y.rest x.after) raw (subst (λ (z : List ℕ). PartsFrom n (length bytes) (first_pace (length x.raw)) 0 (at + length x.raw) z x.after) data'.1 x.parts) in
-    let after : x.after ≡ y.after = one_following n (length bytes) (first_pace (length y.raw)) 0 (at + length y.raw) y.rest x.after y.after moved y.parts in
+    let moved = subst (λ (z : List ℕ). PartsFrom n size (length z) 0 (at + length z) y.rest x.after) raw (subst (λ (z : List ℕ). PartsFrom n size (length x.raw) 0 (at + length x.raw) z x.after) data'.1 x.parts) in
+    let after : x.after ≡ y.after = one_following n size (length y.raw) 0 (at + length y.raw) y.rest x.after y.after moved y.parts in
     let one : Resync = record { raws = x.raw ∷ x.after.raws; datas = x.first ∷ x.after.datas; breaks = x.after.breaks; end = x.after.end } in
     let other : Resync = record { raws = y.raw ∷ y.after.raws; datas = y.first ∷ y.after.datas; breaks = y.after.breaks; end = y.after.end } in
     let here : one ≡ other = cc (raw, first, after) in

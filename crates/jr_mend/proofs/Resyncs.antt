@@ -5,8 +5,8 @@ use Rattle.jr_cut.specs.declared.scan_end.ScanEnd.{ScanEnd}
 use Rattle.jr_cut.specs.Cut.{IsRaw}
 use Rattle.jr_cut.proofs.Cuts.{raw_none}
 use Rattle.jr_cut.specs.declared.breaks.Break.{Break}
-use Rattle.jr_mend.specs.declared.pace.Pace.{Pace}
-use Rattle.jr_mend.specs.Resync.{EndsResync, IsMeaning, Part, PartsFrom, Resync, break_at, pace_after, last_number, max_missing, new_segments, number_after, part_bytes}
+use Rattle.jr_mend.specs.Markers.{markers_in, most_missing}
+use Rattle.jr_mend.specs.Resync.{EndsResync, IsMeaning, Part, PartsFrom, Resync, break_at, last_number, new_segments, number_after, part_bytes, since_after}
 
 -- ---- segments of a part
 
@@ -44,8 +44,8 @@ break_some at k code (suc d) some = refl
 -- ---- parts
 
 -- the end alone
-pub parts_last : (n size : ℕ) (pace : Pace) (k at : ℕ) (tail : List ℕ) (end : ScanEnd) → EndsResync n k at tail end → PartsFrom n size pace k at tail (record { raws = []; datas = []; breaks = []; end = end })
-parts_last n size pace k at tail end ends =
+pub parts_last : (n size since k at : ℕ) (tail : List ℕ) (end : ScanEnd) → EndsResync n k at tail end → PartsFrom n size since k at tail (record { raws = []; datas = []; breaks = []; end = end })
+parts_last n size since k at tail end ends =
     let here : at ≡ at + 0 = omega arith in
     record {
       parts = [];
@@ -62,16 +62,17 @@ parts_last n size pace k at tail end ends =
 abbrev pub with_part : (at k : ℕ) → Part → Resync → Resync
 with_part at k p r = record { raws = new_segments p.missing p.raw ++ r.raws; datas = new_segments p.missing p.bytes ++ r.datas; breaks = break_at at k p.code p.missing ++ r.breaks; end = r.end }
 
-pub parts_next : (n size : ℕ) (pace : Pace) (k at : ℕ) (p : Part) (bytes rest : List ℕ) (r : Resync) → IsMeaning n k (max_missing n size pace) p.code p.missing → IsRaw p.raw p.bytes → bytes ≡ part_bytes p ++ rest → PartsFrom n size (pace_after pace p.missing (length (part_bytes p)) (length p.raw)) (number_after k p.missing) (at + length (part_bytes p)) rest r → PartsFrom n size pace k at bytes (with_part at k p r)
-parts_next n size pace k at p bytes rest r means raw e f =
+pub parts_next : (n size since k at : ℕ) (p : Part) (bytes rest : List ℕ) (r : Resync) → IsMeaning n k (most_missing n size since k (markers_in 0 bytes)) p.code p.missing → IsRaw p.raw p.bytes → bytes ≡ part_bytes p ++ rest → PartsFrom n size (since_after since p.missing (length (part_bytes p))) (number_after k p.missing) (at + length (part_bytes p)) rest r → PartsFrom n size since k at bytes (with_part at k p r)
+parts_next n size since k at p bytes rest r means raw e f =
     let here = part_bytes p in
     let behind = flat_map part_bytes f.parts in
     let place : at + length here + length behind ≡ at + length (here ++ behind) = omega (arith, length-append here behind) in
+    let spelled : bytes ≡ (here ++ behind) ++ f.tail = e ∙ ap (λ (x : List ℕ). here ++ x) f.spelled ∙ sym (append_assoc here behind f.tail) in
     record {
       parts = p ∷ f.parts;
       tail = f.tail;
-      are = (means, raw, f.are);
-      spelled = e ∙ ap (λ (x : List ℕ). here ++ x) f.spelled ∙ sym (append_assoc here behind f.tail);
+      are = (subst (λ (x : List ℕ). IsMeaning n k (most_missing n size since k (markers_in 0 x)) p.code p.missing) spelled means, raw, f.are);
+      spelled = spelled;
       raws = ap (λ (x : List (List ℕ)). new_segments p.missing p.raw ++ x) f.raws;
       datas = ap (λ (x : List (List ℕ)). new_segments p.missing p.bytes ++ x) f.datas;
       breaks = ap (λ (x : List Break). break_at at k p.code p.missing ++ x) f.breaks;

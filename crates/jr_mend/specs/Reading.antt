@@ -1,7 +1,8 @@
 -- A file that is read, and written anew as it is resynchronised.
-use Rattle.std.specs.Prelude.{◌≡◌, ℕ, suc, ◌+◌, ◌<◌, ◌≤◌, List, ◌++◌, length, take, drop}
+use Rattle.std.specs.Prelude.{◌≡◌, ℕ, suc, ◌+◌, ◌<◌, ◌≤◌, ◌≢◌, min, List, ◌∷◌, ◌++◌, length, take, drop}
 use Rattle.std.specs.List.{AllZip}
 use Rattle.jr_base.specs.declared.limits.TheConstants.{MAX_FILE_BYTES}
+use Rattle.jr_base.specs.declared.marker.TheConstants.{EOI}
 use Rattle.jr_cut.specs.declared.scan_end.ScanEnd.TheVariants.{EndOfImage}
 use Rattle.jr_cut.specs.declared.scan_end.ScanEnd.{ScanEnd}
 use Rattle.jr_cut.specs.Cut.{IsCut, IsRaw, IsStop, marker}
@@ -16,7 +17,10 @@ use Rattle.jr_mend.specs.declared.reading.Reading.{Reading}
 use Rattle.jr_mend.specs.declared.resync.ResyncFault.{ResyncFault}
 use Rattle.jr_mend.specs.declared.resync.ResyncFault.TheVariants.{Memory, TooLong}
 use Rattle.jr_mend.specs.declared.resync.Resynced.{Resynced}
-use Rattle.jr_mend.specs.Resync.{EndsResync, IsMeaning, IsResync, PartsFrom, Resync, break_at, new_segments, number_after, pace_after}
+use Rattle.jr_mend.specs.declared.markers.ScanMarker.{ScanMarker}
+use Rattle.jr_mend.specs.declared.outlook.Outlook.{Outlook}
+use Rattle.jr_mend.specs.Markers.{counted_back, has_end, markers_in, restarts, scan_bytes}
+use Rattle.jr_mend.specs.Resync.{EndsResync, IsMeaning, IsResync, PartsFrom, Resync, break_at, new_segments, number_after, since_after}
 use Rattle.jr_mend.specs.Splice.{joined_intervals, spliced}
 
 -- bytes after segment k of n begin with this marker, before which at most the given number may be missing
@@ -30,6 +34,12 @@ abbrev pub IsFollowing : (n k limit at : ℕ) → List ℕ → Following → Typ
 IsFollowing n k limit at tail (End end) = EndsResync n k at tail end
 IsFollowing n k limit at tail (Marker m) = Meets n k limit tail m
 
+-- what is known of the markers that lie ahead
+pub record IsOutlook (n : ℕ) (ms : List ScanMarker) (o : Outlook) : Type 0 where
+  pub left : o.left ≡ restarts ms
+  pub back : counted_back n ms ≡ min o.back (restarts ms)
+  pub ended : o.is_ended ≡ has_end ms
+
 -- the marker and the bytes after it are read, and these are written if they are a segment's
 pub record Takes (file : List ℕ) (old new : Reading) (m : FoundMarker) : Type 0 where
   pub len : ℕ
@@ -39,7 +49,9 @@ pub record Takes (file : List ℕ) (old new : Reading) (m : FoundMarker) : Type 
   pub at : new.at ≡ old.at + m.length + len
   pub stop : IsStop (drop new.at file)
   pub number : new.k ≡ number_after old.k m.missing
-  pub pace : new.pace ≡ pace_after old.pace m.missing (m.length + len) len
+  pub since : new.since ≡ since_after old.since m.missing (m.length + len)
+  pub size : new.outlook.size ≡ old.outlook.size
+  pub outlook : (n : ℕ) (x : ScanMarker) (ms : List ScanMarker) → x.code ≡ m.code → x.code ≢ EOI → IsOutlook n (x ∷ ms) old.outlook → IsOutlook n ms new.outlook
   pub breaks : new.breaks.items ≡ old.breaks.items ++ break_at old.at old.k m.code m.missing
   pub written : (front : List ℕ) (raws : List (List ℕ)) → length raws ≡ suc old.k → old.bytes.items ≡ front ++ joined_intervals raws → new.bytes.items ≡ front ++ joined_intervals (raws ++ new_segments m.missing (take len (drop (old.at + m.length) file)))
 
@@ -50,11 +62,13 @@ pub record HasResyncedTo (file : List ℕ) (h : HeadValue) (w : Reading) : Type 
   pub count : length raws ≡ suc w.k
   pub few : w.k < intervals_of h
   pub each : AllZip IsRaw raws datas
-  pub near : (h.scan_at + w.pace.bytes ≤ w.at) × (w.pace.run ≤ w.at) × (w.pace.intervals ≤ w.k)
+  pub near : h.scan_at + w.since ≤ w.at
+  pub size : w.outlook.size ≡ scan_bytes (markers_in 0 (drop h.scan_at file))
+  pub outlook : IsOutlook (intervals_of h) (markers_in 0 (drop w.at file)) w.outlook
   pub within : w.at ≤ length file
   pub stop : IsStop (drop w.at file)
   pub written : w.bytes.items ≡ take h.scan_at file ++ joined_intervals raws
-  pub on : (r : Resync) → PartsFrom (intervals_of h) (length (drop h.scan_at file)) w.pace w.k w.at (drop w.at file) r → IsResync (intervals_of h) h.scan_at (drop h.scan_at file) (record { raws = raws ++ r.raws; datas = datas ++ r.datas; breaks = w.breaks.items ++ r.breaks; end = r.end })
+  pub on : (r : Resync) → PartsFrom (intervals_of h) w.outlook.size w.since w.k w.at (drop w.at file) r → IsResync (intervals_of h) h.scan_at (drop h.scan_at file) (record { raws = raws ++ r.raws; datas = datas ++ r.datas; breaks = w.breaks.items ++ r.breaks; end = r.end })
 
 -- the file becomes this one, with these breaks and this end of its scan: its scan's bytes fall into these segments, and the
 -- segments that are lost at the end have no data

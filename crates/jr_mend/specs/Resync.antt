@@ -1,23 +1,13 @@
 -- How the bytes of a scan fall into intervals if markers or data are lost: restart markers are counted modulo 8, so that a
 -- decoder can find how many are missing before one (T.81, B.1.1.5, E.1.4 and E.2.4).
-use Rattle.std.specs.Prelude.{◌≡◌, ◌≢◌, ℕ, zero, suc, ◌+◌, ◌-◌, ◌*◌, ◌/◌, ◌%◌, ◌<◌, ◌≤◌, ◌⊎◌, Bool, true, false, nat_le, List, [], ◌∷◌, ◌++◌, length, replicate, Option, Some, None}
+use Rattle.std.specs.Prelude.{◌≡◌, ◌≢◌, ℕ, zero, suc, ◌+◌, ◌%◌, ◌<◌, ◌≤◌, ◌⊎◌, List, [], ◌∷◌, ◌++◌, length, replicate, Option, Some, None}
 use Rattle.std.specs.List.{flat_map}
 use Rattle.jr_base.specs.declared.marker.TheConstants.{EOI, PREFIX, RST0}
 use Rattle.jr_cut.specs.declared.scan_end.ScanEnd.{ScanEnd}
 use Rattle.jr_cut.specs.declared.scan_end.ScanEnd.TheVariants.{EndOfImage, OtherMarker, OutOfStep, ExtraRestart, EndOfFile}
 use Rattle.jr_cut.specs.Cut.{IsRaw, marker, IsEnding}
 use Rattle.jr_cut.specs.declared.breaks.Break.{Break}
-use Rattle.jr_mend.specs.declared.pace.Pace.{Pace}
-use Rattle.jr_mend.specs.declared.pace.TheConstants.{MAX_EARLY, SURE_BYTES}
-
--- the number of segments that the given number of a scan's bytes holds on average, to the nearest
-abbrev pub held : (n size bytes : ℕ) → ℕ
-held n size bytes = (2 * (bytes * n) / size + 1) / 2
-
--- the number of segments that may be missing before a marker: those that the bytes since the last sure segment hold, and
--- MAX_EARLY more, less those that are placed since then
-abbrev pub max_missing : (n size : ℕ) → Pace → ℕ
-max_missing n size pace = held n size pace.bytes + MAX_EARLY - pace.intervals
+use Rattle.jr_mend.specs.Markers.{markers_in, most_missing, scan_bytes}
 
 -- after segment k of n: the restart marker d ahead of the one that is due, and the segment that follows it is one of the
 -- scan; of the numbers that equal this one modulo 8, the one that is due, otherwise the last up to the limit
@@ -53,25 +43,15 @@ last_number k (p ∷ ps) = last_number (number_after k p.missing) ps
 abbrev pub part_bytes : Part → List ℕ
 part_bytes p = marker p.more p.code ++ p.raw
 
--- up to the first marker; segment 0 is sure
-abbrev pub first_pace : (bytes : ℕ) → Pace
-first_pace bytes = record { bytes = bytes; intervals = 0; run = bytes }
+-- the number of bytes between the marker before the last segment that has begun and the next marker
+abbrev pub since_after : (since : ℕ) → Option ℕ → (part : ℕ) → ℕ
+since_after since None part = since + part
+since_after since (Some d) part = part
 
--- after a marker that is due, with `part` bytes from it up to the next marker, of which its segment has `raw`
-abbrev pub after_due : (is_sure : Bool) → Pace → (part raw : ℕ) → Pace
-after_due true pace part raw = record { bytes = raw; intervals = 0; run = pace.run + part }
-after_due false pace part raw = record { bytes = pace.bytes + part; intervals = pace.intervals + 1; run = pace.run + part }
-
--- after any marker; the bytes after one that is passed over count
-abbrev pub pace_after : Pace → Option ℕ → (part raw : ℕ) → Pace
-pace_after pace None part raw = record { bytes = pace.bytes + part; intervals = pace.intervals; run = part }
-pace_after pace (Some zero) part raw = after_due (nat_le SURE_BYTES pace.run) pace part raw
-pace_after pace (Some (suc d)) part raw = record { bytes = pace.bytes + part; intervals = pace.intervals + (suc d + 1); run = part }
-
--- parts of a scan of that size, at this pace before the first of them
-abbrev pub AreParts : (n size : ℕ) → Pace → (k : ℕ) → List Part → Type 0
-AreParts n size pace k [] = Unit {0}
-AreParts n size pace k (p ∷ ps) = IsMeaning n k (max_missing n size pace) p.code p.missing × IsRaw p.raw p.bytes × AreParts n size (pace_after pace p.missing (length (part_bytes p)) (length p.raw)) (number_after k p.missing) ps
+-- parts of a scan of that size, before the bytes of which `tail` are the last
+abbrev pub AreParts : (n size since k : ℕ) → (tail : List ℕ) → List Part → Type 0
+AreParts n size since k tail [] = Unit {0}
+AreParts n size since k tail (p ∷ ps) = IsMeaning n k (most_missing n size since k (markers_in 0 (flat_map part_bytes (p ∷ ps) ++ tail))) p.code p.missing × IsRaw p.raw p.bytes × AreParts n size (since_after since p.missing (length (part_bytes p))) (number_after k p.missing) tail ps
 
 -- segments without bytes for those that are missing, and these bytes; bytes after a marker that is passed over are no segment's
 abbrev pub new_segments : Option ℕ → List ℕ → List (List ℕ)
@@ -96,10 +76,10 @@ pub record Resync : Type 0 where
   pub end : ScanEnd
 
 -- the bytes at that offset, after those of segment k: markers with the bytes after them, and what ends the scan
-pub record PartsFrom (n size : ℕ) (pace : Pace) (k at : ℕ) (bytes : List ℕ) (r : Resync) : Type 0 where
+pub record PartsFrom (n size since k at : ℕ) (bytes : List ℕ) (r : Resync) : Type 0 where
   pub parts : List Part
   pub tail : List ℕ
-  pub are : AreParts n size pace k parts
+  pub are : AreParts n size since k tail parts
   pub spelled : bytes ≡ flat_map part_bytes parts ++ tail
   pub raws : r.raws ≡ flat_map (λ (p : Part). new_segments p.missing p.raw) parts
   pub datas : r.datas ≡ flat_map (λ (p : Part). new_segments p.missing p.bytes) parts
@@ -115,7 +95,7 @@ pub record IsResync (n at : ℕ) (bytes : List ℕ) (r : Resync) : Type 0 where
   pub after : Resync
   pub is_raw : IsRaw raw first
   pub spelled : bytes ≡ raw ++ rest
-  pub parts : PartsFrom n (length bytes) (first_pace (length raw)) 0 (at + length raw) rest after
+  pub parts : PartsFrom n (scan_bytes (markers_in 0 bytes)) (length raw) 0 (at + length raw) rest after
   pub is : r ≡ record { raws = raw ∷ after.raws; datas = first ∷ after.datas; breaks = after.breaks; end = after.end }
 
 -- a scan that ends so has the restart markers that are due, as far as it goes

@@ -1,13 +1,15 @@
 //! What follows the bytes of an interval in a scan that may be damaged.
 
-ghost use Rattle.std.specs.Prelude.{◌≡◌, ◌≢◌, ℕ, ◌+◌, ◌<◌, ◌≤◌, List, length};
+ghost use Rattle.std.specs.Prelude.{◌≡◌, ◌≢◌, ℕ, ◌+◌, ◌<◌, ◌≤◌, List, length, replicate, slice_index_or, take};
 ghost use Rattle.jr_base.specs.declared.limits.TheConstants.{MAX_FILE_BYTES};
 ghost use Rattle.jr_base.specs.declared.marker.TheConstants.{EOI, PREFIX};
 ghost use Rattle.jr_cut.specs.Cut.{HasMarker, IsStop};
-ghost use Rattle.jr_mend.specs.Reading.{IsFollowing};
-ghost use Rattle.jr_mend.specs.Resync.{EndsResync, IsMeaning, max_missing};
+ghost use Rattle.jr_mend.specs.Markers.{markers_in, most_missing};
+ghost use Rattle.jr_mend.specs.Reading.{IsFollowing, IsOutlook};
+ghost use Rattle.jr_mend.specs.Resync.{EndsResync, IsMeaning};
 
-use crate::pace::Pace;
+use crate::markers::is_restart;
+use crate::outlook::Outlook;
 use jr_base::marker::{EOI, RST0, RST7, fill_count};
 use jr_cut::ScanEnd;
 
@@ -56,6 +58,34 @@ fn missing_before(code: u8, k: u32, intervals: u32, limit: u64) -> Option<u32>
     Some(missing as u32)
 }
 
+/// Returns how many restart markers are missing before the marker at the start of `tail`, whose code is after `fill` bytes;
+/// `None` if it is passed over.
+fn missing_in(
+    tail: &[u8],
+    fill: usize,
+    k: u32,
+    intervals: u32,
+    since: usize,
+    outlook: Outlook,
+) -> Option<u32>
+    requires further { k + 1 < intervals }
+    requires within { fill < length tail.now }
+    requires full { take fill tail.now ≡ replicate fill PREFIX }
+    requires stop { IsStop tail.now }
+    requires not_fill { slice_index_or tail.now fill 0 ≢ PREFIX }
+    requires not_end { slice_index_or tail.now fill 0 ≢ EOI }
+    requires few { since ≤ MAX_FILE_BYTES }
+    requires known { IsOutlook intervals (markers_in 0 tail.now) outlook }
+    ensures { IsMeaning intervals k (most_missing intervals outlook.size since k (markers_in 0 tail.now)) (slice_index_or tail.now fill 0) result }
+{
+    let code = tail[fill];
+    if !is_restart(code) || (code - RST0) as u32 == k % 8 {
+        return missing_before(code, k, intervals, 0);
+    }
+    let limit = outlook.most_missing(&tail[fill + 1..], code, k, intervals, since);
+    missing_before(code, k, intervals, limit)
+}
+
 /// Returns what a marker after the last interval ends the scan with.
 fn end_after_last(code: u8, at: u64) -> ScanEnd
     requires not_stuffing { code ≢ 0 }
@@ -69,20 +99,20 @@ fn end_after_last(code: u8, at: u64) -> ScanEnd
     ScanEnd::OtherMarker(code, at)
 }
 
-/// Returns what follows interval k, at an offset of the file and at this pace, in a scan of `size` bytes.
+/// Returns what follows interval k, at an offset of the file; its marker is `since` bytes before it.
 pub(crate) fn following_at(
     tail: &[u8],
     at: u64,
     k: u32,
     intervals: u32,
-    pace: Pace,
-    size: usize,
+    since: usize,
+    outlook: Outlook,
 ) -> Following
     requires few { k < intervals }
     requires stop { IsStop tail.now }
-    requires size { length tail.now ≤ size }
-    requires short { pace.bytes ≤ MAX_FILE_BYTES }
-    ensures { IsFollowing intervals k (max_missing intervals size pace) at tail.now result }
+    requires short { since ≤ MAX_FILE_BYTES }
+    requires known { IsOutlook intervals (markers_in 0 tail.now) outlook }
+    ensures { IsFollowing intervals k (most_missing intervals outlook.size since k (markers_in 0 tail.now)) at tail.now result }
 {
     let fill = fill_count(tail);
     if fill == tail.len() {
@@ -95,10 +125,9 @@ pub(crate) fn following_at(
     if k + 1 == intervals {
         return Following::End(end_after_last(code, at));
     }
-    let limit = pace.max_missing(intervals, size);
     Following::Marker(FoundMarker {
         code,
         length: fill + 1,
-        missing: missing_before(code, k, intervals, limit),
+        missing: missing_in(tail, fill, k, intervals, since, outlook),
     })
 }

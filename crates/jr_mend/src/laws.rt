@@ -55,3 +55,9 @@ pub fn file_in_step_stays()
 pub fn file_in_step_is_resynced()
     ensures { (file : List ℕ) (s : ScanValue) → HeadOf file s.head → IsScanOf file s → IsFileInStep file s.head → (new : List ℕ) × Becomes file s.head new [] EndOfImage × IsScanOf new s }
 {}
+
+/// States that bytes after EOI change nothing: a scan that EOI ends, and a file, are resynchronised as without them.
+pub fn bytes_after_image_are_ignored()
+    ensures scan { (n at : ℕ) (bytes more : List ℕ) (r : Resync) → IsResync n at bytes r → r.end ≡ EndOfImage → IsResync n at (bytes ++ more) r }
+    ensures file { (file more : List ℕ) (h : HeadValue) (r : Resynced) → HeadOf file h → IsResynced file h r → r.ended ≡ EndOfImage → IsResynced (file ++ more) h r }
+{}

@@ -11,8 +11,9 @@ mod headers;
 mod in_step;
 mod laws;
 mod locality;
+mod markers;
 mod mending;
-mod pace;
+mod outlook;
 mod positions;
 mod reading;
 mod resync;
@@ -25,12 +26,12 @@ pub use headers::under_header;
 pub use in_step::is_in_step;
 pub use jr_cut::Break;
 pub use laws::{
-    each_scan_resyncs, file_in_step_is_resynced, file_in_step_stays, header_stays, in_step_stays,
-    intervals_are_cut, one_resync, spliced_has_its_scan,
+    bytes_after_image_are_ignored, each_scan_resyncs, file_in_step_is_resynced, file_in_step_stays,
+    header_stays, in_step_stays, intervals_are_cut, one_resync, spliced_has_its_scan,
 };
 pub use locality::{damage_is_local, mending_is_exact};
 pub use mending::{MendError, Mended, mend};
-pub use pace::{MAX_EARLY, SURE_BYTES};
+pub use outlook::{MAX_EARLY, SURE_BYTES};
 pub use resync::{ResyncFault, Resynced, resynchronised};
 pub use soundness::sound_if_any_is;
 pub use splice::{write_header, write_image_end, write_interval};

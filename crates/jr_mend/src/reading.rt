@@ -3,13 +3,13 @@
 ghost use Rattle.std.specs.Prelude.{◌≡◌, ℕ, suc, ◌+◌, ◌<◌, ◌≤◌, ◌^◌, ◌++◌, ◌∷◌, [], List, length, drop, replicate, IfOk, IfSome};
 ghost use Rattle.jr_base.specs.declared.limits.TheConstants.{MAX_FILE_BYTES};
 ghost use Rattle.jr_head.specs.Heads.{HeadOf};
-ghost use Rattle.jr_mend.specs.Reading.{HasResyncedTo, Meets, Takes};
-ghost use Rattle.jr_mend.specs.Resync.{EndsResync, break_at, first_pace, new_segments, number_after, pace_after};
+ghost use Rattle.jr_mend.specs.Reading.{HasResyncedTo, Takes};
+ghost use Rattle.jr_mend.specs.Resync.{EndsResync, break_at, new_segments, number_after, since_after};
 ghost use Rattle.jr_mend.specs.Splice.{joined_intervals};
 ghost use Rattle.jr_scan.specs.ScanValue.{intervals_of};
 
 use crate::following::{Following, FoundMarker, following_at};
-use crate::pace::Pace;
+use crate::outlook::Outlook;
 use crate::splice::{write_header, write_interval};
 use jr_base::Memory;
 use jr_cut::{Break, ScanEnd, segment_length};
@@ -27,6 +27,18 @@ fn write_after(bytes: &mut Vec<u8>, k: u32, missing: u32, raw: &[u8]) -> Result<
     write_interval(bytes, k + 1 + missing, raw)
 }
 
+/// Returns the number of bytes between the marker before the last interval that has begun and the next marker, after a
+/// marker that is read with the bytes after it, `part` in all.
+fn since_after(since: usize, missing: Option<u32>, part: usize) -> usize
+    requires { since + part < 2 ^ 64 }
+    ensures { result ≡ since_after since missing part }
+{
+    match missing {
+        Some(_) => part,
+        None => since + part,
+    }
+}
+
 /// A file that is written, and how far the damaged one is read.
 #[derive(Drop)]
 pub(crate) struct Reading {
@@ -34,8 +46,10 @@ pub(crate) struct Reading {
     pub breaks: Vec<Break>,
     /// The number of the last interval that has begun.
     pub k: u32,
-    /// The progress since an interval that is sure to be in position.
-    pub pace: Pace,
+    /// The number of bytes between its marker and the next one.
+    pub since: usize,
+    /// What is known of the markers from the next one on.
+    pub outlook: Outlook,
     /// Offset in the damaged file of what is read next: a marker, or the end.
     pub at: usize,
 }
@@ -57,7 +71,8 @@ impl Reading {
             bytes,
             breaks: Vec::new(alloc),
             k: 0,
-            pace: Pace::first(end - start),
+            since: end - start,
+            outlook: Outlook::of(&file[start..], head.intervals()),
             at: end,
         })
     }
@@ -65,7 +80,7 @@ impl Reading {
     /// Records a marker, unless it is the one that is due.
     fn note(&mut self, marker: FoundMarker) -> Result<(), Memory>
         ensures breaks { IfOk result (λ _. self.new.breaks.items ≡ self.old.breaks.items ++ break_at self.old.at self.old.k marker.code marker.missing) }
-        ensures same { (self.new.bytes ≡ self.old.bytes) × (self.new.k ≡ self.old.k) × (self.new.pace ≡ self.old.pace) × (self.new.at ≡ self.old.at) }
+        ensures same { (self.new.bytes ≡ self.old.bytes) × (self.new.k ≡ self.old.k) × (self.new.since ≡ self.old.since) × (self.new.outlook ≡ self.old.outlook) × (self.new.at ≡ self.old.at) }
     {
         let skipped = match marker.missing {
             Some(0) => return Ok(()),
@@ -86,7 +101,7 @@ impl Reading {
         requires { IfSome missing (λ d. self.old.k + d + 1 < 2 ^ 32) }
         ensures number { IfOk result (λ _. self.new.k ≡ number_after self.old.k missing) }
         ensures written { IfOk result (λ _. (front : List ℕ) (raws : List (List ℕ)) → length raws ≡ suc self.old.k → self.old.bytes.items ≡ front ++ joined_intervals raws → self.new.bytes.items ≡ front ++ joined_intervals (raws ++ new_segments missing raw.now)) }
-        ensures same { (self.new.breaks ≡ self.old.breaks) × (self.new.at ≡ self.old.at) × (self.new.pace ≡ self.old.pace) }
+        ensures same { (self.new.breaks ≡ self.old.breaks) × (self.new.at ≡ self.old.at) × (self.new.since ≡ self.old.since) × (self.new.outlook ≡ self.old.outlook) }
     {
         let Some(missing) = missing else {
             return Ok(());
@@ -100,14 +115,15 @@ impl Reading {
     fn take(&mut self, file: &[u8], marker: FoundMarker) -> Result<(), Memory>
         requires within { self.old.at + marker.length ≤ length file.now }
         requires few { IfSome marker.missing (λ d. self.old.k + d + 1 < 2 ^ 32) }
-        requires near { (self.old.pace.bytes ≤ self.old.at) × (self.old.pace.run ≤ self.old.at) × (self.old.pace.intervals ≤ self.old.k) }
+        requires near { self.old.since ≤ self.old.at }
         ensures { IfOk result (λ _. Takes file.now self.old self.new marker) }
     {
         self.note(marker)?;
         let start = self.at + marker.length;
         let end = start + segment_length(&file[start..]);
         self.begin_next(marker.missing, &file[start..end])?;
-        self.pace = self.pace.after(marker.missing, end - self.at, end - start);
+        self.since = since_after(self.since, marker.missing, end - self.at);
+        self.outlook = self.outlook.after(marker.code);
         self.at = end;
         Ok(())
     }
@@ -120,10 +136,16 @@ impl Reading {
         ensures ends { IfOk result (λ end. EndsResync (intervals_of head.now) self.new.k self.new.at (drop self.new.at file.now) end) }
     {
         let intervals = head.intervals();
-        let size = file.len() - head.scan_at() as usize;
         'markers: loop {
             let tail = &file[self.at..];
-            match following_at(tail, self.at as u64, self.k, intervals, self.pace, size) {
+            match following_at(
+                tail,
+                self.at as u64,
+                self.k,
+                intervals,
+                self.since,
+                self.outlook,
+            ) {
                 Following::End(ended) => return Ok(ended),
                 Following::Marker(marker) => self.take(file, marker)?,
             }

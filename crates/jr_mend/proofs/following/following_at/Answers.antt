@@ -1,7 +1,6 @@
-use Rattle.std.proofs.Common.{◌<◌, ℕ, length, get_or, refl, subst, inl, inr, arith}
+use Rattle.std.proofs.Common.{◌<◌, length, refl, subst, inl, inr, arith}
 use Rattle.jr_cut.specs.Cut.{HasMarker}
 use Rattle.jr_cut.proofs.PartialSegments.{has_this_marker, marker_begins}
-use Rattle.jr_mend.specs.Resync.{IsMeaning}
 use Rattle.jr_mend.proofs.following.following_at.Goals as goal
 
 pub returns-then-code : goal.returns-then-code
@@ -21,14 +20,8 @@ returns-then-k-intervals c =
     let m = marker_begins _ _ c.requires.stop c.fill_count-fill.ensures.full lt (c.fill_count-fill.ensures.next lt) in
     c.end_after_last.ensures c.args.intervals c.args.k c.args.tail.now c.if-k-intervals.true (has_this_marker _ _ m)
 
-pub missing_before-requires-clause-not_stuffing : goal.missing_before-requires-clause-not_stuffing
-missing_before-requires-clause-not_stuffing c =
-    let lt : c.fill_count-fill.result < length c.args.tail.now = omega (arith, c.if-fill-tail.false, c.fill_count-fill.ensures.within) in
-    (marker_begins _ _ c.requires.stop c.fill_count-fill.ensures.full lt (c.fill_count-fill.ensures.next lt)).not_0
-
 pub returns : goal.returns
 returns c =
     let lt : c.fill_count-fill.result < length c.args.tail.now = omega (arith, c.if-fill-tail.false, c.fill_count-fill.ensures.within) in
     let m = marker_begins _ _ c.requires.stop c.fill_count-fill.ensures.full lt (c.fill_count-fill.ensures.next lt) in
-    let means = subst (λ (l : ℕ). IsMeaning c.args.intervals c.args.k l (get_or c.args.tail.now c.fill_count-fill.result 0) c.missing_before.result) c.max_missing-limit.ensures c.missing_before.ensures in
-    record { more = m.more; long = omega (arith, m.count); spelled = m.spelled; means = means }
+    record { more = m.more; long = omega (arith, m.count); spelled = m.spelled; means = c.missing_in.ensures }

@@ -1,7 +1,9 @@
-use Rattle.std.proofs.Common.{◌≡◌, ◌+◌, ◌-◌, ◌<◌, ◌++◌, ◌∷◌, [], ℕ, take, drop, refl, ap, subst, ◌∙◌, arith}
+use Rattle.std.proofs.Common.{◌≡◌, ◌+◌, ◌-◌, ◌<◌, ◌++◌, ◌∷◌, [], ℕ, List, take, drop, refl, ap, subst, ◌∙◌, arith}
+use Rattle.jr_cut.proofs.Cuts.{rest_is}
+use Rattle.jr_mend.specs.Markers.{markers_in, scan_bytes}
+use Rattle.jr_mend.specs.Reading.{IsOutlook}
 use Rattle.jr_mend.specs.Splice.{joined_intervals}
 use Rattle.jr_mend.proofs.Readings.{Segment, read_first, segment, slice_is}
-use Rattle.jr_mend.specs.Resync.{first_pace}
 use Rattle.jr_mend.proofs.reading.Reading.of.Goals as goal
 
 size_is : (start len : ℕ) → start + len - start ≡ len
@@ -21,5 +23,9 @@ returns c =
     let slice = slice_is file c.scan_at-start.result (c.scan_at-start.result + len) len refl ∙ ap (λ (a : ℕ). take len (drop a file)) start in
     let before : c.reserve.new.self.items ≡ front ++ joined_intervals [] = c.reserve.ensures.items ∙ c.in_ok-bytes.ensures.joined_intervals in
     let written : c.write_interval.new.bytes.items ≡ front ++ joined_intervals (raw ∷ []) = grind (arith, c.in_ok-write_interval.ensures.joined_intervals front [] refl before, slice) in
-    let paced = c.first.ensures ∙ ap first_pace (size_is c.scan_at-start.result len) in
-    read_first file h _ len told some refl (ap (λ a. a + len) start) c.new.ensures.items paced written
+    let since = size_is c.scan_at-start.result len in
+    let rest = rest_is file c.scan_at-start.result ∙ ap (λ (a : ℕ). drop a file) start in
+    let size = subst (λ (x : List ℕ). c.of.result.size ≡ scan_bytes (markers_in 0 x)) rest c.of.ensures.size in
+    let is = subst (λ (x : List ℕ). IsOutlook c.intervals.result (markers_in 0 x) c.of.result) rest c.of.ensures.is in
+    let known = subst (λ (n : ℕ). IsOutlook n (markers_in 0 (drop at file)) c.of.result) c.intervals.ensures.value is in
+    read_first file h _ len told some refl (ap (λ a. a + len) start) c.new.ensures.items since size known written

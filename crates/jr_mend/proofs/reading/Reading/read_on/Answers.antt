@@ -1,10 +1,13 @@
-use Rattle.std.proofs.Common.{◌≡◌, ℕ, ◌+◌, ◌-◌, ◌≤◌, List, length, drop, sym, ap, subst, ◌∙◌, length-append, length-drop, arith}
+use Rattle.std.proofs.Common.{◌≡◌, ℕ, ◌+◌, ◌-◌, ◌≤◌, List, length, take, drop, sym, ap, subst, length-append, length-drop, arith}
 use Rattle.jr_cut.specs.Cut.{IsStop, marker}
 use Rattle.jr_cut.proofs.Cuts.{rest_is}
 use Rattle.jr_cut.proofs.Segments.{length_marker}
 use Rattle.jr_mend.specs.declared.following.FoundMarker.{FoundMarker}
 use Rattle.jr_mend.specs.Reading.{Meets}
-use Rattle.jr_mend.specs.Resync.{EndsResync, max_missing}
+use Rattle.jr_mend.specs.Markers.{markers_in, most_missing}
+use Rattle.jr_mend.specs.Reading.{IsOutlook}
+use Rattle.jr_mend.specs.Resync.{EndsResync}
+use Rattle.jr_scan.specs.ScanValue.{intervals_of}
 use Rattle.jr_mend.proofs.Readings.{read_more}
 use Rattle.jr_mend.proofs.reading.Reading.read_on.Goals as goal
 
@@ -15,12 +18,6 @@ marker_within n k limit at file tail m there is meets =
 
 pub following_at-requires-clause-stop : goal.following_at-requires-clause-stop
 following_at-requires-clause-stop c = subst IsStop (sym (rest_is c.args.file.now c.markers.self.at)) c.markers.invariant.stop
-
-pub following_at-requires-clause-size : goal.following_at-requires-clause-size
-following_at-requires-clause-size c =
-    let w = c.markers.self in
-    let file = c.args.file.now in
-    omega (arith, ap length (rest_is file w.at), length-drop w.at file, c.markers.invariant.near.0, c.markers.invariant.within, c.scan_at.ensures.value)
 
 pub returns-in-End-clause-ends : goal.returns-in-End-clause-ends
 returns-in-End-clause-ends c =
@@ -36,9 +33,14 @@ markers-preserved c =
     let w = c.markers.self in
     let file = c.args.file.now in
     let h = c.args.head.now in
-    let pace = w.pace in
-    let size : length file - c.scan_at.result ≡ length (drop h.scan_at file) = ap (λ (a : ℕ). length file - a) c.scan_at.ensures.value ∙ sym (length-drop h.scan_at file) in
-    let whole = subst (λ (x : List ℕ). Meets c.intervals-intervals.result w.k (max_missing c.intervals-intervals.result (length file - c.scan_at.result) pace) x c.in-Marker.marker) (rest_is file w.at) c.in-Marker.ensures in
-    let sized = subst (λ (s : ℕ). Meets c.intervals-intervals.result w.k (max_missing c.intervals-intervals.result s pace) (drop w.at file) c.in-Marker.marker) size whole in
-    let meets = subst (λ (n : ℕ). Meets n w.k (max_missing n (length (drop h.scan_at file)) pace) (drop w.at file) c.in-Marker.marker) c.intervals-intervals.ensures.value sized in
+    let size = w.outlook.size in
+    let whole = subst (λ (x : List ℕ). Meets c.intervals-intervals.result w.k (most_missing c.intervals-intervals.result size w.since w.k (markers_in 0 x)) x c.in-Marker.marker) (rest_is file w.at) c.in-Marker.ensures in
+    let meets = subst (λ (n : ℕ). Meets n w.k (most_missing n size w.since w.k (markers_in 0 (drop w.at file))) (drop w.at file) c.in-Marker.marker) c.intervals-intervals.ensures.value whole in
     read_more file h w c.take.new.self c.in-Marker.marker c.markers.invariant meets c.in_ok-take-in-Marker.ensures
+
+pub following_at-requires-clause-known : goal.following_at-requires-clause-known
+following_at-requires-clause-known c =
+    let w = c.markers.self in
+    let file = c.args.file.now in
+    let here = subst (λ (x : List ℕ). IsOutlook (intervals_of c.args.head.now) (markers_in 0 x) w.outlook) (sym (rest_is file w.at)) c.markers.invariant.outlook in
+    subst (λ (n : ℕ). IsOutlook n (markers_in 0 (take (length file - w.at) (drop w.at file))) w.outlook) (sym c.intervals-intervals.ensures.value) here
