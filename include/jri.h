@@ -412,9 +412,10 @@ uint32_t jri_lay_out(const uint8_t *lines, size_t lines_length, uint32_t width, 
  * of step are listed, as many as `breaks` has entries: `breaks_count`. Allocates the file that it writes and a list of
  * the breaks. For the image alone pass JRI_RESYNC to jri_decode.
  *
- * The bytes of a scan fall into intervals by the numbers of its restart markers, which count modulo 8. A marker is at
- * most one interval further ahead than the bytes before it hold on average; if its number allows none, it is passed
- * over (docs/ARCHIVES.md).
+ * The bytes of a scan fall into intervals by the numbers of its restart markers, which count modulo 8. One from which on
+ * all up to EOI are those before the last intervals is counted from there. Before another one at most as many are lost
+ * as the bytes before it hold on average, and three more if others follow it in step; if its number allows none, it is
+ * passed over (docs/ARCHIVES.md).
  *
  * Proved: with JRI_OK the first report->size bytes of `out` are the resynchronised file, and bytes after them are
  * unchanged; the first entries of `breaks` are its breaks in order, and entries after them are unchanged. A file whose
@@ -443,7 +444,8 @@ uint32_t jri_resynchronise(const uint8_t *file, size_t file_length, uint8_t *out
  * than 64, or their sizes exceed files_length; JRI_TOO_LONG only if the file would be too long. The only other status
  * is JRI_NO_MEMORY.
  *
- * A copy whose restart markers are out of step is resynchronised first: jri_resynchronise.
+ * The copies are read as they are: nothing is read after a restart marker that is out of step. To read past it, pass what
+ * jri_resynchronise writes of the copy.
  */
 uint32_t jri_mend(const uint8_t *files, size_t files_length, const size_t *sizes, size_t copies, uint8_t *out,
                   size_t out_size, struct jri_choice *choices, size_t choices_count, struct jri_mended *report);

@@ -5,6 +5,7 @@ _arguments -S \
     '(- *)'{-V,--version}'[print version]' \
     '(-o --output)'{-o+,--output=}'[write the mended file to this file]:mended file:_files' \
     '--json[print the report as a JSON object]' \
-    '--resync[first resynchronise each copy at its restart markers]' \
+    '(--no-resync)--resync[read past restart markers that are out of step: the default]' \
+    '(--resync)--no-resync[do not read past restart markers that are out of step]' \
     '--borrow-headers[read copies with damaged headers under the header of another copy]' \
     '*:JPEG file:_files -g "*.(#i)(jpg|jpeg|jpe|jfif)(-.)"'

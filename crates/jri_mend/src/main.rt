@@ -1,4 +1,4 @@
-//! `jri_mend [-o FILE] [--json] [--resync] [--borrow-headers] COPY COPY..`: writes one JPEG file from damaged copies of it, each restart
+//! `jri_mend [-o FILE] [--json] [--no-resync] [--borrow-headers] COPY..`: writes one JPEG file from damaged copies of it, each restart
 //! interval from a copy in which it is sound.
 #![tactic(auto)]
 

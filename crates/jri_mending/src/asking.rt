@@ -14,7 +14,7 @@ use std::alloc::{AllocError, Global};
 /// A request for a mended file.
 #[derive(Drop)]
 pub(crate) struct MendRequest {
-    /// The names of the copies, 2 to 64, or 1 that is resynchronised.
+    /// The names of the copies, 1 to 64; 2 to 64 if they are not resynchronised.
     pub(crate) copies: Vec<String>,
     /// The destination of the mended file.
     pub(crate) target: Target,
@@ -30,11 +30,12 @@ pub(crate) struct MendRequest {
 const AFTER_HELP: &str = "\
 The mended file has the header of the first COPY, and each restart interval from the
 first copy in which it is sound, otherwise from the one that decodes most of it. It
-goes to standard output if -o is absent. If all of the first copy is sound nothing is
-written. A report goes to standard error; with -o, that of --json to standard output.
-With --resync each copy is first read past restart markers that are out of step, as
-after lost bytes, and one COPY is enough. With --borrow-headers a COPY whose header is
-refused, or another one, is read under the header of the first COPY that has one.
+goes to standard output if -o is absent. If all of the first copy is sound it is
+written as it is. A report goes to standard error; with -o, that of --json to standard
+output. Each copy is read past restart markers that are out of step, as after lost
+bytes, and one COPY is enough; --no-resync ends it at the first of them, and needs two.
+With --borrow-headers a COPY whose header is refused, or another one, is read under the
+header of the first COPY that has one.
 
 Exit status:
   0  every interval is sound
@@ -44,7 +45,10 @@ Exit status:
   4  out of memory, or the output cannot be written";
 
 /// The error of too few or too many copies.
-const WRONG_COUNT: &str = "error: 2 to 64 copies are needed, or 1 with --resync\n";
+const WRONG_COUNT: &str = "error: 1 to 64 copies are needed, 2 to 64 with --no-resync\n";
+
+/// The error of a request for both.
+const BOTH_WAYS: &str = "error: --resync and --no-resync exclude each other\n";
 
 /// The name of a stream instead of a file.
 const STREAM: &str = "-";
@@ -65,11 +69,11 @@ fn copies_argument<'a>(alloc: Global) -> Arg<'a> {
         .action(ArgAction::Append)
         .num_args(1..)
         .value_name("COPY")
-        .help("Copies of one JPEG file, 2 to 64; 1 with --resync")
+        .help("Copies of one JPEG file, 1 to 64; 2 to 64 with --no-resync")
         .required(true)
 }
 
-/// `jri_mend [-o FILE] [--json] [--resync] [--borrow-headers] COPY COPY..`.
+/// `jri_mend [-o FILE] [--json] [--no-resync] [--borrow-headers] COPY..`; `--resync` is the default.
 fn command<'a>(alloc: Global) -> Result<Command<'a>, AllocError> {
     let command = Command::new(alloc, "jri_mend")
         .about("Mend a baseline JPEG file from damaged copies of it")
@@ -77,6 +81,11 @@ fn command<'a>(alloc: Global) -> Result<Command<'a>, AllocError> {
         .after_help(AFTER_HELP)
         .no_binary_name(true);
     let json = flag_argument(alloc, "json", "Print the report as a JSON object");
+    let as_is = flag_argument(
+        alloc,
+        "no-resync",
+        "Do not read past restart markers that are out of step",
+    );
     let borrow = flag_argument(
         alloc,
         "borrow-headers",
@@ -84,7 +93,8 @@ fn command<'a>(alloc: Global) -> Result<Command<'a>, AllocError> {
     );
     let command = with_argument(Ok(command), output_argument(alloc));
     let command = with_argument(with_argument(command, json), resync_argument(alloc));
-    with_argument(with_argument(command, borrow), copies_argument(alloc))
+    let command = with_argument(with_argument(command, as_is), borrow);
+    with_argument(command, copies_argument(alloc))
 }
 
 /// Returns the destination of the mended file.
@@ -108,7 +118,10 @@ pub(crate) fn asked(alloc: Global, words: &[String]) -> Result<MendRequest, Unas
     };
     let copies = strings_of(alloc, &matches, "copies")?;
     let target = target_in(alloc, &matches)?;
-    let is_resync = matches.get_flag("resync");
+    let is_resync = !matches.get_flag("no-resync");
+    if !is_resync && matches.get_flag("resync") {
+        return Err(wrong(alloc, BOTH_WAYS));
+    }
     let fewest = if is_resync { 1 } else { 2 };
     if copies.len() < fewest || copies.len() > MAX_COPIES {
         return Err(wrong(alloc, WRONG_COUNT));

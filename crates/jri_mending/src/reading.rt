@@ -5,7 +5,7 @@ ghost use Rattle.std.specs.Prelude.{◌≡◌, IfOk, length};
 use crate::breaks::CopyBreak;
 use jr_base::limits::MAX_FILE_BYTES;
 use jr_head::{Refusal, read_head};
-use jr_mend::{FileCopy, ResyncFault, resynchronised};
+use jr_mend::{Break, FileCopy, ResyncFault, is_in_step, resynchronised};
 use jri_words::Devices;
 use std::alloc::Global;
 use std::fmt;
@@ -78,29 +78,42 @@ pub(crate) fn refused(refusal: Refusal) -> CopyError {
     }
 }
 
-/// Returns a file with its restart markers in step, and appends its breaks.
+/// Appends the breaks of a copy.
+fn append_breaks(
+    breaks: &mut Vec<CopyBreak>,
+    copy: usize,
+    found: &[Break],
+) -> Result<(), CopyError> {
+    for found in found {
+        let found = CopyBreak {
+            copy,
+            found: *found,
+        };
+        if breaks.push(found).is_err() {
+            return Err(CopyError::Memory);
+        }
+    }
+    Ok(())
+}
+
+/// Returns a file with its restart markers in step, unless they are, and appends its breaks.
 fn in_step(
     alloc: Global,
     file: &[u8],
-    number: usize,
+    copy: usize,
     breaks: &mut Vec<CopyBreak>,
-) -> Result<Vec<u8>, CopyError> {
+) -> Result<Option<Vec<u8>>, CopyError> {
     let head = match read_head(alloc, file) {
         Ok(head) => head,
         Err(refusal) => return Err(refused(refusal)),
     };
+    if is_in_step(&head, file) {
+        return Ok(None);
+    }
     match resynchronised(alloc, &head, file) {
         Ok(resynced) => {
-            for found in &resynced.breaks {
-                let found = CopyBreak {
-                    copy: number,
-                    found: *found,
-                };
-                if breaks.push(found).is_err() {
-                    return Err(CopyError::Memory);
-                }
-            }
-            Ok(resynced.file)
+            append_breaks(breaks, copy, &resynced.breaks)?;
+            Ok(Some(resynced.file))
         }
         Err(ResyncFault::Memory) => Err(CopyError::Memory),
         Err(ResyncFault::TooLong) => Err(CopyError::Refused(Refusal::TooLong)),
@@ -129,7 +142,7 @@ pub(crate) fn read_files<D: Devices>(
     Ok(files)
 }
 
-/// Resynchronises the files, and returns their breaks. The error has the number of a file.
+/// Resynchronises the files that are not in step, and returns their breaks. The error has the number of a file.
 pub(crate) fn resync_files(
     alloc: Global,
     files: &mut [Vec<u8>],
@@ -139,7 +152,8 @@ pub(crate) fn resync_files(
     let mut breaks = Vec::new(alloc);
     for k in 0..files.len() {
         match in_step(alloc, &files[k], k, &mut breaks) {
-            Ok(file) => files[k] = file,
+            Ok(Some(file)) => files[k] = file,
+            Ok(None) => {}
             Err(error) => return Err((k, error)),
         }
     }

@@ -56,11 +56,11 @@ pub(crate) fn write_prepared<E: Write>(errors: &mut E, prepared: &Prepared) -> I
     write_breaks(errors, &prepared.breaks)
 }
 
-/// Writes a line for each run of intervals, and one if nothing is written.
+/// Writes a line for each run of intervals, and one if the first copy is written as it is.
 pub(crate) fn write_lines<E: Write>(
     errors: &mut E,
     choices: &[Choice],
-    is_written: bool,
+    is_mended: bool,
 ) -> IoResult<()> {
     let mut next = 0;
     for _ in 0..choices.len() {
@@ -70,7 +70,7 @@ pub(crate) fn write_lines<E: Write>(
         writeln!(errors, "{run}")?;
         next = run.last.saturating_add(1);
     }
-    if !is_written {
+    if !is_mended {
         writeln!(errors, "nothing to mend: copy 1 is sound")?;
     }
     Ok(())
@@ -113,7 +113,7 @@ pub(crate) fn object_of(
     alloc: Global,
     choices: &[Choice],
     prepared: &Prepared,
-    is_written: bool,
+    is_mended: bool,
 ) -> Result<String, AllocError> {
     let Report {
         intervals,
@@ -126,7 +126,7 @@ pub(crate) fn object_of(
     write_break_objects(&mut line, &prepared.breaks)?;
     write!(
         line,
-        "\"intervals\":{intervals},\"damaged\":{damaged},\"written\":{is_written},\"runs\":["
+        "\"intervals\":{intervals},\"damaged\":{damaged},\"mended\":{is_mended},\"runs\":["
     )?;
     let mut next = 0;
     for _ in 0..choices.len() {

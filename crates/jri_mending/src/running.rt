@@ -172,17 +172,17 @@ fn report_mended<D: Devices, E: Write>(
     asked: &MendRequest,
     mended: &Mended,
     prepared: &Prepared,
-    is_written: bool,
+    is_mended: bool,
     errors: &mut E,
 ) -> u8 {
     let choices = mended.choices.as_slice();
     let status = if report_of(choices).damaged > 0 { 1 } else { 0 };
     if !asked.is_json {
         let _ = write_prepared(errors, prepared);
-        let _ = write_lines(errors, choices, is_written);
+        let _ = write_lines(errors, choices, is_mended);
         return status;
     }
-    let Ok(object) = object_of(alloc, choices, prepared, is_written) else {
+    let Ok(object) = object_of(alloc, choices, prepared, is_mended) else {
         let _ = writeln!(errors, "out of memory");
         return FAILED;
     };
@@ -228,7 +228,7 @@ fn report_error<E: Write>(errors: &mut E, names: &[String], error: MendError) ->
     }
 }
 
-/// Mends copies, writes the file unless the first copy is sound, and returns the exit status.
+/// Mends copies, writes the file, the first copy as it is if all of it is sound, and returns the exit status.
 fn mend_copies<D: Devices, E: Write>(
     alloc: Global,
     devices: &mut D,
@@ -245,15 +245,17 @@ fn mend_copies<D: Devices, E: Write>(
         Err(error) => return report_error(errors, &asked.copies, error),
     };
     let choices = mended.choices.as_slice();
-    if is_first_sound(choices) && !prepared.changes_first() {
-        return report_mended(alloc, devices, asked, &mended, prepared, false, errors);
-    }
-    let file = mended.file.as_slice();
+    let is_mended = !is_first_sound(choices) || prepared.changes_first();
+    let file = if is_mended {
+        mended.file.as_slice()
+    } else {
+        copies[0].file()
+    };
     let ending = write_mended(alloc, devices, &asked.target, file, report_of(choices));
     if ending.outcome.is_err() {
         return report_unwritten(errors, &ending);
     }
-    report_mended(alloc, devices, asked, &mended, prepared, true, errors)
+    report_mended(alloc, devices, asked, &mended, prepared, is_mended, errors)
 }
 
 /// Reports the copy that is not there, and returns the exit status.
@@ -263,7 +265,7 @@ fn report_copy<E: Write>(errors: &mut E, names: &[String], copy: usize, error: C
     error.status()
 }
 
-/// Prepares files, mends them, writes the mended one unless the first is sound, and returns the exit status.
+/// Prepares files, mends them, writes the mended one, and returns the exit status.
 fn mend_files<D: Devices, E: Write>(
     alloc: Global,
     devices: &mut D,

@@ -108,12 +108,12 @@ def _sizes(files: List[_File]) -> Tuple[int, int]:
     return max((len(it.data) for it in files), default=0) + 2 * told.intervals, told.intervals
 
 
-def mend(sources: Iterable[Source], *, resync: bool = False) -> Mended:
+def mend(sources: Iterable[Source], *, resync: bool = True) -> Mended:
     """Returns a file mended from copies that are damaged in different places, at most 64.
 
     Each restart interval is taken from the first copy in which it is sound, otherwise from the first of those in which
-    most MCUs can be decoded. With `resync` each copy is resynchronised first. Raises `RefusedError` for a copy that jri
-    does not decode, and ValueError for one with another header than the first.
+    most MCUs can be decoded. Each copy is resynchronised first, as by `jri.resync`, unless `resync` is False. Raises
+    `RefusedError` for a copy that jri does not decode, and ValueError for one with another header than the first.
     """
     if isinstance(sources, (str, bytes, bytearray, memoryview)):
         raise TypeError(f"expected several sources, got {type(sources).__name__}")
