@@ -228,6 +228,11 @@ fn report_error<E: Write>(errors: &mut E, names: &[String], error: MendError) ->
     }
 }
 
+/// Returns the file that is written: the mended one, or the first copy as it is.
+fn file_of<'a>(is_mended: bool, mended: &'a [u8], first: &'a [u8]) -> &'a [u8] {
+    if is_mended { mended } else { first }
+}
+
 /// Mends copies, writes the file, the first copy as it is if all of it is sound, and returns the exit status.
 fn mend_copies<D: Devices, E: Write>(
     alloc: Global,
@@ -246,11 +251,7 @@ fn mend_copies<D: Devices, E: Write>(
     };
     let choices = mended.choices.as_slice();
     let is_mended = !is_first_sound(choices) || prepared.changes_first();
-    let file = if is_mended {
-        mended.file.as_slice()
-    } else {
-        copies[0].file()
-    };
+    let file = file_of(is_mended, mended.file.as_slice(), copies[0].file());
     let ending = write_mended(alloc, devices, &asked.target, file, report_of(choices));
     if ending.outcome.is_err() {
         return report_unwritten(errors, &ending);
