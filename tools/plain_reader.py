@@ -174,7 +174,7 @@ def offsets(data, start, end):
 
 def check(data):
     """How many intervals there are; of each damaged one its number, first and last MCU, first and last line, first and
-    last byte, how many MCUs can be decoded and up to which byte; of each with a doubtful MCU its number, the MCU and its first and
+    last byte, how many MCUs can be decoded and up to which byte, and the first line of the next MCU, or of the last one; of each with a doubtful MCU its number, the MCU and its first and
     last byte; and where the scan ended, if not at EOI."""
     head = Head(data)
     each = head.restart or head.mcus
@@ -189,7 +189,8 @@ def check(data):
         if not is_sound:
             first, last = number * each, number * each + mcus - 1
             lines = first // head.across * head.high, min((last // head.across + 1) * head.high, head.height) - 1
-            damaged.append((number, (first, last), lines, (start, end - 1) if start < end else None, done, mcus, at[bit // 8]))
+            top = (first + min(done, mcus - 1)) // head.across * head.high
+            damaged.append((number, (first, last), lines, (start, end - 1) if start < end else None, done, mcus, at[bit // 8], top))
         if doubtful:
             mcu, first, behind = doubtful
             doubts.append((number, number * each + mcu, at[first // 8], at[(behind + 7) // 8] - 1))
@@ -219,7 +220,7 @@ def lines(data):
     those = [line for _, _, line in sorted(told)]
     if not damaged:
         return [f"sound, {many}{end}", *those]
-    top, bottom = min(d[2][0] for d in damaged), max(d[2][1] for d in damaged)
+    top, bottom = damaged[0][7], max(d[2][1] for d in damaged)
     return [f"damaged, {len(damaged)} of {many}, lines {top} to {bottom}{end}", *those]
 
 
@@ -236,7 +237,7 @@ def runs(damaged):
 
 def interval_line(run):
     """The line of a damaged interval, or of consecutive ones without bytes."""
-    number, mcus, touched, span, done, count, to = run[0]
+    number, mcus, touched, span, done, count, to = run[0][:7]
     if len(run) > 1:
         last, last_mcus, last_touched = run[-1][:3]
         return f"intervals {number} to {last}, MCUs {mcus[0]} to {last_mcus[1]}, lines {touched[0]} to {last_touched[1]}, no bytes"

@@ -86,6 +86,31 @@ class Trials:
         told, _ = self.check(["--state", state, *names])
         self.see("a new version", (told.count(b"unchanged"), read(state)[: len(wanted)] == wanted, read(state).count(b"\n")), (59, True, 62))
 
+    def versions(self, folder, data):
+        """Verifications of a directory of which a file has other bytes and another time, one only another time, and one is gone."""
+        inner = os.path.join(folder, "in")
+        os.mkdir(inner)
+        names, _ = make_files(inner, data, 6)
+        state = os.path.join(folder, "state")
+        self.check(["-r", "--state", state, inner])
+        write(names[1], read(names[4])[:-2] + b"\xff\xd9")
+        os.utime(names[1], ns=(0, 10**18))
+        before = read(names[1])
+        write(names[2], before + b"\0")
+        os.utime(names[4], ns=(0, 10**18))
+        os.remove(names[5])
+        for words in ([], ["--strict"]):
+            told, status = self.check(["-r", "-q", *words, "--verify", "--state", state, inner])
+            found = [line.split(": ", 1) for line in told.decode().splitlines()]
+            wanted = [(names[2], "new version, sound"), (names[5], "missing")] if not words else [(names[5], "missing")]
+            lines = [(name, it[: len(want[1])]) for (name, it), want in zip([it for it in found if "damaged" not in it[1]], wanted)]
+            self.see(f"versions {words}", (lines, len(found), status), (wanted, len(wanted) + 2, 1))
+        for name in (names[0], names[3]):
+            os.remove(name)
+        self.see("sound files", self.check(["-r", "--verify", "--state", state, inner])[1], 0)
+        self.see("sound files, strict", self.check(["-r", "--verify", "--strict", "--state", state, inner])[1], 6)
+        self.see("another directory", self.check(["-r", "--verify", "--strict", "--state", state, inner + "/."])[1], 0)
+
     def cuts(self, folder, data):
         """State files that are cut off at each byte."""
         names, states = make_files(folder, data, 2)
@@ -169,7 +194,7 @@ def check_of(line):
 def compare(program, check, expect, data):
     """How many comparisons there are, and how many differences."""
     trials = Trials(program, check, expect)
-    for trial in (trials.records, trials.cuts, trials.damages, trials.refusals, trials.kills):
+    for trial in (trials.records, trials.versions, trials.cuts, trials.damages, trials.refusals, trials.kills):
         with tempfile.TemporaryDirectory() as folder:
             trial(folder, data)
     return sum(it[0] for it in trials.counts), sum(it[1] for it in trials.counts)

@@ -38,7 +38,7 @@ _jri_check() {
             --files0-from | --state) return ;;
         esac
         case $word in
-            -*) compopt +o default; mapfile -t COMPREPLY < <(compgen -W '--map --json -q --quiet --counts -j --workers --recursive --files0-from --resync --state --verify --help --version' -- "$word"); return ;;
+            -*) compopt +o default; mapfile -t COMPREPLY < <(compgen -W '--map --json -q --quiet --counts -j --workers --recursive --files0-from --resync --state --verify --strict --help --version' -- "$word"); return ;;
         esac
     fi
     _jri_check_names "$word"

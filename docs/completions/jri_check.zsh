@@ -11,6 +11,7 @@ _arguments -S \
     '--files0-from=[also check the NUL-terminated names in a list]:list:_files' \
     '(--state)--resync[check files read past restart markers that are out of step]' \
     '--state=[record files, and skip those recorded]:state file:_files' \
-    '--verify[read recorded files again and report changed bytes]' \
+    '--verify[read recorded files again; report changed, new and missing ones]' \
+    '--strict[exit with 6 if a file is a new version, missing, or has doubtful values]' \
     '(-j --workers)'{-j+,--workers=}'[number of threads, 1 to 64]:files at once:(1 2 4 8 16 32 64)' \
     '*:JPEG file:_files -g "*.(#i)(jpg|jpeg|jpe|jfif)(-.)"'

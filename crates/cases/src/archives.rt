@@ -98,6 +98,7 @@ impl Lists for Shelf<'_> {
         let names: &'static [u8] = match name {
             "list" => b"two\0cut\0",
             "unended" => b"two\0missing",
+            "lines" => b"two\ncut\n",
             "empty" => b"",
             _ => return Err(ReadError::NotFound),
         };

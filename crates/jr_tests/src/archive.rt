@@ -2,7 +2,7 @@
 //! them: the reading of each waits for that of the other.
 
 use jri_archive::{
-    CheckRequest, Entry, FileCounts, Folder, NoProgress, ReadError, Source, State,
+    CheckRequest, Entry, FileCounts, Findings, Folder, NoProgress, ReadError, Source, State,
     append_counts_line, asked, check_all, write_counts_line,
 };
 use std::alloc::Global;
@@ -57,9 +57,14 @@ fn counts_are_written_whole(rt: HostRuntime) {
         out_of_memory: u64::MAX,
         changed: u64::MAX,
     };
+    let findings = Findings {
+        new_versions: u64::MAX,
+        missing: u64::MAX,
+        doubtful: u64::MAX,
+    };
     let (mut line, mut wanted) = (Vec::new(rt.alloc()), String::new(rt.alloc()));
-    let is_whole = write_counts_line(&mut line, counts).is_ok()
-        && append_counts_line(&mut wanted, counts).is_ok()
+    let is_whole = write_counts_line(&mut line, counts, findings).is_ok()
+        && append_counts_line(&mut wanted, counts, findings).is_ok()
         && line.as_slice() == wanted.as_bytes();
     assert!(rt; is_whole);
 }

@@ -2,8 +2,8 @@
 
 use crate::archive::{NO_LIST, request_of};
 use jri_archive::{
-    CheckEnd, Entry, FileRecord, Folder, NoProgress, ReadError, RecordedState, Source, Stamp,
-    State, StateError, check_all, parse_record, read_state, record_line,
+    CheckEnd, Entry, EntryKind, FileRecord, Folder, NoProgress, ReadError, RecordedState, Source,
+    Stamp, State, StateError, check_all, parse_record, read_state, record_line,
 };
 use std::alloc::Global;
 use std::io::{Result as IoResult, Write};
@@ -232,7 +232,8 @@ struct Step {
     lines: &'static str,
 }
 
-/// Files of which each has a time, and how often one was read. `busy` is written while it is read, and `gone` is missing.
+/// Files of which each has a time, and how often one was read. `busy` is written while it is read, and `gone` is missing. The
+/// directory `in` has a second name of `two`, which is missing if it has no bytes.
 #[derive(Drop)]
 struct Dated<'a> {
     reads: &'a AtomicU64,
@@ -243,7 +244,7 @@ impl<'a> Folder for Dated<'a> {
     fn read(&self, alloc: Global, name: &str) -> Result<Vec<u8>, ReadError> {
         self.reads.fetch_add(1, Ordering::SeqCst);
         let words = match name {
-            "two" => self.step.two.0,
+            "two" | "in/two.jpg" => self.step.two.0,
             "ten" | "busy" | "-" => TEN,
             "progressive" => "S FF C2",
             _ => return Err(ReadError::NotFound),
@@ -257,6 +258,7 @@ impl<'a> Folder for Dated<'a> {
     fn stamp(&self, name: &str) -> Option<Stamp> {
         let seconds = match name {
             "two" => self.step.two.1,
+            "in/two.jpg" if !self.step.two.0.is_empty() => self.step.two.1,
             "ten" | "progressive" => 7,
             "busy" => (self.reads.load(Ordering::SeqCst) % 100) as i64,
             _ => return None,
@@ -268,8 +270,21 @@ impl<'a> Folder for Dated<'a> {
         })
     }
 
-    fn entries(&self, _alloc: Global, _name: &str) -> Result<Option<Vec<Entry>>, ReadError> {
-        Ok(None)
+    fn entries(&self, alloc: Global, name: &str) -> Result<Option<Vec<Entry>>, ReadError> {
+        if name != "in" {
+            return Ok(None);
+        }
+        let mut entries = Vec::new(alloc);
+        if !self.step.two.0.is_empty() {
+            let Ok(name) = b"in/two.jpg".as_slice().to_vec(alloc) else {
+                return Err(ReadError::Memory);
+            };
+            let kind = EntryKind::File;
+            if entries.push(Entry { name, kind }).is_err() {
+                return Err(ReadError::Memory);
+            }
+        }
+        Ok(Some(entries))
     }
 }
 
@@ -309,7 +324,7 @@ fn is_run<R: Threads + Wait + Sync + AllocGlobal>(
     let Ok(state) = State::open(alloc, before.as_slice(), log, asked.is_verifying) else {
         return Err(Fail::from("a damaged state file"));
     };
-    let reads = AtomicU64::new(0);
+    let (reads, is_strict) = (AtomicU64::new(0), asked.is_strict);
     let folder = Dated {
         reads: &reads,
         step: *step,
@@ -322,7 +337,7 @@ fn is_run<R: Threads + Wait + Sync + AllocGlobal>(
     let (status, read, unchanged) = step.outcome;
     Ok(
         report.end == end
-            && report.status() == status
+            && report.status(is_strict) == status
             && reads.load(Ordering::SeqCst) == read
             && is_kept == unchanged
             && lines.as_slice() == step.lines.as_bytes(),
@@ -408,6 +423,78 @@ static VERIFICATIONS: [Step; 4] = [
     CHANGED,
 ];
 
+/// A verification reports a file of other bytes and another time, and not one of another time alone.
+static NEW_BYTES: [Step; 5] = [
+    FIRST,
+    Step {
+        words: "--verify --counts --state s two",
+        two: (CUT, 8),
+        outcome: (1, 1, false),
+        lines: "two: new version, damaged, 1 of 2 intervals, lines 0 to 7\n\
+                0 sound, 1 damaged, 1 new version\n",
+    },
+    Step {
+        words: "--verify --strict -q --counts --state s two two",
+        two: (TWO, 9),
+        outcome: (6, 2, false),
+        lines: "two: new version, sound, 2 intervals\ntwo: new version, sound, 2 intervals\n\
+                2 sound, 2 new versions\n",
+    },
+    Step {
+        words: "--verify --strict -q --counts --state s two",
+        two: (TWO, 10),
+        outcome: (0, 1, false),
+        lines: "1 sound\n",
+    },
+    Step {
+        words: "--verify --strict --json --counts --state s two",
+        two: (CUT, 11),
+        outcome: (1, 1, false),
+        lines: "{\"file\":\"two\",\"new_version\":true,\"is\":\"damaged\",\"damaged\":1,\"first_line\":0,\"last_line\":7,\"intervals\":2,\"width\":16,\"height\":8,\"bytes\":151}\n\
+                {\"sound\":0,\"damaged\":1,\"refused\":0,\"unsupported\":0,\"unread\":0,\"out_of_memory\":0,\"new_versions\":1}\n",
+    },
+];
+
+/// The words of a run over a directory, and of one that verifies it.
+const SEARCH: &str = "-r --state s in";
+
+const SEARCH_AGAIN: &str = "-r -q --verify --state s ten in";
+
+/// A verification reports a record below a directory that it searches if the file is gone.
+static MISSING: [Step; 5] = [
+    Step {
+        words: SEARCH,
+        two: (TWO, 7),
+        outcome: (0, 1, false),
+        lines: "in/two.jpg: sound, 2 intervals\n",
+    },
+    Step {
+        words: SEARCH,
+        two: ("", 0),
+        outcome: (0, 0, true),
+        lines: "",
+    },
+    Step {
+        words: SEARCH_AGAIN,
+        two: ("", 0),
+        outcome: (0, 1, false),
+        lines: "in/two.jpg: missing\n",
+    },
+    Step {
+        words: "-r --verify --strict --state s ten",
+        two: ("", 0),
+        outcome: (0, 1, true),
+        lines: "ten: sound, 10 intervals\n",
+    },
+    Step {
+        words: "-r --json --counts --verify --strict --state s in",
+        two: ("", 0),
+        outcome: (6, 0, true),
+        lines: "{\"file\":\"in/two.jpg\",\"is\":\"missing\"}\n\
+                {\"sound\":0,\"damaged\":0,\"refused\":0,\"unsupported\":0,\"unread\":0,\"out_of_memory\":0,\"missing\":1}\n",
+    },
+];
+
 /// The objects of files that are unchanged, changed and refused.
 static OBJECTS: [Step; 3] = [
     FIRST,
@@ -428,7 +515,14 @@ static OBJECTS: [Step; 3] = [
 
 #[test]
 fn files_are_read_and_recorded(rt: HostRuntime) -> Result<(), Fail> {
-    let sequences: [&[Step]; 4] = [&UNCHANGED, &NEW_VERSION, &VERIFICATIONS, &OBJECTS];
+    let sequences: [&[Step]; 6] = [
+        &UNCHANGED,
+        &NEW_VERSION,
+        &VERIFICATIONS,
+        &NEW_BYTES,
+        &MISSING,
+        &OBJECTS,
+    ];
     for steps in sequences {
         let bytes = Mutex::new(Vec::new(rt.alloc()));
         for step in steps {

@@ -8,13 +8,14 @@ use Rattle.jri_archive.specs.declared.counts.FileState.TheVariants.{Sound, Damag
 use Rattle.jri_archive.specs.declared.reading.ReadError.TheVariants as read
 use Rattle.jri_archive.specs.declared.outcome.Outcome.{Outcome}
 use Rattle.jri_archive.specs.declared.outcome.Outcome.TheVariants as outcome
+use Rattle.jri_archive.specs.DamagedLines.{AreUndecoded}
 use Rattle.jri_archive.specs.Records.{file_state}
 use Rattle.jri_archive.specs.Unsupported.{may_be_valid}
 use Rattle.jr_damage.specs.Verdicts.{IsFileScan, IsVerdictOf}
 
 -- the file's size and scan, where its image ends and what is damaged of it, or its first fault; if memory ran out nothing is said of it
 abbrev pub IsOutcomeOf : List ℕ → Outcome → Type 0
-IsOutcomeOf file (outcome.Checked c) = (c.size ≡ length file) × IsFileScan file c.scan × IsImageEndIn file c.scan c.image_end × IsVerdictOf c.scan (length c.scan.intervals) c.verdict
+IsOutcomeOf file (outcome.Checked c) = (c.size ≡ length file) × IsFileScan file c.scan × IsImageEndIn file c.scan c.image_end × IsVerdictOf c.scan (length c.scan.intervals) c.verdict × AreUndecoded c.scan c.verdict.lines c.lines
 IsOutcomeOf file (outcome.Refused fault) = fault ≢ refusal.Memory → RefusalOf file fault
 IsOutcomeOf file (outcome.Unread error) = ⊥
 IsOutcomeOf file outcome.Skipped = ⊥

@@ -5,8 +5,11 @@ use Rattle.jri_archive.specs.declared.answers.RequestError.TheVariants.{Help, Wr
 use Rattle.jri_archive.specs.declared.counts.FileState.{FileState}
 use Rattle.jri_archive.specs.declared.counts.FileState.TheVariants.{Sound, Damaged, Refused, Unsupported, Unread, OutOfMemory, Skipped, Changed}
 use Rattle.jri_archive.specs.declared.counts.FileCounts.{FileCounts}
+use Rattle.jri_archive.specs.declared.counts.Finding.{Finding}
+use Rattle.jri_archive.specs.declared.counts.Finding.TheVariants.{NewVersion, Missing, Doubtful}
+use Rattle.jri_archive.specs.declared.counts.Findings.{Findings}
 use Rattle.jri_archive.specs.declared.counts.CheckEnd.{CheckEnd}
-use Rattle.jri_archive.specs.declared.counts.CheckEnd.TheVariants.{AllTold, NamesUnread, Unwritten, Memory as NoMemory, Unrecorded}
+use Rattle.jri_archive.specs.declared.counts.CheckEnd.TheVariants.{AllTold, NamesUnread, NamesUnended, Unwritten, Memory as NoMemory, Unrecorded}
 use Rattle.jri_archive.specs.declared.counts.CheckReport.{CheckReport}
 use Rattle.jri_archive.specs.declared.state_file.StateError.{StateError}
 use Rattle.jri_archive.specs.declared.state_file.StateError.TheVariants as state
@@ -39,21 +42,31 @@ counts_with c Changed = record c { changed = one_more c.changed }
 abbrev pub files_in : FileCounts → ℕ
 files_in c = c.sound + (c.damaged + (c.refused + (c.unsupported + (c.unread + (c.out_of_memory + c.changed)))))
 
--- the status of files whose names and lines had no failure: the first that applies of 4, 3, 1, 5 and 0
-abbrev pub counts_status : FileCounts → ℕ
-counts_status c =
+abbrev pub findings_with : Findings → Finding → Findings
+findings_with f NewVersion = record f { new_versions = one_more f.new_versions }
+findings_with f Missing = record f { missing = one_more f.missing }
+findings_with f Doubtful = record f { doubtful = one_more f.doubtful }
+
+abbrev pub findings_in : Findings → ℕ
+findings_in f = f.new_versions + (f.missing + f.doubtful)
+
+-- the status of files whose names and lines had no failure, and of so many findings: the first that applies of 4, 3, 1, 6, 5 and 0
+abbrev pub counts_status : FileCounts → (found : ℕ) → ℕ
+counts_status c found =
     if nat_lt 0 c.out_of_memory then 4 else
     if nat_lt 0 c.unread then 3 else
     if nat_lt 0 (c.damaged + (c.refused + c.changed)) then 1 else
+    if nat_lt 0 found then 6 else
     if nat_lt 0 c.unsupported then 5 else 0
 
 -- the same of an end and of files
-abbrev pub status_of : CheckEnd → FileCounts → ℕ
-status_of AllTold c = counts_status c
-status_of NamesUnread c = if nat_lt 0 c.out_of_memory then 4 else 3
-status_of Unwritten c = 4
-status_of NoMemory c = 4
-status_of Unrecorded c = 4
+abbrev pub status_of : CheckEnd → FileCounts → (found : ℕ) → ℕ
+status_of AllTold c found = counts_status c found
+status_of NamesUnread c found = if nat_lt 0 c.out_of_memory then 4 else 3
+status_of NamesUnended c found = if nat_lt 0 c.out_of_memory then 4 else 3
+status_of Unwritten c found = 4
+status_of NoMemory c found = 4
+status_of Unrecorded c found = 4
 
 -- a state file that is not used, or not written
 abbrev pub state_error_status : StateError → ℕ
@@ -63,5 +76,6 @@ state_error_status (state.Damaged line) = 2
 state_error_status state.Unwritten = 4
 state_error_status state.Memory = 4
 
-abbrev pub check_status : CheckReport → ℕ
-check_status r = status_of r.end r.counts
+-- findings count if the run is strict
+abbrev pub check_status : CheckReport → (is_strict : Bool) → ℕ
+check_status r is_strict = status_of r.end r.counts (if is_strict then findings_in r.findings else 0)

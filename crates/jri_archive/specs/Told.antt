@@ -5,7 +5,7 @@ use Rattle.jri_archive.specs.declared.reading.ReadError.{ReadError}
 use Rattle.jri_archive.specs.declared.names.NamedFile.{NamedFile}
 use Rattle.jri_archive.specs.Names.{IsNamed, IsNoText}
 use Rattle.jri_archive.specs.declared.counts.CheckEnd.{CheckEnd}
-use Rattle.jri_archive.specs.declared.counts.CheckEnd.TheVariants.{AllTold, NamesUnread, Unwritten, Memory as NoMemory, Unrecorded}
+use Rattle.jri_archive.specs.declared.counts.CheckEnd.TheVariants.{AllTold, NamesUnread, NamesUnended, Unwritten, Memory as NoMemory, Unrecorded}
 use Rattle.jri_archive.specs.declared.counts.CheckReport.{CheckReport}
 use Rattle.jri_archive.specs.declared.counts.FileCounts.{FileCounts}
 use Rattle.jri_archive.specs.declared.counts.FileState.{FileState}
@@ -22,6 +22,10 @@ use Rattle.sha2.specs.Sha256.{sha256}
 -- that record of the file of that name has its size and time
 abbrev pub IsStamped : (stamps : List ℕ → Stamp → Type 0) (knows : List ℕ → FileRecord → Type 0) → List ℕ → FileRecord → Type 0
 IsStamped stamps knows name r = knows name r × stamps name r.stamp
+
+-- that record of the file of that name has another size or time
+abbrev pub IsOlder : (knows : List ℕ → FileRecord → Type 0) → List ℕ → Stamp → FileRecord → Type 0
+IsOlder knows name stamp r = knows name r × (r.stamp ≢ stamp)
 
 -- a record of the file of that name has its size and time, and the SHA-256 of other bytes
 abbrev pub IsOther : (stamps : List ℕ → Stamp → Type 0) (knows : List ℕ → FileRecord → Type 0) → List ℕ → List ℕ → Type 0
@@ -65,6 +69,7 @@ pub record IsRecordOf (holds : List ℕ → List ℕ → Type 0) (stamps : List 
 abbrev pub is_open : CheckEnd → Bool
 is_open AllTold = true
 is_open NamesUnread = true
+is_open NamesUnended = true
 is_open Unwritten = false
 is_open NoMemory = false
 is_open Unrecorded = false

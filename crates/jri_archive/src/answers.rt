@@ -36,6 +36,8 @@ pub struct CheckRequest {
     pub state: Option<String>,
     /// Whether files that the state file has are read again.
     pub is_verifying: bool,
+    /// Whether new versions, missing files and doubtful values have an exit status of their own.
+    pub is_strict: bool,
     /// The names among the arguments, of any bytes that the system allows.
     pub names: Vec<Vec<u8>>,
 }

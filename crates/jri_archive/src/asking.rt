@@ -29,7 +29,7 @@ enum Rule {
 /// The name of an argument, the name of its value if it is not a flag, its help, and its rule.
 type ArgumentRow = (&'static str, &'static [&'static str], &'static str, Rule);
 
-static ARGUMENTS: [ArgumentRow; 10] = [
+static ARGUMENTS: [ArgumentRow; 11] = [
     (
         "map",
         &["WHICH"],
@@ -82,8 +82,14 @@ static ARGUMENTS: [ArgumentRow; 10] = [
     (
         "verify",
         &[],
-        "Read recorded files again and report changed bytes; needs --state",
+        "Read recorded files again; report changed, new and missing ones; needs --state",
         Rule::NeedsState,
+    ),
+    (
+        "strict",
+        &[],
+        "Exit with 6 if a file is a new version, missing, or has doubtful values",
+        Rule::Plain,
     ),
 ];
 
@@ -147,6 +153,7 @@ Exit status, the first that applies:
   4  out of memory, or the output or the state file cannot be written
   3  a file or the list cannot be read
   1  a file is damaged, refused or changed
+  6  with --strict: a file is a new version or missing, or has a doubtful value
   5  a file is of a kind that is not supported
   0  every file is sound
 The statuses 1 and 3 of jri mean other things.";
@@ -161,7 +168,7 @@ fn arguments<'a>(alloc: Global) -> Result<Vec<Arg<'a>>, AllocError> {
     Ok(arguments)
 }
 
-/// `jri_check [--map[=all]] [--json] [-q] [--counts] [-j N] [-r] [--files0-from LIST] [--resync] [--state STATE [--verify]] FILE..`.
+/// `jri_check [--map[=all]] [--json] [-q] [--counts] [-j N] [-r] [--files0-from LIST] [--resync] [--state STATE [--verify]] [--strict] FILE..`.
 fn command<'a>(alloc: Global) -> Result<Command<'a>, AllocError> {
     let arguments = arguments(alloc)?;
     Command::new(alloc, "jri_check")
@@ -277,6 +284,7 @@ fn nameless(alloc: Global, matches: &ArgMatches<'_>) -> CheckRequest
         is_resync: matches.get_flag("resync"),
         state: None,
         is_verifying: matches.get_flag("verify"),
+        is_strict: matches.get_flag("strict"),
         names: Vec::new(alloc),
     }
 }

@@ -1,7 +1,7 @@
 //! The number of files in each state, and the exit status.
 
 ghost use Rattle.std.specs.Prelude.{◌≡◌, not};
-ghost use Rattle.jri_archive.specs.Status.{counts_with, files_in, check_status};
+ghost use Rattle.jri_archive.specs.Status.{counts_with, files_in, findings_with, findings_in, check_status};
 ghost use Rattle.jri_archive.specs.Told.{is_open};
 
 /// The state of a file.
@@ -74,6 +74,51 @@ impl FileCounts {
     }
 }
 
+/// What is found besides the states of files.
+#[derive(Clone, Copy)]
+pub enum Finding {
+    /// A file has other bytes than its record, and another size or time.
+    NewVersion,
+    /// The file of a record is gone.
+    Missing,
+    /// A file has a value that no 8-bit image has.
+    Doubtful,
+}
+
+/// The number of files of which each is found.
+#[derive(Clone, Copy)]
+pub struct Findings {
+    pub new_versions: u64,
+    pub missing: u64,
+    pub doubtful: u64,
+}
+
+impl Findings {
+    /// Returns the findings of no file.
+    pub fn none() -> Findings
+        ensures { findings_in result ≡ 0 }
+    {
+        Findings {
+            new_versions: 0,
+            missing: 0,
+            doubtful: 0,
+        }
+    }
+
+    /// Returns these findings with one more.
+    pub fn with(self, finding: Finding) -> Findings
+        ensures { result ≡ findings_with self finding }
+    {
+        let mut findings = self;
+        match finding {
+            Finding::NewVersion => findings.new_versions = findings.new_versions.saturating_add(1),
+            Finding::Missing => findings.missing = findings.missing.saturating_add(1),
+            Finding::Doubtful => findings.doubtful = findings.doubtful.saturating_add(1),
+        }
+        findings
+    }
+}
+
 /// Why no further file is reported.
 #[derive(Clone, Copy, PartialEq, Eq)]
 pub enum CheckEnd {
@@ -81,6 +126,8 @@ pub enum CheckEnd {
     AllTold,
     /// Further names could not be read.
     NamesUnread,
+    /// No name of the list ends in a NUL byte.
+    NamesUnended,
     /// The lines could not be written to their end.
     Unwritten,
     /// Memory ran out for a name or a line.
@@ -106,25 +153,30 @@ impl CheckEnd {
 pub struct CheckReport {
     /// The counts of those whose lines are written.
     pub counts: FileCounts,
+    pub findings: Findings,
     pub end: CheckEnd,
 }
 
 impl CheckReport {
     /// Returns the exit status, the first that applies: 4 if memory, the output or the state file failed, 3 if a
-    /// file, or a name, could not be read, 1 if a file is damaged, refused or changed, 5 if one is
-    /// unsupported, 0 if each file is sound.
-    pub fn status(&self) -> u8
-        ensures { result ≡ check_status self.now }
+    /// file, or a name, could not be read, 1 if a file is damaged, refused or changed, 6 if there are findings and
+    /// `is_strict` is set, 5 if a file is unsupported, 0 if each file is sound.
+    pub fn status(&self, is_strict: bool) -> u8
+        ensures { result ≡ check_status self.now is_strict }
     {
         let counts = &self.counts;
         if self.end.is_last() || counts.out_of_memory > 0 {
             return 4;
         }
-        if self.end == CheckEnd::NamesUnread || counts.unread > 0 {
+        if self.end != CheckEnd::AllTold || counts.unread > 0 {
             return 3;
         }
         if counts.damaged > 0 || counts.refused > 0 || counts.changed > 0 {
             return 1;
+        }
+        let found = &self.findings;
+        if is_strict && (found.new_versions > 0 || found.missing > 0 || found.doubtful > 0) {
+            return 6;
         }
         if counts.unsupported > 0 {
             return 5;

@@ -2,12 +2,13 @@
 
 ghost use Rattle.std.specs.Prelude.{◌≡◌, ℕ, ◌<◌, ◌^◌, not, List, [], Some, None, true, false, length, slice_get, slice_index_or, IfSome};
 ghost use Rattle.jri_archive.specs.Outcomes.{IsOutcomeOf, plain_outcome, state_of};
+ghost use Rattle.jri_archive.specs.Status.{findings_with};
 ghost use Rattle.jri_archive.specs.Told.{AreTold, is_open};
 
 use crate::answers::LineForm;
 use crate::count_lines::append_counts;
-use crate::counts::{CheckEnd, CheckReport, FileCounts, FileState};
-use crate::lines::append_outcome;
+use crate::counts::{CheckEnd, CheckReport, FileCounts, FileState, Finding, Findings};
+use crate::lines::{append_missing, append_outcome};
 use crate::map::{TellError, write_breaks, write_line, write_map};
 use crate::names::NamesError;
 use crate::one_check::OneCheck;
@@ -28,6 +29,8 @@ pub(crate) struct CheckedFile {
     pub(crate) breaks: Option<Vec<Break>>,
     /// What is appended to a state file.
     pub(crate) entry: Option<FileRecord>,
+    /// Whether it is verified, and has other bytes than its record, and another size or time.
+    pub(crate) is_new: bool,
 }
 
 /// The next line that is due, and the output of the lines.
@@ -58,43 +61,46 @@ impl<S: OneCheck, O, P> Model for FileQueue<S, O, P> {
     ghost invariant = { λ q. IsQueueOf S.names S.may_be (record { told = q.told; files = q.files; report = q.report }) };
 }
 
-/// Writes the line of a file and, if they are asked for, those of its damaged and doubtful intervals. A sound file has none
-/// if sound ones are left out. `line` is cleared for each.
+/// Writes the line of a file and, if they are asked for, those of its markers and intervals. If sound files are left out, one that is
+/// no new version has only those of its doubtful MCUs. `line` is cleared for each. Returns whether there is a doubtful MCU.
 fn write_lines<O: Write>(
     line: &mut String,
     out: &mut O,
     name: &[u8],
     file: &CheckedFile,
     form: LineForm,
-) -> Result<(), TellError>
+) -> Result<bool, TellError>
     requires { IfSome file.now.bytes (λ b. IsOutcomeOf b.items (plain_outcome file.now.outcome)) }
 {
-    if !form.is_quiet || file.outcome.state() != FileState::Sound {
-        let made = append_outcome(line, name, &file.outcome, form.is_json);
+    let mut form = form;
+    if form.is_quiet && file.outcome.state() == FileState::Sound && !file.is_new {
+        form.has_sound = false;
+    } else {
+        let made = append_outcome(line, name, &file.outcome, file.is_new, form.is_json);
         write_line(out, made, line.as_str())?;
-    }
-    if form.has_map
-        && let Some(breaks) = &file.breaks
-    {
-        write_breaks(line, out, name, breaks, form.is_json)?;
+        if form.has_map
+            && let Some(breaks) = &file.breaks
+        {
+            write_breaks(line, out, name, breaks, form.is_json)?;
+        }
     }
     if let Some(bytes) = &file.bytes
         && let Some(checked) = file.outcome.checked()
     {
         return write_map(line, out, name, bytes.as_slice(), checked, form);
     }
-    Ok(())
+    Ok(false)
 }
 
 /// Writes the line of the counts.
 pub(crate) fn write_counts<O: Write>(
     alloc: Global,
     out: &mut O,
-    counts: FileCounts,
+    report: &CheckReport,
     is_json: bool,
 ) -> Result<(), TellError> {
     let mut line = String::new(alloc);
-    let made = append_counts(&mut line, counts, is_json);
+    let made = append_counts(&mut line, report.counts, report.findings, is_json);
     write_line(out, made, line.as_str())
 }
 
@@ -114,6 +120,7 @@ impl<S: OneCheck, O: Write, P: Progress + Drop> FileQueue<S, O, P> {
             progress,
             report: CheckReport {
                 counts: FileCounts::none(),
+                findings: Findings::none(),
                 end: CheckEnd::AllTold,
             },
             _of: PhantomData,
@@ -175,8 +182,8 @@ impl<S: OneCheck, O: Write, P: Progress + Drop> FileQueue<S, O, P> {
         });
     }
 
-    /// Makes way for the lines of a file in this state, unless none is written.
-    fn make_way(&mut self, state: FileState)
+    /// Makes way for the lines of a file, unless none is written.
+    fn make_way(&mut self, file: &CheckedFile)
         ensures { self.new ≡ self.old }
     {
         let LineForm {
@@ -184,7 +191,7 @@ impl<S: OneCheck, O: Write, P: Progress + Drop> FileQueue<S, O, P> {
             has_map,
             ..
         } = self.form;
-        if has_map || !(is_quiet && state == FileState::Sound) {
+        if has_map || !is_quiet || file.is_new || file.outcome.state() != FileState::Sound {
             self.progress.make_way();
         }
     }
@@ -204,6 +211,7 @@ impl<S: OneCheck, O: Write, P: Progress + Drop> FileQueue<S, O, P> {
         match error {
             None => self.set_files(claimed),
             Some(NamesError::Read) => self.end(CheckEnd::NamesUnread),
+            Some(NamesError::Unended) => self.end(CheckEnd::NamesUnended),
             Some(NamesError::Memory) => self.end(CheckEnd::Memory),
         }
     }
@@ -247,6 +255,41 @@ impl<S: OneCheck, O: Write, P: Progress + Drop> FileQueue<S, O, P> {
         self.told = self.told.saturating_add(1);
     }
 
+    /// Counts a finding, if it is one.
+    fn find(&mut self, is_found: bool, finding: Finding)
+        ensures told { self.new.told ≡ self.old.told }
+        ensures counts { self.new.report.counts ≡ self.old.report.counts }
+        ensures end { self.new.report.end ≡ self.old.report.end }
+        ensures found { is_found ≡ true → self.new.report.findings ≡ findings_with self.old.report.findings finding }
+        ensures other { is_found ≡ false → self.new.report.findings ≡ self.old.report.findings }
+    {
+        if is_found {
+            self.report.findings = self.report.findings.with(finding);
+        }
+    }
+
+    /// Notes that a line is not written.
+    fn end_line(&mut self, error: &TellError) {
+        self.end(match error {
+            TellError::Write => CheckEnd::Unwritten,
+            TellError::Memory => CheckEnd::Memory,
+        });
+    }
+
+    /// Writes the line of a record whose file is gone, unless lines can no longer be written.
+    pub(crate) fn write_missing(&mut self, alloc: Global, name: &[u8]) {
+        if self.is_over() {
+            return;
+        }
+        self.progress.make_way();
+        let mut line = String::new(alloc);
+        let made = append_missing(&mut line, name, self.form.is_json);
+        match write_line(&mut self.out, made, line.as_str()) {
+            Ok(()) => self.find(true, Finding::Missing),
+            Err(error) => self.end_line(&error),
+        }
+    }
+
     /// Skips the next line if lines can no longer be written, so that no worker waits for it.
     fn pass_over(&mut self) {
         if self.is_over() {
@@ -260,13 +303,16 @@ impl<S: OneCheck, O: Write, P: Progress + Drop> FileQueue<S, O, P> {
         requires next { (names : List (List ℕ)) → S.names ≡ Some names → (slice_get names self.old.told ≡ Some name.now) × S.may_be name.now file.now.outcome }
     {
         let state = file.outcome.state();
-        self.make_way(state);
+        self.make_way(file);
         if !self.is_over() {
             let mut line = String::new(alloc);
             match write_lines(&mut line, &mut self.out, name, file, self.form) {
-                Ok(()) => self.note(state),
-                Err(TellError::Write) => self.end(CheckEnd::Unwritten),
-                Err(TellError::Memory) => self.end(CheckEnd::Memory),
+                Ok(is_doubtful) => {
+                    self.note(state);
+                    self.find(file.is_new, Finding::NewVersion);
+                    self.find(is_doubtful, Finding::Doubtful);
+                }
+                Err(error) => self.end_line(&error),
             }
         }
         self.pass_over();

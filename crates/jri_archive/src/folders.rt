@@ -4,6 +4,7 @@ use crate::given::GivenNames;
 use crate::names::{NamedFile, NamesError};
 use crate::reading::{Entry, EntryKind, Folder, ReadError};
 use std::alloc::{AllocError, Global};
+use std::collections::HashSet;
 use std::io::Read;
 
 /// What ends the names of JPEG files in directories.
@@ -31,6 +32,8 @@ fn is_unknown(entry: &Entry) -> bool {
 pub(crate) struct FolderWalk {
     /// The entries of the directories, the next one last.
     waiting: Vec<Entry>,
+    /// The directories that were given, as they were named.
+    searched: HashSet<Vec<u8>>,
 }
 
 impl FolderWalk {
@@ -38,7 +41,20 @@ impl FolderWalk {
     pub(crate) fn of(alloc: Global) -> FolderWalk {
         FolderWalk {
             waiting: Vec::new(alloc),
+            searched: HashSet::new(alloc),
         }
+    }
+
+    /// Returns whether a file of that name lies below a directory that was given.
+    pub(crate) fn has_searched(&self, name: &[u8]) -> bool {
+        for at in 0..name.len() {
+            if name[at] == b'/'
+                && (self.searched.contains(&name[..at]) || self.searched.contains(&name[..=at]))
+            {
+                return true;
+            }
+        }
+        false
     }
 
     /// Continues with the entries of a directory, in the order of their names. Returns whether it is a directory.
@@ -110,6 +126,9 @@ impl FolderWalk {
                     error: entered.err(),
                     is_skipped: false,
                 }));
+            }
+            if self.searched.insert(name).is_err() {
+                return Err(NamesError::Memory);
             }
         }
         Ok(None)

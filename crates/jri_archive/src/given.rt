@@ -15,6 +15,8 @@ pub(crate) struct GivenNames<I: Read + Drop> {
     /// The number of arguments that are read.
     taken: usize,
     list: Option<BufReader<I>>,
+    /// Whether a name of the list ended at a NUL byte.
+    has_ended: bool,
 }
 
 impl<I: Read + Drop> Model for GivenNames<I> {
@@ -37,6 +39,7 @@ impl<I: Read + Drop> GivenNames<I> {
             words,
             taken: 0,
             list,
+            has_ended: false,
         }
     }
 
@@ -50,7 +53,7 @@ impl<I: Read + Drop> GivenNames<I> {
         Some((self.words.len() - self.taken) as u64)
     }
 
-    /// Returns the next name of the list. It ends at a NUL byte, or with the list.
+    /// Returns the next name of the list. It ends at a NUL byte, or with the list if another name has ended so.
     fn next_of_list(&mut self, alloc: Global) -> Result<Option<Vec<u8>>, NamesError>
         ensures none { (names : List (List ℕ)) → self.old ≡ Some names → result ≡ Ok None }
         ensures same { (names : List (List ℕ)) → self.old ≡ Some names → self.new ≡ self.old }
@@ -67,8 +70,13 @@ impl<I: Read + Drop> GivenNames<I> {
             Ok(_) => {
                 if name.last() == Some(&0) {
                     name.pop();
+                    self.has_ended = true;
                 }
-                Ok(Some(name))
+                if self.has_ended {
+                    return Ok(Some(name));
+                }
+                self.list = None;
+                Err(NamesError::Unended)
             }
             Err(error) if error.kind() == ErrorKind::OutOfMemory => Err(NamesError::Memory),
             Err(_) => Err(NamesError::Read),

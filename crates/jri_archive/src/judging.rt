@@ -55,6 +55,7 @@ pub(crate) fn checked_file<R: Threads + Wait + Sync>(
         bytes,
         breaks,
         entry: None,
+        is_new: false,
     }
 }
 
@@ -69,6 +70,7 @@ pub(crate) fn unread(outcome: Outcome) -> CheckedFile
         bytes: None,
         breaks: None,
         entry: None,
+        is_new: false,
     }
 }
 
@@ -94,18 +96,31 @@ fn has_hash(known: &FileRecord, seal: &Seal) -> bool
     a.as_slice() == b.as_slice()
 }
 
-/// Returns the check of a file by its record: a file without a record gets one, and a file whose record has other bytes is
-/// changed.
+/// Returns whether a record, if there is one, has the hash of other bytes than these.
+fn is_other(seal: &Seal, record: &Option<FileRecord>) -> bool
+    ensures { IsTrue result ↔ IsOtherSeal (Some seal.now) record.now }
+{
+    match record {
+        Some(record) => !has_hash(record, seal),
+        None => false,
+    }
+}
+
+/// Returns the check of a file by its record, which has its size and time if it is `known`: a file without such a record gets one,
+/// and a file whose record has other bytes is changed. A file that gets a record is a new version if `older` has other bytes.
 pub(crate) fn judged(
     checked: CheckedFile,
     seal: Option<Seal>,
     known: Option<FileRecord>,
+    older: Option<FileRecord>,
 ) -> CheckedFile
     ensures same { (file : List ℕ) → IsOutcomeOf file checked.outcome → IsOutcomeOf file (plain_outcome result.outcome) }
     ensures bytes { result.bytes ≡ checked.bytes }
     ensures entry { IfSome result.entry (λ r. IsSealed seal r × (file_state r.state ≡ state_of result.outcome) × (result.outcome ≡ checked.outcome)) }
     ensures changed { (result.outcome ≡ checked.outcome) ⊎ IsOtherSeal seal known }
     ensures told { IsOtherSeal seal known → (c : Checked) → checked.outcome ≡ Outcome.Checked c → result.outcome ≡ Outcome.Changed c }
+    ensures new { IsTrue result.is_new → IsOtherSeal seal older }
+    ensures found { known ≡ None → IsOtherSeal seal older → IfSome result.entry (λ _. IsTrue result.is_new) }
     ensures refused { IsOtherSeal seal known → (f : Refusal) → f ≢ refusal.Memory → checked.outcome ≡ Outcome.Refused f → result.outcome ≡ Outcome.ChangedRefused f }
 {
     let CheckedFile {
@@ -120,16 +135,19 @@ pub(crate) fn judged(
             bytes,
             breaks,
             entry: None,
+            is_new: false,
         };
     };
     match known {
         None => {
             let entry = record_of(&seal, &outcome);
+            let is_new = entry.is_some() && is_other(&seal, &older);
             CheckedFile {
                 outcome,
                 bytes,
                 breaks,
                 entry,
+                is_new,
             }
         }
         Some(known) if has_hash(&known, &seal) => CheckedFile {
@@ -137,12 +155,14 @@ pub(crate) fn judged(
             bytes,
             breaks,
             entry: None,
+            is_new: false,
         },
         Some(_) => CheckedFile {
             outcome: outcome.changed(),
             bytes,
             breaks,
             entry: None,
+            is_new: false,
         },
     }
 }

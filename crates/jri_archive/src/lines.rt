@@ -60,7 +60,7 @@ fn write_word(
 fn write_damage(line: &mut String, checked: &Checked) -> Result<(), AllocError> {
     let (damaged, intervals) = (checked.verdict.damaged, checked.scan.intervals());
     let plural = if intervals == 1 { "" } else { "s" };
-    match checked.verdict.lines {
+    match checked.lines {
         None => write!(line, "sound, {intervals} interval{plural}"),
         Some(Lines { first, last }) => write!(
             line,
@@ -72,7 +72,7 @@ fn write_damage(line: &mut String, checked: &Checked) -> Result<(), AllocError> 
 /// Appends the members of a scan; the first has the name `key`.
 fn write_members(line: &mut String, key: &str, checked: &Checked) -> Result<(), AllocError> {
     let damaged = checked.verdict.damaged;
-    match checked.verdict.lines {
+    match checked.lines {
         None => write!(line, ",\"{key}\":\"sound\"")?,
         Some(Lines { first, last }) => write!(
             line,
@@ -174,6 +174,9 @@ fn write_refusal(
 /// Before the check of a file whose bytes are not those of its record.
 const CHANGED: Label = ("changed, ", ",\"is\":\"changed\"");
 
+/// Before the check of a file that has other bytes than its record, and another size or time.
+const NEW_VERSION: Label = ("new version, ", ",\"new_version\":true");
+
 /// Before the verdict of a file that is not checked.
 const OUT_OF_MEMORY: Label = ("", ",\"is\":\"");
 
@@ -211,15 +214,29 @@ fn write_outcome(line: &mut String, outcome: &Outcome, is_json: bool) -> Result<
     write_word(line, label, word, is_json)
 }
 
-/// Appends the line of a file, with its end. As a JSON object it has `is`: `sound`, `damaged`, `refused`, `unsupported`,
-/// `unread`, `skipped`, `unchanged`, `changed` or `out of memory`.
+/// Appends the line of a file, with its end; `is_new` is whether it is a new version. As a JSON object it has `is`: `sound`,
+/// `damaged`, `refused`, `unsupported`, `unread`, `skipped`, `unchanged`, `changed` or `out of memory`.
 pub(crate) fn append_outcome(
     line: &mut String,
     name: &[u8],
     outcome: &Outcome,
+    is_new: bool,
     is_json: bool,
 ) -> Result<(), AllocError> {
     begin_line(line, name, is_json)?;
+    if is_new {
+        line.push_str(in_form(NEW_VERSION, is_json))?;
+    }
     write_outcome(line, outcome, is_json)?;
     line.push_str(in_form(("\n", "}\n"), is_json))
+}
+
+/// Appends the line of a record whose file is gone, with its end.
+pub(crate) fn append_missing(
+    line: &mut String,
+    name: &[u8],
+    is_json: bool,
+) -> Result<(), AllocError> {
+    begin_line(line, name, is_json)?;
+    line.push_str(in_form(("missing\n", ",\"is\":\"missing\"}\n"), is_json))
 }

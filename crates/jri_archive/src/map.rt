@@ -1,10 +1,11 @@
 //! The lines of a file's damaged and doubtful intervals.
 
-ghost use Rattle.std.specs.Prelude.{◌<◌, IfSome};
+ghost use Rattle.std.specs.Prelude.{◌<◌, length, IfOk, IfSome};
 ghost use Rattle.jr_scan.specs.ScanValue.{intervals_of};
 ghost use Rattle.jr_damage.specs.Coded.{IsSpelledAt};
 ghost use Rattle.jr_damage.specs.Fronts.{IsDecodableEnd};
 ghost use Rattle.jr_damage.specs.Verdicts.{IsFileScan};
+ghost use Rattle.jri_archive.specs.Doubts.{IsDoubtIn};
 
 use crate::answers::LineForm;
 use crate::checking::Checked;
@@ -135,7 +136,8 @@ fn damaged_run(file: &[u8], span: CodedSpan, interval: IntervalRef<'_>) -> Optio
 }
 
 /// Writes a line for each damaged interval, and one for consecutive ones without bytes; if the form asks for them also one for
-/// each sound interval; and a line for the first doubtful MCU of each interval, damaged or not. Each is one write.
+/// each sound interval; and a line for the first doubtful MCU of each interval, damaged or not. Each is one write. Returns whether
+/// there is a doubtful MCU.
 pub(crate) fn write_map<'a, O: Write>(
     line: &'a mut String,
     out: &'a mut O,
@@ -143,8 +145,9 @@ pub(crate) fn write_map<'a, O: Write>(
     file: &[u8],
     checked: &Checked,
     form: LineForm,
-) -> Result<(), TellError>
+) -> Result<bool, TellError>
     requires { IsFileScan file.now checked.now.scan }
+    ensures { IfOk result (IsDoubtIn file.now checked.now.scan (length checked.now.scan.intervals)) }
 {
     let scan = &checked.scan;
     let intervals = scan.intervals();
@@ -156,6 +159,7 @@ pub(crate) fn write_map<'a, O: Write>(
         is_json: form.is_json,
         run: None,
     };
+    let mut is_doubtful = false;
     for i in 0..intervals {
         let Segment { bytes, next } = segment_at(file, at, i, intervals);
         at = next;
@@ -167,8 +171,10 @@ pub(crate) fn write_map<'a, O: Write>(
             lines.write_sound(scan.head(), i, bytes)?;
         }
         if let Some(doubtful) = first_doubtful(file, bytes, scan.interval_ref(i)) {
+            is_doubtful = true;
             lines.write_doubtful(&doubtful)?;
         }
     }
-    lines.write_run()
+    lines.write_run()?;
+    Ok(is_doubtful)
 }

@@ -23,6 +23,8 @@ pub struct NamedFile {
 #[derive(Clone, Copy)]
 pub enum NamesError {
     Read,
+    /// The list has bytes, and no NUL byte.
+    Unended,
     Memory,
 }
 
@@ -94,6 +96,14 @@ impl<I: Read + Drop> FileNames<I> {
         FileNames {
             given: GivenNames::of(given, list),
             walk,
+        }
+    }
+
+    /// Returns whether a file of that name lies below a directory that was given and is searched.
+    pub(crate) fn has_searched(&self, name: &[u8]) -> bool {
+        match &self.walk {
+            Some(walk) => walk.has_searched(name),
+            None => false,
         }
     }
 

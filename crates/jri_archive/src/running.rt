@@ -106,11 +106,12 @@ fn watch<W>(out: W) -> Watched<W> {
 /// Writes the counts, and why not every file has its line. It allocates nothing.
 fn report_end<E: Write>(errors: &mut E, report: &CheckReport, is_quiet: bool) {
     if !is_quiet {
-        let _ = write_counts_line(errors, report.counts);
+        let _ = write_counts_line(errors, report.counts, report.findings);
     }
     let text = match report.end {
         CheckEnd::AllTold => "",
         CheckEnd::NamesUnread => "cannot read further names\n",
+        CheckEnd::NamesUnended => "cannot read names: each must end in NUL\n",
         CheckEnd::Unwritten => "cannot write the lines\n",
         CheckEnd::Memory => "out of memory\n",
         CheckEnd::Unrecorded => "cannot write the state file\n",
@@ -230,12 +231,12 @@ pub fn program<
         folder: InStepFolder { folder, is_resync },
         state,
     };
-    let is_quiet = asked.form.is_quiet;
+    let (is_quiet, is_strict) = (asked.form.is_quiet, asked.is_strict);
     let (report, out) = check_all(rt, alloc, source, asked, list, watch(out), progress);
     if !out.is_closed {
         report_end(&mut errors, &report, is_quiet);
     }
     Ended {
-        status: report.status(),
+        status: report.status(is_strict),
     }
 }

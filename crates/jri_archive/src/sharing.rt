@@ -169,7 +169,11 @@ impl<
         let workers = self.desk.lock(rt).share(self.workers);
         let checked = checked_file(rt, self.alloc, bytes, breaks, self.has_map, workers);
         self.desk.lock(rt).give_back(workers);
-        judged(checked, seal, self.source.known(file, &glance))
+        let (known, older) = (
+            self.source.known(file, &glance),
+            self.source.older(file, &glance),
+        );
+        judged(checked, seal, known, older)
     }
 
     /// Writes the lines of a file once they are due, and then records it.
@@ -222,6 +226,22 @@ impl<
         }
     }
 
+    /// Reports the records of files that are gone, after all others.
+    fn report_missing<R: Wait>(&self, rt: &R) {
+        let names = self.names.lock(rt);
+        let missing = self.source.missing(self.alloc, &names.names);
+        drop(names);
+        let mut desk = self.desk.lock(rt);
+        match missing {
+            Ok(missing) => {
+                for name in &missing {
+                    desk.write_missing(self.alloc, name.as_slice());
+                }
+            }
+            Err(_) => desk.end_names(Some(NamesError::Memory), 0),
+        }
+    }
+
     /// Starts the other workers, one for each further file at most, and works with them.
     fn run<R: Threads + Wait + Sync>(&self, rt: &R, files: Option<u64>) {
         let workers = u64::from(self.workers).min(files.unwrap_or(u64::MAX));
@@ -248,15 +268,12 @@ fn with_counts<O: Write>(
     if !has_counts || report.end.is_last() {
         return report;
     }
-    let end = match write_counts(alloc, out, report.counts, is_json) {
+    let end = match write_counts(alloc, out, &report, is_json) {
         Ok(()) => return report,
         Err(TellError::Write) => CheckEnd::Unwritten,
         Err(TellError::Memory) => CheckEnd::Memory,
     };
-    CheckReport {
-        counts: report.counts,
-        end,
-    }
+    CheckReport { end, ..report }
 }
 
 /// Does what `check_all` does, with a type for the files, by which contracts know that what is under locks is about them.
@@ -294,6 +311,7 @@ fn check_as<
         has_told: Condvar::new(),
     };
     sharing.run(rt, files);
+    sharing.report_missing(rt);
     sharing.desk.into_inner().close()
 }
 

@@ -3,18 +3,18 @@
 ghost use Rattle.std.specs.Prelude.{◌≡◌, ◌⊎◌, IfOk, IfErr, IfSome, None, Some};
 ghost use Rattle.sha2.specs.Sha256.{sha256};
 ghost use Rattle.jri_archive.specs.Names.{IsNoText};
-ghost use Rattle.jri_archive.specs.Told.{HasRecord, IsRecordOf, IsStamped};
+ghost use Rattle.jri_archive.specs.Told.{HasRecord, IsOlder, IsRecordOf, IsStamped};
 
 use crate::map::TellError;
-use crate::names::NamedFile;
+use crate::names::{FileNames, NamedFile};
 use crate::outcome::Outcome;
 use crate::reading::{FileBytes, Folder, ReadError};
 use crate::state_file::State;
 use crate::state_record::{FileRecord, RecordedState, Stamp};
 use jr_mend::Break;
 use sha2::{Digest, Sha256};
-use std::alloc::Global;
-use std::io::Write;
+use std::alloc::{AllocError, Global};
+use std::io::{Read, Write};
 use std::sync::Wait;
 
 /// Where files come from, and the state file of a run, if it has one.
@@ -31,6 +31,8 @@ pub(crate) struct Glance {
     pub(crate) stamp: Stamp,
     /// Its record, if that has this size and time.
     pub(crate) known: Option<FileRecord>,
+    /// Its record, if that has another size or time.
+    pub(crate) older: Option<FileRecord>,
 }
 
 /// The stamp and the hash of a file's bytes.
@@ -87,6 +89,7 @@ impl<F: Folder, W: Write + Drop> Source<F, W> {
     pub(crate) fn look(&self, file: &NamedFile) -> Option<Glance>
         ensures stamp { IfSome result (λ g. F.stamps self.now.folder file.now.name.items g.stamp) }
         ensures known { IfSome result (λ g. IfSome g.known (IsStamped (F.stamps self.now.folder) (HasRecord self.now.state) file.now.name.items)) }
+        ensures older { IfSome result (λ g. IfSome g.older (IsOlder (HasRecord self.now.state) file.now.name.items g.stamp)) }
     {
         let state = self.state.as_ref()?;
         let stamp = self.stamp(file)?;
@@ -94,8 +97,13 @@ impl<F: Folder, W: Write + Drop> Source<F, W> {
             Some(known) if known.stamp == stamp => Some(Glance {
                 stamp,
                 known: Some(known),
+                older: None,
             }),
-            _ => Some(Glance { stamp, known: None }),
+            older => Some(Glance {
+                stamp,
+                known: None,
+                older,
+            }),
         }
     }
 
@@ -127,6 +135,49 @@ impl<F: Folder, W: Write + Drop> Source<F, W> {
             Some(glance) => glance.known,
             None => None,
         }
+    }
+
+    /// Returns the record of a file that is verified, if that has another size or time.
+    pub(crate) fn older(&self, _file: &NamedFile, glance: &Option<Glance>) -> Option<FileRecord>
+        requires { IfSome glance.now (λ g. IfSome g.older (IsOlder (HasRecord self.now.state) _file.now.name.items g.stamp)) }
+        ensures { IfSome result (HasRecord self.now.state _file.now.name.items) }
+    {
+        if let Some(state) = &self.state
+            && state.is_verifying()
+            && let Some(glance) = glance
+        {
+            return glance.older;
+        }
+        None
+    }
+
+    /// Returns whether there is no regular file of that name.
+    fn is_gone(&self, name: &[u8]) -> bool {
+        match str::from_utf8(name) {
+            Ok(name) => self.folder.stamp(name).is_none(),
+            Err(_) => false,
+        }
+    }
+
+    /// Returns the names, in order, that have a record but no regular file, among those below the directories that are searched.
+    /// There are none unless records are verified.
+    pub(crate) fn missing<I: Read + Drop>(
+        &self,
+        alloc: Global,
+        names: &FileNames<I>,
+    ) -> Result<Vec<Vec<u8>>, AllocError> {
+        let mut missing = Vec::new(alloc);
+        if let Some(state) = &self.state
+            && state.is_verifying()
+        {
+            for name in state.names() {
+                if names.has_searched(name) && self.is_gone(name) {
+                    missing.push(name.as_slice().to_vec(alloc)?)?;
+                }
+            }
+        }
+        missing.sort_unstable_by(|a, b| a.as_slice().cmp(b.as_slice()));
+        Ok(missing)
     }
 
     /// Reads a file once. There is no seal if its size or time changed meanwhile.

@@ -10,6 +10,7 @@ use crate::state_line::{parse_record, record_line};
 use crate::state_record::FileRecord;
 use std::alloc::{AllocError, Global};
 use std::collections::HashMap;
+use std::collections::hash_map::Keys;
 use std::io::Write;
 use std::marker::Model;
 use std::sync::{Mutex, Wait};
@@ -191,6 +192,11 @@ impl<W: Write> State<W> {
     /// Returns whether files that are recorded are read again.
     pub(crate) fn is_verifying(&self) -> bool {
         self.is_verifying
+    }
+
+    /// Returns the names that have records, in any order.
+    pub(crate) fn names(&self) -> Keys<'_, Vec<u8>, FileRecord> {
+        self.records.by_name.keys()
     }
 
     /// Returns the record of the file of that name by earlier runs.

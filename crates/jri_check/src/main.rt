@@ -1,5 +1,5 @@
-//! `jri_check [--map] [--json] [-q] [--counts] [-j N] [-r] [--files0-from LIST] [--state STATE [--verify]] FILE..`: reports which
-//! JPEG files are sound, and what is damaged of the others.
+//! `jri_check [--map] [--json] [-q] [--counts] [-j N] [-r] [--files0-from LIST] [--state STATE [--verify]] [--strict] FILE..`:
+//! reports which JPEG files are sound, and what is damaged of the others.
 #![tactic(auto)]
 
 use jr_base::limits::MAX_FILE_BYTES;

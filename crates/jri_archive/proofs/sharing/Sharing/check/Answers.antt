@@ -13,9 +13,9 @@ returns-clause-outcome g c opened kept =
     let name = c.args.file.now.name.items in
     let p = c.judged.result.outcome in
     let is = check_of (g.F.Folder.holds source.folder) (g.F.Folder.fails source.folder) (g.F.Folder.stamps source.folder) (HasRecord source.state) name _ c.content-bytes.result.bytes
-    c.checked_file-checked.result.outcome p c.content-bytes.result.seal c.known.result
+    c.checked_file-checked.result.outcome p c.content-bytes.result.seal c.known-known.result
     c.content-bytes.ensures.bytes c.content-bytes.ensures.error opened c.checked_file-checked.ensures.bytes c.checked_file-checked.ensures.error
-    c.content-bytes.ensures.sealed c.content-bytes.ensures.hash c.known.ensures c.judged.ensures.same c.judged.ensures.changed in
+    c.content-bytes.ensures.sealed c.content-bytes.ensures.hash c.known-known.ensures c.judged.ensures.same c.judged.ensures.changed in
     c.self.invariant name p is
 
 pub returns-clause-entry : goal.returns-clause-entry
