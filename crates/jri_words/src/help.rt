@@ -9,7 +9,8 @@ The image goes to standard output, as PGM if it is grey and as PPM if it has thr
 components. A report goes to standard error: how many restart intervals are sound,
 damaged and blank, and what ended the scan. A damaged interval shows what can be
 decoded from its start, then grey. A blank one is black. The image of a sound file
-is that of `djpeg -dct int -nosmooth`, byte for byte. With --resync the file is read
+is that of `djpeg -dct int -nosmooth`, except for values that no 8-bit image has and
+for colours that only component identifiers state. With --resync the file is read
 past restart markers that are out of step, as after lost bytes; the report has a
 line for each.
 
