@@ -86,9 +86,9 @@ def test_mends_the_undamaged_file(photo, tmp_path):
 
 def test_mends_copies_out_of_step(photo):
     copies = [without(photo, 5), without(spoilt(photo, 7), 12)]
-    mended = jri.mend(copies, resync=True)
+    mended = jri.mend(copies)
     assert mended.data == photo and mended.is_sound
-    assert not jri.mend(iter(copies)).is_sound
+    assert not jri.mend(iter(copies), resync=False).is_sound
 
 
 def test_damaged_in_all_copies(photo):
@@ -110,8 +110,8 @@ def test_refuses_what_are_no_copies(photo, tmp_path):
             jri.mend([photo] * count)
     with pytest.raises(TypeError):
         jri.mend("photo.jpg")
-    with pytest.raises(jri.RefusedError):
-        jri.mend([photo, b""], resync=True)
+    with pytest.raises(jri.RefusedError, match="copy 1"):
+        jri.mend([photo, b"GIF89a"], resync=False)
 
 
 def test_resynchronises_no_refused_file():

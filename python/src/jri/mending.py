@@ -96,8 +96,10 @@ def resync(source: Source) -> Resynced:
     return Resynced(out.tobytes(), breaks, _ENDS[told.ended], told.at if told.ended in (2, 4) else None)
 
 
-def _names(files: List[_File]) -> List[str]:
-    return [it.name or f"copy {number}" for number, it in enumerate(files)]
+def _named(sources: Iterable[Source]) -> List[_File]:
+    """Returns the files of sources, each with a name for errors."""
+    files = map(_file, sources)
+    return [it if it.name else it._replace(name=f"copy {number}") for number, it in enumerate(files)]
 
 
 def _sizes(files: List[_File]) -> Tuple[int, int]:
@@ -117,7 +119,7 @@ def mend(sources: Iterable[Source], *, resync: bool = True) -> Mended:
     """
     if isinstance(sources, (str, bytes, bytearray, memoryview)):
         raise TypeError(f"expected several sources, got {type(sources).__name__}")
-    files = [_in_step(it) if resync else it for it in map(_file, sources)]
+    files = [_in_step(it) if resync else it for it in _named(sources)]
     copies = b"".join(bytes(ffi.buffer(it.data)) for it in files)
     sizes = ffi.new("size_t[]", [len(it.data) for it in files])
     size, room = _sizes(files)
@@ -131,9 +133,9 @@ def mend(sources: Iterable[Source], *, resync: bool = True) -> Mended:
         if status == NO_COPIES:
             raise ValueError(f"from 1 to 64 copies are mended, not {len(files)}")
         if status == OTHER_HEADER:
-            raise ValueError(_with_name(_names(files)[told.copy], "its header is not that of the first copy"))
+            raise ValueError(_with_name(files[told.copy].name, "its header is not that of the first copy"))
         if status not in (SOUND, DAMAGED, BUFFER_TOO_SMALL):
-            _raise(status, told.refusal, told.detail, _names(files)[told.copy] if status == REFUSED else None)
+            _raise(status, told.refusal, told.detail, files[told.copy].name if status == REFUSED else None)
         if status != BUFFER_TOO_SMALL and told.intervals <= room:
             return Mended(out[: told.size].tobytes(), choices, told.damaged)
         size, room = max(size, told.size), max(room, told.intervals)
