@@ -218,10 +218,14 @@ uint32_t jri_version(void);
 /*
  * Reads a file's header and decodes nothing. With JRI_PARTIAL more bytes of the file may follow.
  *
- * Proved: with JRI_OK `header` has what the header says, of these bytes and of every file that begins with them. With
- * JRI_PARTIAL a refusal is that of every file that begins with these bytes. JRI_NEED_MORE is returned only with
- * JRI_PARTIAL, and only if these bytes alone are too short: their refusal is 2, or 1 and they are fewer than two. The
- * only other statuses are JRI_REFUSED and JRI_NO_MEMORY.
+ * Returns:
+ *   JRI_OK: `header` has what the header says. Allocate the buffers and decode.
+ *   JRI_NEED_MORE: only with JRI_PARTIAL; the header is not complete. Call again with more bytes.
+ *   JRI_REFUSED: header->refusal and header->detail have the first fault. Another decoder may accept the file.
+ *   JRI_NO_MEMORY: memory ran out.
+ *
+ * Proved: what is returned is said of these bytes and, with JRI_PARTIAL, of every file that begins with them.
+ * JRI_NEED_MORE means that these bytes alone are too short: their refusal is 2, or 1 and they are fewer than two.
  */
 uint32_t jri_read_header(const uint8_t *file, size_t file_length, uint32_t more, struct jri_header *header);
 
@@ -229,39 +233,57 @@ uint32_t jri_read_header(const uint8_t *file, size_t file_length, uint32_t more,
  * Decodes a file, with JRI_RESYNC as jri_resynchronise writes it. Allocates for the scan and for one row of MCUs (8,
  * 16, 24 or 32 lines), and nothing for the image.
  *
- * Proved: with JRI_SOUND and JRI_DAMAGED the first bytes of `pixels` are the lines of the image from the top, each
- * pixel one byte of grey or one each of red, green and blue; those of `marks` are the marks of its intervals unless
- * marks_size is 0; bytes after them are unchanged; `report` has the counts. A damaged interval shows its longest
- * decodable prefix of whole MCUs, then mid-grey: 128 in all components. JRI_BUFFER_TOO_SMALL is returned only if the
- * pixels are smaller than jri_read_header says, or marks that were asked for are.
+ * Returns:
+ *   JRI_SOUND: `pixels`, `marks` and `report` have the image, its marks and their counts.
+ *   JRI_DAMAGED: the same, and an interval is damaged. Show the image, and say so.
+ *   JRI_BUFFER_TOO_SMALL: pixels_size is less than header.pixels, or marks_size less than header.intervals and not 0.
+ *   JRI_REFUSED, JRI_NO_MEMORY: as jri_read_header.
+ *   JRI_TOO_LONG: only with JRI_RESYNC.
+ *
+ * Proved: with JRI_SOUND and JRI_DAMAGED the first bytes of `pixels` are the lines of the image from the top. A pixel
+ * is one byte of grey, or one each of red, green and blue. The first bytes of `marks` are the marks, unless marks_size
+ * is 0. Bytes after them are unchanged. A damaged interval shows its longest decodable prefix of whole MCUs, then
+ * mid-grey: 128 in all components.
  */
 uint32_t jri_decode(const uint8_t *file, size_t file_length, uint32_t resync, uint8_t *pixels, size_t pixels_size,
                     uint8_t *marks, size_t marks_size, struct jri_report *report);
 
 /*
- * Decodes `count` lines of the image starting at line `first`, from 0 at the top; with JRI_RESYNC that of the file as
- * jri_resynchronise writes it. Allocates as much as jri_decode.
+ * Decodes `count` lines of the image starting at line `first`, from 0 at the top. With JRI_RESYNC the image is that of
+ * the file as jri_resynchronise writes it. Allocates as much as jri_decode.
  *
- * Proved: with JRI_SOUND and JRI_DAMAGED the first bytes of `pixels` are these lines as jri_decode returns them;
- * bytes after them are unchanged. The report's sound and damaged count the intervals that end in these lines' rows of
- * MCUs, and JRI_DAMAGED means that one of those is damaged; over calls that share no row of MCUs and omit none they
- * add up to those of jri_decode. JRI_NO_LINES is returned only if the image lacks one of these lines or none were
- * asked for, and then no lines are returned; JRI_BUFFER_TOO_SMALL only if the lines do not fit.
+ * Returns:
+ *   JRI_SOUND: `pixels` has the lines.
+ *   JRI_DAMAGED: the same, and an interval that ends in these lines' rows of MCUs is damaged.
+ *   JRI_NO_LINES: the image lacks one of these lines, or none were asked for.
+ *   JRI_BUFFER_TOO_SMALL: the lines do not fit.
+ *   JRI_REFUSED, JRI_NO_MEMORY: as jri_read_header.
+ *   JRI_TOO_LONG: only with JRI_RESYNC.
  *
- * Each call reads the file anew, and the interval before the lines from its start: without restart markers that is
+ * Proved: the lines are those that jri_decode returns, and bytes after them are unchanged. The report's sound and
+ * damaged count the intervals that end in these lines' rows of MCUs. Over calls that share no row of MCUs and omit none
+ * they add up to those of jri_decode.
+ *
+ * Each call reads the file anew, and the interval before the lines from its start. Without restart markers that is
  * everything before the lines. jri_decode_rows continues from a position instead.
  */
 uint32_t jri_decode_lines(const uint8_t *file, size_t file_length, uint32_t resync, uint32_t first, uint32_t count,
                           uint8_t *pixels, size_t pixels_size, struct jri_report *report);
 
 /*
- * Checks a file, with JRI_RESYNC as jri_resynchronise writes it: reads each restart interval as jri_decode does, and
+ * Checks a file, with JRI_RESYNC as jri_resynchronise writes it. Reads each restart interval as jri_decode does, and
  * makes no image. Allocates for the scan alone, and takes about half of the time.
  *
- * Proved: with JRI_SOUND and JRI_DAMAGED the first bytes of `marks` are the marks of its intervals unless marks_size
- * is 0: JRI_MARK_SOUND if the interval has a decoding, otherwise JRI_MARK_DAMAGED; bytes after them are unchanged;
- * `report` counts them. JRI_BUFFER_TOO_SMALL is returned only if marks that were asked for are smaller than
- * jri_read_header says.
+ * Returns:
+ *   JRI_SOUND: no interval is damaged.
+ *   JRI_DAMAGED: an interval is damaged; `marks` says which. jri_list_damage says where.
+ *   JRI_BUFFER_TOO_SMALL: marks_size is less than header.intervals, and not 0.
+ *   JRI_REFUSED, JRI_NO_MEMORY: as jri_read_header. The file is not checked.
+ *   JRI_TOO_LONG: only with JRI_RESYNC.
+ *
+ * Proved: with JRI_SOUND and JRI_DAMAGED the first bytes of `marks` are the marks of the intervals, unless marks_size
+ * is 0. A mark is JRI_MARK_SOUND if its interval has a decoding, otherwise JRI_MARK_DAMAGED. Bytes after them are
+ * unchanged, and `report` counts them.
  *
  * Tested: status, marks and report are those of jri_decode.
  */
@@ -271,34 +293,44 @@ uint32_t jri_check(const uint8_t *file, size_t file_length, uint32_t resync, uin
 /*
  * Decodes the next rows of MCUs starting at `position`, at most `rows`, and moves the position past them. A row has 8,
  * 16, 24 or 32 lines, the last one fewer: 32 lines hold a row of any file. With JRI_PARTIAL more bytes of the file may
- * follow, and rows that they could change are not returned. Allocates for one row of MCUs. Reads the header, and of
- * the scan what follows the position.
+ * follow, and rows that they could change are not returned. Allocates for one row of MCUs. Reads the header, and of the
+ * scan what follows the position.
  *
- * Proved, for any position: with JRI_OK the first bytes of `pixels` are rows->lines lines, bytes after them are
- * unchanged, the position has moved by rows->rows rows, and the numbers fit the image. With JRI_COMPLETE these are all
- * rows that were asked for, are left and fit; with JRI_PARTIAL at most that number, and none before the header is
- * complete; without rows the position is unchanged. With any other status pixels and position are unchanged. With
- * JRI_PARTIAL a refusal is that of every file that begins with these bytes. Unless it is JRI_NO_MEMORY, the status is
- * JRI_NO_LINES if and only if the header is complete and the image has no row at the position or none was asked for;
- * otherwise JRI_BUFFER_TOO_SMALL if and only if the next row does not fit.
+ * Returns:
+ *   JRI_OK: `pixels` has rows->lines lines. With JRI_PARTIAL and no rows, call again with more bytes.
+ *   JRI_NO_LINES: the header is complete, and the image has no row at the position or none was asked for. This is the
+ *     end.
+ *   JRI_BUFFER_TOO_SMALL: not even the next row fits.
+ *   JRI_REFUSED: with JRI_PARTIAL that of every file that begins with these bytes.
+ *   JRI_NO_MEMORY: memory ran out.
  *
- * Proved: if the position is the top, or was returned by a call with JRI_PARTIAL on bytes with which these begin, or
- * with JRI_COMPLETE by a call on these very bytes, the lines are those that jri_decode returns for these bytes or,
- * with JRI_PARTIAL, for every file that begins with them: no line is ever taken back. With JRI_PARTIAL, if these are
- * fewer rows than were asked for, are left and fit, the bytes do not make the next row final: one of its MCUs is not
- * whole, the marker that ends that MCU's interval is not there with its code, and fewer than 16,650 bits, as many as an
- * MCU has at most (T.81, F.1.2), follow the whole MCUs of that interval. From any other position the lines mean
- * nothing.
+ * Proved, for any position: with JRI_OK the first bytes of `pixels` are rows->lines lines, and bytes after them are
+ * unchanged. The position has moved by rows->rows rows, and the numbers fit the image. With JRI_COMPLETE these are all
+ * rows that were asked for, are left and fit. With JRI_PARTIAL they are at most that number, and none before the header
+ * is complete. With any other status pixels and position are unchanged. Unless memory ran out, JRI_NO_LINES and then
+ * JRI_BUFFER_TOO_SMALL are returned if and only if they are true. JRI_DAMAGED is never returned: jri_check reports
+ * soundness.
  *
- * Proved: JRI_DAMAGED is never returned: jri_check reports soundness.
+ * A position is valid for these bytes if it is the top, or an earlier call returned it: with JRI_PARTIAL on bytes that
+ * these extend, with JRI_COMPLETE on the same bytes. Proved: from a valid position the lines are those of jri_decode
+ * for these bytes and, with JRI_PARTIAL, for every file that begins with them. No line is ever taken back. From any
+ * other position the lines mean nothing, and nothing else goes wrong.
+ *
+ * Proved: with JRI_PARTIAL the rows end, if not before, at the first that these bytes do not make final. One of its
+ * MCUs is not whole, and the marker that ends the MCU's interval is not there with its code. Fewer than 16,650 bits
+ * follow the whole MCUs of that interval: an MCU has no more (T.81, F.1.2).
  */
 uint32_t jri_decode_rows(const uint8_t *file, size_t file_length, uint32_t more, struct jri_position *position,
                          uint32_t rows, uint8_t *pixels, size_t pixels_size, struct jri_rows *report);
 
 /*
  * Skips the next rows of MCUs starting at `position`, at most `rows`, by reading their bits alone, and moves the
- * position past them. One pass makes an index: a copy of the position every few rows, from which threads and tiles
- * decode their own rows.
+ * position past them. One pass makes an index: a copy of the position every few rows. Threads and tiles decode their
+ * own rows from it.
+ *
+ * Returns:
+ *   JRI_OK: the position has moved by rows->rows rows.
+ *   JRI_NO_LINES, JRI_REFUSED, JRI_NO_MEMORY: as jri_decode_rows.
  *
  * Proved: as for jri_decode_rows, without pixels. Tested: the position has the numbers that jri_decode_rows gives it.
  */
@@ -307,20 +339,22 @@ uint32_t jri_skip_rows(const uint8_t *file, size_t file_length, uint32_t more, s
 
 /*
  * Decodes rows as jri_decode_rows does, from some bytes of a file: its header, and a window. `header` has the file's
- * first bytes, at least to the end of the scan header; if they end before it, the call is jri_decode_rows on them. The
+ * first bytes, at least to the end of the scan header. If they end before it, the call is jri_decode_rows on them. The
  * window has the file's bytes starting at offset `window_at`; with JRI_COMPLETE the file ends after them. The bytes
- * from the header to the window, and those before the position, are not needed. Reads the header, and of the window
- * what follows the position.
+ * between header and window, and those before the position, are not needed.
  *
- * Proved: all that is proved of jri_decode_rows, with the file that ends with the window instead of these bytes, and
- * with the files that have the window's bytes at its offset instead of those that begin with these. The window has the
- * position if position->at, or the offset after the scan header if that is larger, is neither before window_at nor
- * after the window's end. If the image has a row at the position and one is asked for, the status is JRI_NOT_IN_WINDOW,
- * unless it is JRI_NO_MEMORY, if and only if the window does not have the position, whether or not the row fits; then
- * pixels and position are unchanged.
+ * Returns:
+ *   JRI_OK: as jri_decode_rows. With JRI_PARTIAL let the next window begin at or before position->at, and end later.
+ *   JRI_NOT_IN_WINDOW: the window does not have the position. Pass one that does.
+ *   JRI_NO_LINES, JRI_BUFFER_TOO_SMALL, JRI_REFUSED, JRI_NO_MEMORY: as jri_decode_rows.
  *
- * A position is an offset in the file whichever call returns it: it serves for any window that has it, and for
- * jri_decode_rows. After a call with JRI_PARTIAL, let the next window begin at or before position->at and end later.
+ * Proved: all that is proved of jri_decode_rows, for every file that has the window's bytes at its offset and, with
+ * JRI_COMPLETE, ends with them. The window has the position if position->at, or the offset after the scan header if
+ * that is larger, lies within it or at its end. If the image has a row at the position and one is asked for,
+ * JRI_NOT_IN_WINDOW is returned if and only if the window does not have the position, unless memory ran out.
+ *
+ * A position is an offset in the file whichever call returns it. It serves for any window that has it, and for
+ * jri_decode_rows.
  */
 uint32_t jri_decode_window(const uint8_t *header, size_t header_length, const uint8_t *window, size_t window_length,
                            uint64_t window_at, uint32_t more, struct jri_position *position, uint32_t rows,
@@ -329,6 +363,10 @@ uint32_t jri_decode_window(const uint8_t *header, size_t header_length, const ui
 /*
  * Skips rows as jri_skip_rows does, from the header and a window of a file as for jri_decode_window.
  *
+ * Returns:
+ *   JRI_OK: the position has moved by rows->rows rows.
+ *   JRI_NOT_IN_WINDOW, JRI_NO_LINES, JRI_REFUSED, JRI_NO_MEMORY: as jri_decode_window.
+ *
  * Proved: as for jri_decode_window, without pixels.
  */
 uint32_t jri_skip_window(const uint8_t *header, size_t header_length, const uint8_t *window, size_t window_length,
@@ -336,39 +374,45 @@ uint32_t jri_skip_window(const uint8_t *header, size_t header_length, const uint
                          struct jri_rows *report);
 
 /*
- * Writes the text of a refusal, by its number and detail, into the first bytes of `text`, as many as fit, without a 0
- * after them, and returns their number.
+ * Writes the text of a refusal, by its number and detail, into the first bytes of `text`, as many as fit. There is no 0
+ * after it. Returns the number of bytes.
  *
- * Proved: the number is not 0 if there is such a refusal and `text` is not empty, 0 if there is none, and at most 64;
- * bytes after the text are unchanged. Tested: the texts.
+ * Proved: the number is not 0 if there is such a refusal and `text` is not empty, 0 if there is none, and at most 64.
+ * Bytes after the text are unchanged. Tested: the texts.
  */
 uint64_t jri_refusal_text(uint32_t refusal, uint64_t detail, uint8_t *text, size_t text_size);
 
 /*
  * Lists the damaged intervals of a file starting at interval `first`, whose bytes begin at offset `first_at`, in order,
  * as many as `damages` has entries: `damages_count`. 0 and 0 are the first interval; list->next and list->next_at
- * continue a list. Reads the header and the bytes of the intervals examined, and allocates as many bytes as the file
- * has after `first_at`; only those that the longest of these intervals needs are used.
+ * continue a list. Reads the header and the bytes of the intervals examined. Allocates as many bytes as the file has
+ * after `first_at`; only those that the longest of these intervals needs are used.
  *
- * Proved: with JRI_DAMAGED and JRI_SOUND, starting at 0 and 0 or where a list of the same file stopped, the first
- * list->count entries are exactly the damaged intervals from `first` on and before list->next, each with its MCUs,
- * lines and bytes. With any numbers entries after them are unchanged, and if list->next is less than the number of
- * intervals, all entries are used. JRI_DAMAGED means that some are listed, JRI_SOUND that none is: with damages_count
- * above 0, that none is left.
+ * Returns:
+ *   JRI_DAMAGED: list->count entries are listed. Continue at list->next until it is the number of intervals.
+ *   JRI_SOUND: none is listed. With damages_count above 0, none is left.
+ *   JRI_REFUSED, JRI_NO_MEMORY: as jri_read_header.
+ *
+ * Proved, starting at 0 and 0 or where a list of the same file stopped: the first list->count entries are exactly the
+ * damaged intervals from `first` on and before list->next. Each has its MCUs, lines and bytes. With any numbers entries
+ * after them are unchanged, and if list->next is less than the number of intervals, all entries are used.
  */
 uint32_t jri_list_damage(const uint8_t *file, size_t file_length, uint32_t first, uint64_t first_at,
                          struct jri_damage *damages, size_t damages_count, struct jri_damage_list *list);
 
 /*
- * Writes what ended the scan of a report into the first bytes of `text`, as jri prints it and as jri_refusal_text
- * does.
+ * Writes what ended the scan of a report into the first bytes of `text`, as jri prints it, as many as fit. There is no
+ * 0 after it. Returns the number of bytes.
  *
  * Proved: the number is not 0 if the report has an end and `text` is not empty, 0 if it has none, and at most 96.
  * Tested: the texts.
  */
 uint64_t jri_end_text(const struct jri_report *report, uint8_t *text, size_t text_size);
 
-/* Writes the name and version of the build into the first bytes of `text`, at most 96, and returns their number. */
+/*
+ * Writes the name and version of the build into the first bytes of `text`, at most 96, without a 0 after them. Returns
+ * the number of bytes.
+ */
 uint64_t jri_build_text(uint8_t *text, size_t text_size);
 
 /* The layouts of a canvas: the bytes of a pixel. All but JRI_PLAIN spread grey to three. */
@@ -385,10 +429,16 @@ enum {
  * as jri_resynchronise writes it. Allocates for the scan, one row of MCUs and its lines, and nothing for the image. The
  * canvas must reach to the end of the last line, no further.
  *
- * Proved: with JRI_SOUND and JRI_DAMAGED the lines of the image are on the canvas in this layout, every other byte of
- * the canvas is unchanged, and `marks` and `report` are those of jri_decode. JRI_BUFFER_TOO_SMALL is returned only if
- * a line does not fit on the canvas or marks that were asked for are too small; JRI_NO_LAYOUT only if there is no such
- * layout or a line is longer than the stride; then both buffers are unchanged.
+ * Returns:
+ *   JRI_SOUND: the lines of the image are on the canvas.
+ *   JRI_DAMAGED: the same, and an interval is damaged.
+ *   JRI_NO_LAYOUT: there is no such layout, or a line is longer than the stride.
+ *   JRI_BUFFER_TOO_SMALL: a line does not fit on the canvas, or marks that were asked for are too small.
+ *   JRI_REFUSED, JRI_NO_MEMORY: as jri_read_header.
+ *   JRI_TOO_LONG: only with JRI_RESYNC.
+ *
+ * Proved: the lines are in this layout, and every other byte of the canvas is unchanged. `marks` and `report` are those
+ * of jri_decode.
  */
 uint32_t jri_decode_canvas(const uint8_t *file, size_t file_length, uint32_t resync, uint8_t *canvas,
                            size_t canvas_size, size_t stride, uint32_t layout, uint8_t *marks, size_t marks_size,
@@ -398,10 +448,13 @@ uint32_t jri_decode_canvas(const uint8_t *file, size_t file_length, uint32_t res
  * Lays out lines that another call returned: consecutive lines of `width` pixels of one or three components, onto a
  * canvas as for jri_decode_canvas.
  *
- * Proved: with JRI_OK the lines are on the canvas and every other byte is unchanged; with any other status all of it
- * is. JRI_BUFFER_TOO_SMALL is returned only if a line does not fit; JRI_NO_LAYOUT only if there is no such layout, a
- * line is longer than the stride, components is neither 1 nor 3, or the bytes are not whole lines of at least one
- * pixel.
+ * Returns:
+ *   JRI_OK: the lines are on the canvas.
+ *   JRI_BUFFER_TOO_SMALL: a line does not fit.
+ *   JRI_NO_LAYOUT: there is no such layout, a line is longer than the stride, components is neither 1 nor 3, or the
+ *     bytes are not whole lines of at least one pixel.
+ *
+ * Proved: with JRI_OK every other byte of the canvas is unchanged, with any other status all of it is.
  */
 uint32_t jri_lay_out(const uint8_t *lines, size_t lines_length, uint32_t width, uint32_t components, uint8_t *canvas,
                      size_t canvas_size, size_t stride, uint32_t layout);
@@ -412,16 +465,20 @@ uint32_t jri_lay_out(const uint8_t *lines, size_t lines_length, uint32_t width, 
  * of step are listed, as many as `breaks` has entries: `breaks_count`. Allocates the file that it writes and a list of
  * the breaks. For the image alone pass JRI_RESYNC to jri_decode.
  *
- * The bytes of a scan fall into intervals by the numbers of its restart markers, which count modulo 8. One from which on
- * all up to EOI are those before the last intervals is counted from there. Before another one at most as many are lost
- * as the bytes before it hold on average, and three more if others follow it in step; if its number allows none, it is
- * passed over (docs/ARCHIVES.md).
+ * The bytes of a scan fall into intervals by the numbers of its restart markers, which count modulo 8. One from which
+ * on all up to EOI are those before the last intervals is counted from there. Before another one at most as many are
+ * lost as the bytes before it hold on average, and three more if others follow it in step; if its number allows none,
+ * it is passed over (docs/ARCHIVES.md).
  *
- * Proved: with JRI_OK the first report->size bytes of `out` are the resynchronised file, and bytes after them are
- * unchanged; the first entries of `breaks` are its breaks in order, and entries after them are unchanged. A file whose
- * markers are in step keeps the data of each interval. JRI_BUFFER_TOO_SMALL is returned only if the file does not fit;
- * report->size and report->breaks then say what is needed, so a first call may have no buffers. JRI_TOO_LONG is
- * returned only if the file would be too long. The only other statuses are JRI_REFUSED and JRI_NO_MEMORY.
+ * Returns:
+ *   JRI_OK: `out` has the file of report->size bytes, `breaks` its breaks. Without breaks nothing was out of step.
+ *   JRI_BUFFER_TOO_SMALL: the file does not fit; report->size and report->breaks say what is needed. A first call may
+ *     have no buffers.
+ *   JRI_TOO_LONG: the file would be longer than a file may be.
+ *   JRI_REFUSED, JRI_NO_MEMORY: as jri_read_header.
+ *
+ * Proved: bytes after the file are unchanged. The first entries of `breaks` are its breaks in order, and entries after
+ * them are unchanged. A file whose markers are in step keeps the data of each interval.
  *
  * Tested: file_length + 2 * intervals bytes suffice.
  */
@@ -429,23 +486,28 @@ uint32_t jri_resynchronise(const uint8_t *file, size_t file_length, uint8_t *out
                            struct jri_break *breaks, size_t breaks_count, struct jri_resynced *report);
 
 /*
- * Mends a file from copies of it that are damaged in different places, at most 64, which lie one after another in
- * `files` with the given sizes. Each restart interval is taken from the first copy in which it is sound, otherwise from
- * the first of those in which most MCUs can be decoded. The choices are listed, as many as `choices` has entries:
- * `choices_count`. Allocates the headers of all copies, the file that it writes, the choices, and two buffers as long as
- * the longest copy, of which it touches as much as its longest interval has.
+ * Mends a file from copies of it that are damaged in different places, at most 64. They lie one after another in
+ * `files`, with the given sizes. Each restart interval is taken from the first copy in which it is sound, otherwise
+ * from the first of those in which most MCUs can be decoded. The choices are listed, as many as `choices` has entries:
+ * `choices_count`. Allocates the headers of all copies, the file that it writes, the choices, and two buffers as long
+ * as the longest copy, of which it touches as much as its longest interval has.
  *
- * Proved: with JRI_SOUND and JRI_DAMAGED the first report->size bytes of `out` are the header of the first copy and
- * these intervals, and bytes after them are unchanged; the first entries of `choices` are the choices in order, and
- * entries after them are unchanged. JRI_DAMAGED means that an interval is damaged in all copies. An interval that is
- * sound in a copy is sound in the mended file. JRI_BUFFER_TOO_SMALL is returned only if the file does not fit;
- * report->size and report->intervals then say what is needed. With JRI_REFUSED copy report->copy is refused, with
- * JRI_OTHER_HEADER its header is not that of the first; JRI_NO_COPIES is returned only if there are no copies, more
- * than 64, or their sizes exceed files_length; JRI_TOO_LONG only if the file would be too long. The only other status
- * is JRI_NO_MEMORY.
+ * Returns:
+ *   JRI_SOUND: `out` has the mended file of report->size bytes, and each interval is sound.
+ *   JRI_DAMAGED: the same, and an interval is damaged in all copies.
+ *   JRI_BUFFER_TOO_SMALL: the file does not fit; report->size and report->intervals say what is needed.
+ *   JRI_REFUSED: copy report->copy is refused.
+ *   JRI_OTHER_HEADER: the header of copy report->copy is not that of the first.
+ *   JRI_NO_COPIES: there are no copies, more than 64, or their sizes exceed files_length.
+ *   JRI_TOO_LONG: the file would be longer than a file may be.
+ *   JRI_NO_MEMORY: memory ran out.
  *
- * The copies are read as they are: nothing is read after a restart marker that is out of step. To read past it, pass what
- * jri_resynchronise writes of the copy.
+ * Proved: the file is the header of the first copy and these intervals, and bytes after it are unchanged. The first
+ * entries of `choices` are the choices in order, and entries after them are unchanged. An interval that is sound in a
+ * copy is sound in the mended file.
+ *
+ * The copies are read as they are: nothing is read after a restart marker that is out of step. To read past it, pass
+ * what jri_resynchronise writes of the copy.
  */
 uint32_t jri_mend(const uint8_t *files, size_t files_length, const size_t *sizes, size_t copies, uint8_t *out,
                   size_t out_size, struct jri_choice *choices, size_t choices_count, struct jri_mended *report);

@@ -6,8 +6,8 @@
 #include <string.h>
 #include <unistd.h>
 
-extern uint8_t *file, *bytes, *files, *window, *out, *pixels, *marks, *lines;
-extern size_t length, size, window_length, window_size, lines_size, one_length, two_length;
+extern uint8_t *file, *bytes, *files, *window, *out, *pixels, *marks, *lines, *canvas;
+extern size_t length, size, window_length, window_size, lines_size, one_length, two_length, canvas_size, stride;
 extern uint64_t window_at;
 extern uint32_t more, first, count, rows;
 extern int input;
