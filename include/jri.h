@@ -468,7 +468,7 @@ uint32_t jri_lay_out(const uint8_t *lines, size_t lines_length, uint32_t width, 
  * The bytes of a scan fall into intervals by the numbers of its restart markers, which count modulo 8. One from which
  * on all up to EOI are those before the last intervals is counted from there. Before another one at most as many are
  * lost as the bytes before it hold on average, and three more if others follow it in step; if its number allows none,
- * it is passed over (docs/ARCHIVES.md).
+ * it is passed over. So is an EOI after which the scan continues (docs/ARCHIVES.md).
  *
  * Returns:
  *   JRI_OK: `out` has the file of report->size bytes, `breaks` its breaks. Without breaks nothing was out of step.

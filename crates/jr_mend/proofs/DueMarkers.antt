@@ -43,11 +43,12 @@ due_next n bytes at k count len due stop s =
       stop = s.stop;
     }
 
-pub due_end : (n : ℕ) (bytes : List ℕ) (at k : ℕ) → AreDueTo n bytes at k → HasMarker (drop at bytes) EOI → (start : ℕ) → (datas : List (List ℕ)) × IsCut n start bytes datas EndOfImage
-due_end n bytes at k due m start = (
+pub due_end : (n : ℕ) (bytes : List ℕ) (at k : ℕ) → AreDueTo n bytes at k → HasMarker (drop at bytes) EOI → k + 1 ≡ n → (start : ℕ) → (datas : List (List ℕ)) × IsCut n start bytes datas EndOfImage × (length datas ≡ n)
+due_end n bytes at k due m all start = (
   due.datas,
   subst (λ (x : List ℕ). IsCut n start x due.datas EndOfImage) (take-append-drop at bytes)
       (segments_end n 0 k start due.datas (take at bytes) (drop at bytes) EndOfImage due.are (omega (arith, due.count)) due.few m),
+  omega (arith, due.count, all),
 )
 
 pub marker_within : (n : ℕ) (bytes : List ℕ) (at k count : ℕ) → at ≤ length bytes → IsStopOf n k 0 (drop at bytes) (Restart count) → at + count ≤ length bytes

@@ -2,7 +2,7 @@
 use Rattle.std.proofs.Common.{◌≡◌, ◌≢◌, ℕ, zero, suc, ◌+◌, ◌-◌, ◌*◌, ◌/◌, ◌%◌, ◌<◌, ◌≤◌, ◌⊎◌, inl, inr, List, [], ◌∷◌, ◌++◌, length, drop, refl, sym, ap, subst, ◌∙◌, append_assoc, length-append, Option, Some, None, arith}
 use Rattle.std.specs.List.{All}
 use Rattle.std.proofs.Math.Seq.{drop-append_seam}
-use Rattle.std.proofs.lemmas.Bool.{cases_eq, cases_lt}
+use Rattle.std.proofs.lemmas.Bool.{cases_Bool, cases_eq, cases_lt}
 use Rattle.std.proofs.lemmas.List.{nil_from_length}
 use Rattle.std.proofs.lemmas.List.Elements.{All-drop}
 use Rattle.jr_base.specs.declared.marker.TheConstants.{EOI, PREFIX, RST0, RST7, SOI}
@@ -11,8 +11,8 @@ use Rattle.jr_cut.specs.declared.scan_end.ScanEnd.TheVariants.{EndOfImage, Other
 use Rattle.jr_cut.specs.Cut.{CodedSegment, Cutting, HasMarker, IsEnding, IsRaw, marker, with_markers}
 use Rattle.jr_cut.proofs.EachCut.{each_scan_has_a_cut}
 use Rattle.jr_cut.proofs.Segments.{length_marker}
-use Rattle.jr_mend.specs.Markers.{markers_in, most_missing, scan_bytes}
-use Rattle.jr_mend.specs.Resync.{EndsResync, IsAhead, IsMeaning, IsResync, Part, PartsFrom, Resync, number_after, part_bytes, since_after}
+use Rattle.jr_mend.specs.Markers.{is_over, markers_in, most_missing, scan_bytes, scan_markers}
+use Rattle.jr_mend.specs.Resync.{EndsResync, IsAhead, IsMeaning, IsResync, MeansIn, Part, PartsFrom, Resync, number_after, part_bytes, since_after}
 use Rattle.jr_mend.proofs.ResyncLaw.{is_due, same_below}
 use Rattle.jr_mend.proofs.Resyncs.{few_after, parts_last, parts_next, with_part}
 
@@ -127,17 +127,21 @@ last n size since k at tail end ends = record { r = record { raws = []; datas = 
 
 module _ (n size since k at : ℕ) (tail : List ℕ) (few : k < n) (small : All (λ b. b < 256) tail)
     (next : (since k at o : ℕ) (t : List ℕ) (end : ScanEnd) → length t < length tail → k < n → IsEnding 1 0 o t end → All (λ b. b < 256) t → Follows n size since k at t) where
-  goes_on : (code : ℕ) → HasMarker tail code → 0 < code → code < PREFIX → code ≢ EOI → k + 1 < n → Follows n size since k at tail
-  goes_on code m some less goes further =
+  on_by : (code : ℕ) (missing : Option ℕ) → HasMarker tail code → MeansIn n size since k tail code missing → Follows n size since k at tail
+  on_by code missing m means =
       let mark = marker m.0 code in
-      let a = meaning_of n k (most_missing n size since k (markers_in 0 tail)) code some less goes further in
       let small_rest = small_behind tail mark m.1 m.2 small in
       let f = front m.1 small_rest in
-      let p : Part = record { more = m.0; code = code; missing = a.missing; raw = f.raw; bytes = f.found } in
+      let p : Part = record { more = m.0; code = code; missing = missing; raw = f.raw; bytes = f.found } in
       let spelled : tail ≡ part_bytes p ++ f.tail = m.2 ∙ ap (λ (x : List ℕ). mark ++ x) f.whole ∙ sym (append_assoc mark f.raw f.tail) in
       let shorter : length f.tail < length tail = omega (arith, ap length spelled, length-append (part_bytes p) f.tail, length-append mark f.raw, length_marker m.0 code) in
-      let others = next (since_after since a.missing (length (part_bytes p))) (number_after k a.missing) (at + length (part_bytes p)) f.at f.tail f.end shorter (few_after n k (most_missing n size since k (markers_in 0 tail)) code a.missing a.is) f.ends (small_behind m.1 f.raw f.tail f.whole small_rest) in
-      record { r = with_part at k p others.r; is = parts_next n size since k at p tail f.tail others.r a.is f.is_raw spelled others.is }
+      let others = next (since_after since missing (length (part_bytes p))) (number_after k missing) (at + length (part_bytes p)) f.at f.tail f.end shorter (few_after n size since k tail code missing means) f.ends (small_behind m.1 f.raw f.tail f.whole small_rest) in
+      record { r = with_part at k p others.r; is = parts_next n size since k at p tail f.tail others.r means f.is_raw spelled others.is }
+
+  goes_on : (code : ℕ) → HasMarker tail code → 0 < code → code < PREFIX → code ≢ EOI → k + 1 < n → Follows n size since k at tail
+  goes_on code m some less goes further =
+      let a = meaning_of n k (most_missing n size since k (scan_markers n tail)) code some less goes further in
+      on_by code a.missing m (inl a.is)
 
   restart : (number : ℕ) → number < 8 → HasMarker tail (RST0 + number) → Follows n size since k at tail
   restart number lt m = elim (cases_eq (k + 1) n) [
@@ -147,7 +151,13 @@ module _ (n size since k at : ℕ) (tail : List ℕ) (few : k < n) (small : All 
 
   follows : (o : ℕ) (end : ScanEnd) → IsEnding 1 0 o tail end → Follows n size since k at tail
   follows o EndOfFile h = last n size since k at tail EndOfFile (h, inl refl)
-  follows o EndOfImage h = last n size since k at tail EndOfImage (h, inr (inl refl))
+  follows o EndOfImage h = elim (cases_Bool (is_over n (markers_in 0 tail))) [
+    | inl over ↦ last n size since k at tail EndOfImage (h, inr (inl (refl, over)))
+    | inr on ↦ elim (cases_eq (k + 1) n) [
+      | inl all ↦ last n size since k at tail EndOfImage (h, inr (inr all))
+      | inr further ↦ on_by EOI None h (inr (record { further = omega (arith, few, further); eoi = refl; on = on; none = refl }))
+    ]
+  ]
   follows o (ExtraRestart at') h = restart h.0 h.1 h.2
   follows o (OutOfStep f x at') h = absurd (omega (arith, h.2))
   follows o (OtherMarker c at') h = elim (cases_eq (k + 1) n) [
@@ -168,6 +178,6 @@ follows_from (suc fuel) n size since k at o tail end short few ends small =
 pub each_scan_resyncs : (n at : ℕ) (bytes : List ℕ) → 0 < n → All (λ b. b < 256) bytes → (r : Resync) × IsResync n at bytes r
 each_scan_resyncs n at bytes some small =
     let f = front bytes small in
-    let others = follows_from (length f.tail) n (scan_bytes (markers_in 0 bytes)) (length f.raw) 0 (at + length f.raw) f.at f.tail f.end (omega arith) some f.ends (small_behind bytes f.raw f.tail f.whole small) in
+    let others = follows_from (length f.tail) n (scan_bytes (scan_markers n bytes)) (length f.raw) 0 (at + length f.raw) f.at f.tail f.end (omega arith) some f.ends (small_behind bytes f.raw f.tail f.whole small) in
     let r : Resync = record { raws = f.raw ∷ others.r.raws; datas = f.found ∷ others.r.datas; breaks = others.r.breaks; end = others.r.end } in
     (r, record { some = some; raw = f.raw; first = f.found; rest = f.tail; after = others.r; is_raw = f.is_raw; spelled = f.whole; parts = others.is; is = refl })

@@ -1,12 +1,14 @@
 -- A scan whose restart markers are in step is resynchronised to the segments that it is cut into.
-use Rattle.std.proofs.Common.{◌≡◌, ℕ, suc, ◌+◌, ◌%◌, ◌<◌, inl, inr, List, [], ◌∷◌, ◌++◌, length, map, refl, sym, ap, subst, ◌∙◌, append_assoc, length-append, Some, arith}
+use Rattle.std.proofs.Common.{◌≡◌, ℕ, suc, ◌+◌, ◌%◌, ◌<◌, ◌⊎◌, true, inl, inr, List, [], ◌∷◌, ◌++◌, length, map, drop, refl, sym, ap, subst, ◌∙◌, append_assoc, length-append, Some, arith}
 use Rattle.std.specs.List.{AllByRecursion, flat_map}
+use Rattle.std.proofs.Math.Seq.{drop-append_seam}
+use Rattle.std.proofs.lemmas.List.{length-map}
 use Rattle.jr_base.specs.declared.marker.TheConstants.{RST0}
 use Rattle.jr_cut.specs.declared.scan_end.ScanEnd.{ScanEnd}
 use Rattle.jr_cut.specs.declared.scan_end.ScanEnd.TheVariants.{EndOfImage, OtherMarker, OutOfStep, ExtraRestart, EndOfFile}
 use Rattle.jr_cut.specs.Cut.{CodedSegment, IsCut, IsEnding, IsRaw, marker, with_markers}
-use Rattle.jr_mend.specs.Markers.{markers_in, scan_bytes}
-use Rattle.jr_mend.specs.Resync.{AreParts, EndsResync, IsInStep, IsResync, Part, PartsFrom, Resync, breaks_of, last_number, new_segments, part_bytes, since_after}
+use Rattle.jr_mend.specs.Markers.{is_over, markers_in, scan_bytes, scan_markers}
+use Rattle.jr_mend.specs.Resync.{AreParts, EndsResync, HasNoFalseEnd, IsInStep, IsResync, Part, PartsFrom, Resync, breaks_of, last_number, new_segments, part_bytes, since_after}
 use Rattle.jr_mend.proofs.ResyncLaw.{one_resync}
 
 unfoldable pub parts_of : ℕ → List CodedSegment → List Part
@@ -18,7 +20,7 @@ unfolding parts_of
 are_parts n size since j k tail [] same each few = tt
 are_parts n size since j k tail (p ∷ ps) same each few =
     let due : k ≡ j + 0 = omega (arith, same) in
-    ((omega (arith, same, few), ap (λ (i : ℕ). RST0 + i % 8) due, inl refl), each.0, are_parts n size (since_after since (Some 0) (length (marker p.more (RST0 + k % 8) ++ p.raw))) (suc (j + 0)) (suc k) tail ps (omega (arith, same)) each.1 (omega (arith, few)))
+    (inl (omega (arith, same, few), ap (λ (i : ℕ). RST0 + i % 8) due, inl refl), each.0, are_parts n size (since_after since (Some 0) (length (marker p.more (RST0 + k % 8) ++ p.raw))) (suc (j + 0)) (suc k) tail ps (omega (arith, same)) each.1 (omega (arith, few)))
 
 bytes_are : (k : ℕ) (ps : List CodedSegment) → flat_map part_bytes (parts_of k ps) ≡ with_markers k ps
 unfolding parts_of
@@ -42,14 +44,15 @@ unfolding parts_of
 last_is j k [] same = omega (arith, same)
 last_is j k (p ∷ ps) same = let e = last_is (suc (j + 0)) (suc k) ps (omega (arith, same)) in omega (arith, e)
 
-ends_in_step : (n k at : ℕ) (tail : List ℕ) (end : ScanEnd) → IsInStep end → IsEnding n k at tail end → EndsResync n k at tail end
-ends_in_step n k at tail EndOfFile in_step h = (h, inl refl)
-ends_in_step n k at tail EndOfImage in_step h = (h, inr (inl refl))
-ends_in_step n k at tail (ExtraRestart o) in_step h = (h, inr (inr h.3))
-ends_in_step n k at tail (OutOfStep f x o) in_step h = absurd in_step
-ends_in_step n k at tail (OtherMarker c o) in_step h = absurd in_step
+ends_in_step : (n k at : ℕ) (tail : List ℕ) (end : ScanEnd) → IsInStep end → (k + 1 ≡ n) ⊎ (is_over n (markers_in 0 tail) ≡ true) → IsEnding n k at tail end → EndsResync n k at tail end
+ends_in_step n k at tail EndOfFile in_step over h = (h, inl refl)
+ends_in_step n k at tail EndOfImage in_step (inl all) h = (h, inr (inr all))
+ends_in_step n k at tail EndOfImage in_step (inr over) h = (h, inr (inl (refl, over)))
+ends_in_step n k at tail (ExtraRestart o) in_step over h = (h, inr (inr h.3))
+ends_in_step n k at tail (OutOfStep f x o) in_step over h = absurd in_step
+ends_in_step n k at tail (OtherMarker c o) in_step over h = absurd in_step
 
-module _ (n at : ℕ) (bytes : List ℕ) (datas : List (List ℕ)) (end : ScanEnd) (c : IsCut n at bytes datas end) (in_step : IsInStep end) where
+module _ (n at : ℕ) (bytes : List ℕ) (datas : List (List ℕ)) (end : ScanEnd) (c : IsCut n at bytes datas end) (in_step : IsInStep end) (over : (0 + length c.segments + 1 ≡ n) ⊎ (is_over n (markers_in 0 c.tail) ≡ true)) where
   abbrev pub parts : List Part
   parts = parts_of 0 c.segments
 
@@ -62,16 +65,16 @@ module _ (n at : ℕ) (bytes : List ℕ) (datas : List (List ℕ)) (end : ScanEn
   abbrev pub whole : Resync
   whole = record { raws = c.raw ∷ after.raws; datas = c.first ∷ after.datas; breaks = after.breaks; end = after.end }
 
-  follows : PartsFrom n (scan_bytes (markers_in 0 bytes)) (length c.raw) 0 (at + length c.raw) rest after
+  follows : PartsFrom n (scan_bytes (scan_markers n bytes)) (length c.raw) 0 (at + length c.raw) rest after
   unfolding after
   follows =
       let spelled = bytes_are 0 c.segments in
       let place : at + length (c.raw ++ with_markers 0 c.segments) ≡ at + length c.raw + length (flat_map part_bytes parts) = omega (arith, length-append c.raw (with_markers 0 c.segments), ap length spelled) in
-      let here = subst (λ (o : ℕ). EndsResync n (0 + length c.segments) o c.tail end) place (ends_in_step n (0 + length c.segments) (at + length (c.raw ++ with_markers 0 c.segments)) c.tail end in_step c.ends) in
+      let here = subst (λ (o : ℕ). EndsResync n (0 + length c.segments) o c.tail end) place (ends_in_step n (0 + length c.segments) (at + length (c.raw ++ with_markers 0 c.segments)) c.tail end in_step over c.ends) in
       record {
         parts = parts;
         tail = c.tail;
-        are = are_parts n (scan_bytes (markers_in 0 bytes)) (length c.raw) 0 0 c.tail c.segments refl c.each c.few;
+        are = are_parts n (scan_bytes (scan_markers n bytes)) (length c.raw) 0 0 c.tail c.segments refl c.each c.few;
         spelled = ap (λ (x : List ℕ). x ++ c.tail) (sym spelled);
         raws = refl;
         datas = sym (datas_are 0 c.segments);
@@ -97,3 +100,16 @@ module _ (n at : ℕ) (bytes : List ℕ) (datas : List (List ℕ)) (end : ScanEn
   in_step_stays r is =
       let same = one_resync n at bytes r whole is resync in
       (ap (λ (x : Resync). x.datas) same ∙ sym c.means, ap (λ (x : Resync). x.breaks) same, ap (λ (x : Resync). x.end) same)
+
+-- the number of segments
+pub all_segments : (n at : ℕ) (bytes : List ℕ) (datas : List (List ℕ)) (end : ScanEnd) (c : IsCut n at bytes datas end) → length datas ≡ n → 0 + length c.segments + 1 ≡ n
+all_segments n at bytes datas end c all = omega (arith, all, ap length c.means, length-map c.segments (λ (p : CodedSegment). p.bytes))
+
+-- what ends them
+pub over_by : (n at : ℕ) (bytes : List ℕ) (datas : List (List ℕ)) (end : ScanEnd) (c : IsCut n at bytes datas end) → (length datas ≡ n) ⊎ HasNoFalseEnd n bytes → (0 + length c.segments + 1 ≡ n) ⊎ (is_over n (markers_in 0 c.tail) ≡ true)
+over_by n at bytes datas end c (inl all) = inl (all_segments n at bytes datas end c all)
+over_by n at bytes datas end c (inr none) =
+    let front = c.raw ++ with_markers 0 c.segments in
+    let whole : bytes ≡ front ++ c.tail = c.spelled ∙ sym (append_assoc c.raw (with_markers 0 c.segments) c.tail) in
+    let tail : drop (length front) bytes ≡ c.tail = ap (drop (length front)) whole ∙ drop-append_seam front c.tail in
+    inr (subst (λ (x : List ℕ). is_over n (markers_in 0 x) ≡ true) tail (none (length front)))

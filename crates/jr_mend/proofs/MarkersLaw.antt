@@ -1,5 +1,5 @@
 -- The markers in bytes that are a segment's, and in those from a marker on.
-use Rattle.std.proofs.Common.{◌≡◌, ◌≢◌, ℕ, zero, suc, ◌+◌, ◌-◌, ◌<◌, ◌≤◌, Bool, true, false, cond, min, List, [], ◌∷◌, ◌++◌, length, take, drop, get_or, replicate, refl, sym, ap, subst, ◌∙◌, inl, inr, append_assoc, length-append, arith}
+use Rattle.std.proofs.Common.{◌≡◌, ◌≢◌, ℕ, zero, suc, ◌+◌, ◌-◌, ◌<◌, ◌≤◌, Bool, true, false, cond, min, List, [], ◌∷◌, ◌++◌, length, take, drop, get_or, replicate, refl, sym, ap, subst, ◌∙◌, inl, inr, append_assoc, length-append, Option, arith}
 use Rattle.std.specs.Prelude.{not, ◌&&◌, ◌||◌, ◌==◌}
 use Rattle.std.specs.List.{AllByRecursion, flat_map}
 use Rattle.std.proofs.lemmas.Bool.{and_left, and_parts, and_right, and_from, cases_Bool, cond-true, cond-false, eq-eqb, ne_eqb, eqb-true}
@@ -12,7 +12,10 @@ use Rattle.jr_cut.specs.Cut.Spelling.{Plain, Stuffed}
 use Rattle.jr_mend.specs.declared.markers.ScanMarker.{ScanMarker}
 use Rattle.jr_mend.specs.declared.outlook.Outlook.{Outlook}
 use Rattle.jr_mend.specs.Reading.{IsOutlook}
-use Rattle.jr_mend.specs.Markers.{counted_back, has_end, is_back, is_marker, is_restart, markers_in, restarts}
+use Rattle.jr_mend.specs.declared.markers.TheConstants.{TEM}
+use Rattle.jr_mend.specs.Markers.{as_read, counted_back, goes_on, has_end, is_back, is_false_end, is_marker, is_over, is_restart, markers_in, most_missing, restarts, scan_markers}
+use Rattle.jr_mend.specs.Resync.{MeansIn}
+use Rattle.jr_mend.proofs.ResyncLaw.{means, not_end}
 
 -- ---- bytes without markers
 
@@ -139,6 +142,21 @@ rebased a b (x ∷ c ∷ bytes) = go (is_marker x c) (rebased (suc a) (suc b) (c
     go true others = (refl, refl)
     go false others = others
 
+-- so are they as they are read
+read_rebased : (n : ℕ) (xs ys : List ScanMarker) → Rebased xs ys → Rebased (as_read n xs) (as_read n ys)
+read_rebased n [] [] r = tt
+read_rebased n [] (y ∷ ys) r = absurd r
+read_rebased n (x ∷ xs) [] r = absurd r
+read_rebased n (x ∷ xs) (y ∷ ys) r =
+    let same : is_false_end n x xs ≡ is_false_end n y ys = ap (λ (c : ℕ). (c == EOI) && goes_on n xs) r.0 ∙ ap (λ (ms : List ScanMarker). (y.code == EOI) && goes_on n ms) r.1 in
+    (heads (is_false_end n x xs) (is_false_end n y ys) same, ap (as_read n) r.1)
+  where
+    heads : (s t : Bool) → s ≡ t → (cond s (record { before = x.before; code = TEM }) x).code ≡ (cond t (record { before = y.before; code = TEM }) y).code
+    heads true true e = refl
+    heads false false e = r.0
+    heads true false e = absurd cc
+    heads false true e = absurd cc
+
 outlook_same : (n : ℕ) (xs ys : List ScanMarker) (o : Outlook) → Rebased xs ys → IsOutlook n xs o → IsOutlook n ys o
 outlook_same n [] [] o r is = is
 outlook_same n [] (y ∷ ys) o r is = absurd r
@@ -150,8 +168,58 @@ outlook_same n (x ∷ xs) (y ∷ ys) o r is =
     let ended : has_end (x ∷ xs) ≡ has_end (y ∷ ys) = ap (λ (c : ℕ). (c == EOI) || has_end xs) r.0 ∙ ap (λ (ms : List ScanMarker). has_end (y ∷ ms)) r.1 in
     record { left = is.left ∙ left; back = sym back ∙ is.back ∙ ap (λ (z : ℕ). min o.back z) left; ended = is.ended ∙ ended }
 
-pub outlook_rebased : (n before : ℕ) (bytes : List ℕ) (o : Outlook) → IsOutlook n (markers_in before bytes) o → IsOutlook n (markers_in 0 bytes) o
-outlook_rebased n before bytes o is = outlook_same n (markers_in before bytes) (markers_in 0 bytes) o (rebased before 0 bytes) is
+pub outlook_rebased : (n before : ℕ) (bytes : List ℕ) (o : Outlook) → IsOutlook n (as_read n (markers_in before bytes)) o → IsOutlook n (scan_markers n bytes) o
+outlook_rebased n before bytes o is = outlook_same n (as_read n (markers_in before bytes)) (scan_markers n bytes) o (read_rebased n (markers_in before bytes) (markers_in 0 bytes) (rebased before 0 bytes)) is
+
+-- ---- a marker as it is read
+
+-- another than EOI
+pub other_on : (n before more code : ℕ) (bytes : List ℕ) → code ≢ 0 → code ≢ PREFIX → code ≢ EOI → as_read n (markers_in before (marker more code ++ bytes)) ≡ (record { before = before + more; code = code }) ∷ scan_markers n bytes
+other_on n before more code bytes some other goes =
+    let m : ScanMarker = record { before = before + more; code = code } in
+    let no : is_false_end n m (markers_in 0 bytes) ≡ false = and_left (code == EOI) (goes_on n (markers_in 0 bytes)) (ne_eqb code EOI goes) in
+    ap (as_read n) (marker_on before more code bytes some other) ∙ ap (λ (x : ScanMarker). x ∷ scan_markers n bytes) (cond-false (is_false_end n m (markers_in 0 bytes)) _ m no)
+
+-- what comes after EOI says whether it is the end
+pub over_is : (n before more : ℕ) (bytes : List ℕ) → is_over n (markers_in before (marker more EOI ++ bytes)) ≡ not (goes_on n (markers_in 0 bytes))
+over_is n before more bytes = ap (is_over n) (marker_on before more EOI bytes (λ e. omega arith) (λ e. omega arith))
+
+-- EOI after which the scan continues
+pub false_end_on : (n before more : ℕ) (bytes : List ℕ) → goes_on n (markers_in 0 bytes) ≡ true → as_read n (markers_in before (marker more EOI ++ bytes)) ≡ (record { before = before + more; code = TEM }) ∷ scan_markers n bytes
+false_end_on n before more bytes on =
+    let m : ScanMarker = record { before = before + more; code = EOI } in
+    ap (as_read n) (marker_on before more EOI bytes (λ e. omega arith) (λ e. omega arith)) ∙ ap (λ (x : ScanMarker). x ∷ scan_markers n bytes) (cond-true (is_false_end n m (markers_in 0 bytes)) _ m on)
+
+-- a marker that does not end the scan, as it is read
+pub record Passed (n code : ℕ) (bytes rest : List ℕ) : Type 0 where
+  pub m : ScanMarker
+  pub first : scan_markers n bytes ≡ m ∷ scan_markers n rest
+  pub restart : is_restart m.code ≡ is_restart code
+  pub goes : m.code ≢ EOI
+
+pub passed_on : (n size since k more code : ℕ) (missing : Option ℕ) (bytes rest : List ℕ) → bytes ≡ marker more code ++ rest → MeansIn n size since k bytes code missing → Passed n code bytes rest
+passed_on n size since k more code missing bytes rest spelled (inl x) =
+    let has = means n size since k bytes code missing (inl x) in
+    let goes = not_end n k (most_missing n size since k (scan_markers n bytes)) code missing x in
+    record {
+      m = record { before = 0 + more; code = code };
+      first = ap (scan_markers n) spelled ∙ other_on n 0 more code rest (λ e. omega (arith, e, has.some)) (λ e. omega (arith, e, has.less)) goes;
+      restart = refl;
+      goes = goes;
+    }
+passed_on n size since k more code missing bytes rest spelled (inr p) =
+    let here : bytes ≡ marker more EOI ++ rest = spelled ∙ ap (λ (c : ℕ). marker more c ++ rest) p.eoi in
+    let over : not (goes_on n (markers_in 0 rest)) ≡ false = sym (over_is n 0 more rest) ∙ ap (λ (b : List ℕ). is_over n (markers_in 0 b)) (sym here) ∙ p.on in
+    record {
+      m = record { before = 0 + more; code = TEM };
+      first = ap (scan_markers n) here ∙ false_end_on n 0 more rest (not_false (goes_on n (markers_in 0 rest)) over);
+      restart = ap is_restart (sym p.eoi);
+      goes = λ e. omega (arith, e);
+    }
+  where
+    not_false : (b : Bool) → not b ≡ false → b ≡ true
+    not_false true e = refl
+    not_false false e = absurd cc
 
 -- ---- markers that are counted back
 

@@ -1,5 +1,5 @@
 -- A file is read marker by marker.
-use Rattle.std.proofs.Common.{◌≡◌, ◌≢◌, ℕ, suc, ◌+◌, ◌-◌, ◌<◌, ◌≤◌, List, [], ◌∷◌, ◌++◌, length, take, drop, refl, sym, ap, subst, ◌∙◌, append_assoc, length-append, length-drop, Option, Some, None, arith}
+use Rattle.std.proofs.Common.{◌≡◌, ◌≢◌, ℕ, suc, ◌+◌, ◌-◌, ◌<◌, ◌≤◌, List, [], ◌∷◌, ◌++◌, length, take, drop, sym, ap, subst, ◌∙◌, append_assoc, length-append, length-drop, Option, Some, None, arith}
 use Rattle.std.proofs.lemmas.List.{append-nil, drop-drop}
 use Rattle.jr_base.specs.declared.limits.TheConstants.{MAX_FILE_BYTES}
 use Rattle.jr_base.specs.declared.marker.TheConstants.{EOI}
@@ -17,12 +17,11 @@ use Rattle.jr_mend.specs.declared.following.FoundMarker.{FoundMarker}
 use Rattle.jr_mend.specs.declared.reading.Reading.{Reading}
 use Rattle.jr_mend.specs.Reading.{Becomes, HasResyncedTo, IsOutlook, IsTooLong, Meets, Takes}
 use Rattle.jr_mend.specs.declared.markers.ScanMarker.{ScanMarker}
-use Rattle.jr_mend.specs.Markers.{markers_in, most_missing, scan_bytes}
+use Rattle.jr_mend.specs.Markers.{as_read, is_restart, markers_in, scan_bytes, scan_markers}
 use Rattle.jr_mend.specs.Resync.{EndsResync, IsResync, Part, PartsFrom, Resync, break_at, new_segments, number_after, part_bytes, since_after}
 use Rattle.jr_mend.specs.Splice.{coded_intervals, joined_intervals, spliced}
 use Rattle.jr_mend.proofs.Resyncs.{count_after, few_after, new_spelled, parts_last, parts_next, with_part, zip_append}
-use Rattle.jr_mend.proofs.MarkersLaw.{marker_on, outlook_rebased, raw_on}
-use Rattle.jr_mend.proofs.ResyncLaw.{means}
+use Rattle.jr_mend.proofs.MarkersLaw.{outlook_rebased, passed_on, raw_on}
 use Rattle.jr_mend.proofs.Splices.{scan_is}
 
 -- ---- the bytes up to a marker
@@ -56,7 +55,7 @@ module _ (file : List ℕ) (h : HeadValue) (w : Reading) (len : ℕ) (s : Segmen
   first = take len (drop h.scan_at file)
 
   abbrev whole : ℕ
-  whole = scan_bytes (markers_in 0 (drop h.scan_at file))
+  whole = scan_bytes (scan_markers (intervals_of h) (drop h.scan_at file))
 
   on_first : 0 < intervals_of h → w.k ≡ 0 → w.at ≡ h.scan_at + len → w.breaks.items ≡ [] → w.since ≡ len → w.outlook.size ≡ whole → (r : Resync) → PartsFrom (intervals_of h) w.outlook.size w.since w.k w.at (drop w.at file) r
       → IsResync (intervals_of h) h.scan_at (drop h.scan_at file) (record { raws = first ∷ r.raws; datas = s.found ∷ r.datas; breaks = w.breaks.items ++ r.breaks; end = r.end })
@@ -81,13 +80,13 @@ module _ (file : List ℕ) (h : HeadValue) (w : Reading) (len : ℕ) (s : Segmen
       }
 
   -- what is known of the markers of the scan is known of those after its first segment
-  ahead : w.at ≡ h.scan_at + len → IsOutlook (intervals_of h) (markers_in 0 (drop h.scan_at file)) w.outlook → IsOutlook (intervals_of h) (markers_in 0 (drop w.at file)) w.outlook
+  ahead : w.at ≡ h.scan_at + len → IsOutlook (intervals_of h) (scan_markers (intervals_of h) (drop h.scan_at file)) w.outlook → IsOutlook (intervals_of h) (scan_markers (intervals_of h) (drop w.at file)) w.outlook
   ahead at is =
-      let here : markers_in 0 (drop h.scan_at file) ≡ markers_in (0 + length first) (drop w.at file) =
-      ap (markers_in 0) (split_at file h.scan_at len) ∙ raw_on 0 first s.found (drop (h.scan_at + len) file) s.raw ∙ ap (λ (k : ℕ). markers_in (0 + length first) (drop k file)) (sym at) in
+      let here : scan_markers (intervals_of h) (drop h.scan_at file) ≡ as_read (intervals_of h) (markers_in (0 + length first) (drop w.at file)) =
+      ap (scan_markers (intervals_of h)) (split_at file h.scan_at len) ∙ ap (as_read (intervals_of h)) (raw_on 0 first s.found (drop (h.scan_at + len) file) s.raw) ∙ ap (λ (k : ℕ). as_read (intervals_of h) (markers_in (0 + length first) (drop k file))) (sym at) in
       outlook_rebased (intervals_of h) (0 + length first) (drop w.at file) w.outlook (subst (λ (ms : List ScanMarker). IsOutlook (intervals_of h) ms w.outlook) here is)
 
-  pub read_first : 0 < intervals_of h → w.k ≡ 0 → w.at ≡ h.scan_at + len → w.breaks.items ≡ [] → w.since ≡ len → w.outlook.size ≡ whole → IsOutlook (intervals_of h) (markers_in 0 (drop h.scan_at file)) w.outlook → w.bytes.items ≡ take h.scan_at file ++ joined_intervals (first ∷ []) → HasResyncedTo file h w
+  pub read_first : 0 < intervals_of h → w.k ≡ 0 → w.at ≡ h.scan_at + len → w.breaks.items ≡ [] → w.since ≡ len → w.outlook.size ≡ whole → IsOutlook (intervals_of h) (scan_markers (intervals_of h) (drop h.scan_at file)) w.outlook → w.bytes.items ≡ take h.scan_at file ++ joined_intervals (first ∷ []) → HasResyncedTo file h w
   read_first some number at none since size is written = record {
     raws = first ∷ [];
     datas = s.found ∷ [];
@@ -111,7 +110,7 @@ near_after since (Some d) low at part near = omega (arith, near)
 
 pub takes : (file : List ℕ) (old mid v : Reading) (m : FoundMarker) (len : ℕ) (raw : List ℕ) → Segment file (mid.at + m.length) len → mid.breaks.items ≡ old.breaks.items ++ break_at old.at old.k m.code m.missing → mid.bytes ≡ old.bytes → mid.k ≡ old.k → mid.since ≡ old.since → mid.outlook ≡ old.outlook → mid.at ≡ old.at
     → v.at ≡ mid.at + m.length + len → v.k ≡ number_after mid.k m.missing → v.since ≡ since_after mid.since m.missing (m.length + len) → v.outlook.size ≡ mid.outlook.size
-    → ((n : ℕ) (x : ScanMarker) (ms : List ScanMarker) → x.code ≡ m.code → x.code ≢ EOI → IsOutlook n (x ∷ ms) mid.outlook → IsOutlook n ms v.outlook) → v.breaks ≡ mid.breaks
+    → ((n : ℕ) (x : ScanMarker) (ms : List ScanMarker) → is_restart x.code ≡ is_restart m.code → x.code ≢ EOI → IsOutlook n (x ∷ ms) mid.outlook → IsOutlook n ms v.outlook) → v.breaks ≡ mid.breaks
     → ((front : List ℕ) (raws : List (List ℕ)) → length raws ≡ suc mid.k → mid.bytes.items ≡ front ++ joined_intervals raws → v.bytes.items ≡ front ++ joined_intervals (raws ++ new_segments m.missing raw))
     → raw ≡ take len (drop (mid.at + m.length) file) → Takes file old v m
 takes file old mid v m len raw s noted bytes number since outlook at place next counted size ahead breaks written slice =
@@ -135,7 +134,7 @@ takes file old mid v m len raw s noted bytes number since outlook at place next 
           ∙ ap (λ (x : List ℕ). front ++ joined_intervals (raws ++ new_segments m.missing x)) (slice ∙ ap (λ (a : ℕ). take len (drop a file)) start);
     }
 
-module _ (file : List ℕ) (h : HeadValue) (w v : Reading) (m : FoundMarker) (has : HasResyncedTo file h w) (meets : Meets (intervals_of h) w.k (most_missing (intervals_of h) w.outlook.size w.since w.k (markers_in 0 (drop w.at file))) (drop w.at file) m) (t : Takes file w v m) where
+module _ (file : List ℕ) (h : HeadValue) (w v : Reading) (m : FoundMarker) (has : HasResyncedTo file h w) (meets : Meets (intervals_of h) w.outlook.size w.since w.k (drop w.at file) m) (t : Takes file w v m) where
   abbrev raw : List ℕ
   raw = take t.len (drop (w.at + m.length) file)
 
@@ -156,9 +155,6 @@ module _ (file : List ℕ) (h : HeadValue) (w v : Reading) (m : FoundMarker) (ha
       let whole : m.length + t.len ≡ length (part_bytes part) = omega (arith, place, t.at) in
       t.since ∙ ap (λ (n : ℕ). since_after w.since m.missing n) whole
 
-  abbrev limit : ℕ
-  limit = most_missing (intervals_of h) w.outlook.size w.since w.k (markers_in 0 (drop w.at file))
-
   next : (r : Resync) → PartsFrom (intervals_of h) v.outlook.size v.since v.k v.at (drop v.at file) r → PartsFrom (intervals_of h) w.outlook.size w.since w.k w.at (drop w.at file) (with_part w.at w.k part r)
   next r p =
       let n = intervals_of h in
@@ -170,19 +166,17 @@ module _ (file : List ℕ) (h : HeadValue) (w v : Reading) (m : FoundMarker) (ha
       (subst (λ (o : ℕ). PartsFrom n w.outlook.size after (number_after w.k m.missing) o (drop v.at file) r) place numbered)
 
   -- what is known of the markers after this one
-  ahead_after : IsOutlook (intervals_of h) (markers_in 0 (drop v.at file)) v.outlook
+  ahead_after : IsOutlook (intervals_of h) (scan_markers (intervals_of h) (drop v.at file)) v.outlook
   ahead_after =
       let n = intervals_of h in
-      let has_code = means n w.k limit m.code m.missing meets.means in
       let rest = raw ++ drop v.at file in
       let mark = marker meets.more m.code in
       let marked : drop w.at file ≡ mark ++ rest = spelled ∙ append_assoc mark raw (drop v.at file) in
-      let first = marker_on 0 meets.more m.code rest (λ e. omega (arith, e, has_code.some)) (λ e. omega (arith, e, has_code.less)) in
-      let x : ScanMarker = record { before = 0 + meets.more; code = m.code } in
-      let here : markers_in 0 (drop w.at file) ≡ x ∷ markers_in (0 + length raw) (drop v.at file) =
-      ap (markers_in 0) marked ∙ first ∙ ap (λ (ms : List ScanMarker). x ∷ ms) (raw_on 0 raw t.data' (drop v.at file) t.raw) in
+      let p = passed_on n w.outlook.size w.since w.k meets.more m.code m.missing (drop w.at file) rest marked meets.means in
+      let behind : scan_markers (intervals_of h) rest ≡ as_read (intervals_of h) (markers_in (0 + length raw) (drop v.at file)) = ap (as_read (intervals_of h)) (raw_on 0 raw t.data' (drop v.at file) t.raw) in
+      let here = p.first ∙ ap (λ (ms : List ScanMarker). p.m ∷ ms) behind in
       let is = subst (λ (ms : List ScanMarker). IsOutlook n ms w.outlook) here has.outlook in
-      outlook_rebased n (0 + length raw) (drop v.at file) v.outlook (t.outlook n x (markers_in (0 + length raw) (drop v.at file)) refl has_code.goes is)
+      outlook_rebased n (0 + length raw) (drop v.at file) v.outlook (t.outlook n p.m (as_read (intervals_of h) (markers_in (0 + length raw) (drop v.at file))) p.restart p.goes is)
 
   joins : (r : Resync) → IsResync (intervals_of h) h.scan_at (drop h.scan_at file) (record { raws = has.raws ++ (new_segments m.missing raw ++ r.raws); datas = has.datas ++ (new_segments m.missing t.data' ++ r.datas); breaks = w.breaks.items ++ (break_at w.at w.k m.code m.missing ++ r.breaks); end = r.end })
       → IsResync (intervals_of h) h.scan_at (drop h.scan_at file) (record { raws = (has.raws ++ new_segments m.missing raw) ++ r.raws; datas = (has.datas ++ new_segments m.missing t.data') ++ r.datas; breaks = v.breaks.items ++ r.breaks; end = r.end })
@@ -203,7 +197,7 @@ module _ (file : List ℕ) (h : HeadValue) (w v : Reading) (m : FoundMarker) (ha
     raws = has.raws ++ new_segments m.missing raw;
     datas = has.datas ++ new_segments m.missing t.data';
     count = count_after w.k m.missing has.raws raw has.count ∙ ap suc (sym t.number);
-    few = omega (arith, t.number, few_after (intervals_of h) w.k limit m.code m.missing meets.means);
+    few = omega (arith, t.number, few_after (intervals_of h) w.outlook.size w.since w.k (drop w.at file) m.code m.missing meets.means);
     each = zip_append has.raws has.datas (new_segments m.missing raw) (new_segments m.missing t.data') has.each (new_spelled m.missing raw t.data' t.raw);
     near = near;
     size = t.size ∙ has.size;

@@ -1,5 +1,5 @@
 -- There is one way to resynchronise the bytes of a scan.
-use Rattle.std.proofs.Common.{◌≡◌, ◌≢◌, ℕ, suc, ◌+◌, ◌%◌, ◌<◌, ◌≤◌, ◌⊎◌, inl, inr, List, [], ◌∷◌, ◌++◌, length, refl, sym, ap, subst, ◌∙◌, append_assoc, Option, Some, None, arith}
+use Rattle.std.proofs.Common.{◌≡◌, ◌≢◌, ℕ, suc, ◌+◌, ◌%◌, ◌<◌, ◌≤◌, ◌⊎◌, inl, inr, List, [], ◌∷◌, ◌++◌, length, refl, sym, ap, subst, ◌∙◌, append_assoc, Bool, true, false, Option, Some, None, arith}
 use Rattle.std.specs.List.{flat_map}
 use Rattle.std.proofs.lemmas.List.{append_cancel_right}
 use Rattle.jr_base.specs.declared.marker.TheConstants.{EOI, PREFIX, RST0}
@@ -9,8 +9,8 @@ use Rattle.jr_cut.specs.Cut.{HasMarker, IsCut, IsEnding, IsStop, marker}
 use Rattle.jr_cut.proofs.CutLaw.{ending_stop, marker_stop, one_cut, run_of, same_marker}
 use Rattle.jr_cut.proofs.Cuts.{cut_last, raw_none, run_end, run_same}
 use Rattle.jr_cut.proofs.Spellings.{one_stop}
-use Rattle.jr_mend.specs.Markers.{markers_in, most_missing, scan_bytes}
-use Rattle.jr_mend.specs.Resync.{AreParts, EndsResync, IsAhead, IsMeaning, IsResync, Part, PartsFrom, Resync, breaks_of, last_number, new_segments, number_after, part_bytes, since_after}
+use Rattle.jr_mend.specs.Markers.{is_over, markers_in, most_missing, scan_bytes, scan_markers}
+use Rattle.jr_mend.specs.Resync.{AreParts, EndsResync, IsAhead, IsMeaning, IsResync, MeansIn, Part, PartsFrom, Resync, breaks_of, last_number, new_segments, number_after, part_bytes, since_after}
 
 -- ---- the meaning of a marker
 
@@ -36,33 +36,50 @@ same_meaning n k limit code None (Some e) x y = absurd (x.4 e y)
 same_meaning n k limit code (Some d) None x y = absurd (y.4 d x)
 same_meaning n k limit code (Some d) (Some e) x y = ap Some (same_ahead n k limit code d e x y)
 
--- it has a code, and is not EOI nor after the last segment
+pub not_end : (n k limit code : ℕ) (a : Option ℕ) → IsMeaning n k limit code a → code ≢ EOI
+not_end n k limit code None m = m.2
+not_end n k limit code (Some d) m = λ e. omega (arith, e, m.1)
+
+same_meaning_in : (n size since k : ℕ) (bytes : List ℕ) (code : ℕ) (a b : Option ℕ) → MeansIn n size since k bytes code a → MeansIn n size since k bytes code b → a ≡ b
+same_meaning_in n size since k bytes code a b (inl x) (inl y) = same_meaning n k (most_missing n size since k (scan_markers n bytes)) code a b x y
+same_meaning_in n size since k bytes code a b (inl x) (inr q) = absurd (not_end n k (most_missing n size since k (scan_markers n bytes)) code a x q.eoi)
+same_meaning_in n size since k bytes code a b (inr p) (inl y) = absurd (not_end n k (most_missing n size since k (scan_markers n bytes)) code b y p.eoi)
+same_meaning_in n size since k bytes code a b (inr p) (inr q) = p.none ∙ sym q.none
+
+-- it has a code, and is not after the last segment
 pub record Means (n k code : ℕ) : Type 0 where
   pub some : 0 < code
   pub less : code < PREFIX
-  pub goes : code ≢ EOI
   pub further : k + 1 < n
 
-pub means : (n k limit code : ℕ) (a : Option ℕ) → IsMeaning n k limit code a → Means n k code
-means n k limit code None m = record { some = m.0; less = m.1; goes = m.2; further = m.3 }
-means n k limit code (Some d) m = record { some = omega (arith, m.1); less = omega (arith, m.1); goes = λ e. omega (arith, e, m.1); further = omega (arith, m.0) }
+pub means : (n size since k : ℕ) (bytes : List ℕ) (code : ℕ) (a : Option ℕ) → MeansIn n size since k bytes code a → Means n k code
+means n size since k bytes code a (inr p) = record { some = omega (arith, p.eoi); less = omega (arith, p.eoi); further = p.further }
+means n size since k bytes code None (inl m) = record { some = m.0; less = m.1; further = m.3 }
+means n size since k bytes code (Some d) (inl m) = record { some = omega (arith, m.1); less = omega (arith, m.1); further = omega (arith, m.0) }
 
-not_ended : (n k limit at code : ℕ) (a : Option ℕ) (tail : List ℕ) (end : ScanEnd) → EndsResync n k at tail end → IsMeaning n k limit code a → HasMarker tail code → ⊥
-not_ended n k limit at code a tail end ends meaning m = go ends.1
+not_both : (b : Bool) → b ≡ true → b ≡ false → ⊥
+not_both b is_true is_false = let clash : true ≡ false = sym is_true ∙ is_false in absurd cc
+
+not_ended : (n size since k at code : ℕ) (a : Option ℕ) (tail : List ℕ) (end : ScanEnd) → EndsResync n k at tail end → MeansIn n size since k tail code a → HasMarker tail code → ⊥
+not_ended n size since k at code a tail end ends meaning m = go ends.1
   where
     has : Means n k code
-    has = means n k limit code a meaning
+    has = means n size since k tail code a meaning
 
     not_ff : code ≢ PREFIX
     not_ff e = omega (arith, e, has.less)
 
-    go : (end ≡ EndOfFile) ⊎ ((end ≡ EndOfImage) ⊎ (k + 1 ≡ n)) → ⊥
+    goes : MeansIn n size since k tail code a → code ≡ EOI → is_over n (markers_in 0 tail) ≡ true → ⊥
+    goes (inl x) eoi over = not_end n k (most_missing n size since k (scan_markers n tail)) code a x eoi
+    goes (inr p) eoi over = not_both (is_over n (markers_in 0 tail)) over p.on
+
+    go : (end ≡ EndOfFile) ⊎ (((end ≡ EndOfImage) × (is_over n (markers_in 0 tail) ≡ true)) ⊎ (k + 1 ≡ n)) → ⊥
     go (inl e) =
         let h = subst (λ (x : ScanEnd). IsEnding n k at tail x) e ends.0 in
         run_end (suc m.0) h.0 code m.1 not_ff (sym (run_of m.0 code m.1) ∙ sym m.2 ∙ h.1)
     go (inr (inl e)) =
-        let h = subst (λ (x : ScanEnd). IsEnding n k at tail x) e ends.0 in
-        has.goes (same_marker tail code EOI m h not_ff (λ z. omega arith))
+        let h = subst (λ (x : ScanEnd). IsEnding n k at tail x) e.0 ends.0 in
+        goes meaning (same_marker tail code EOI m h not_ff (λ z. omega arith)) e.1
     go (inr (inr e)) = omega (arith, e, has.further)
 
 -- ---- the parts
@@ -70,33 +87,29 @@ not_ended n k limit at code a tail end ends meaning m = go ends.1
 first_part : (p : Part) (ps : List Part) (tail : List ℕ) → flat_map part_bytes (p ∷ ps) ++ tail ≡ marker p.more p.code ++ (p.raw ++ (flat_map part_bytes ps ++ tail))
 first_part p ps tail = append_assoc (part_bytes p) (flat_map part_bytes ps) tail ∙ append_assoc (marker p.more p.code) p.raw (flat_map part_bytes ps ++ tail)
 
--- the most segments that may be missing before a part
-abbrev most : (n size since k : ℕ) → List Part → List ℕ → ℕ
-most n size since k ps tail = most_missing n size since k (markers_in 0 (flat_map part_bytes ps ++ tail))
-
 parts_stop : (n size since k : ℕ) (ps : List Part) (tail : List ℕ) → AreParts n size since k tail ps → IsStop tail → IsStop (flat_map part_bytes ps ++ tail)
 parts_stop n size since k [] tail are stop = stop
 parts_stop n size since k (p ∷ ps) tail are stop =
-    let has = means n k (most n size since k (p ∷ ps) tail) p.code p.missing are.0 in
+    let has = means n size since k (flat_map part_bytes (p ∷ ps) ++ tail) p.code p.missing are.0 in
     marker_stop _ p.code (p.more, p.raw ++ (flat_map part_bytes ps ++ tail), first_part p ps tail) (λ e. omega (arith, e, has.some)) (λ e. omega (arith, e, has.less))
 
 same_parts : (n size since k at o : ℕ) (ps qs : List Part) (s t : List ℕ) (a b : ScanEnd) → AreParts n size since k s ps → AreParts n size since k t qs → EndsResync n (last_number k ps) at s a → EndsResync n (last_number k qs) o t b
     → flat_map part_bytes ps ++ s ≡ flat_map part_bytes qs ++ t → (ps ≡ qs) × (s ≡ t)
 same_parts n size since k at o [] [] s t a b hp hq ha hb e = (refl, e)
-same_parts n size since k at o [] (q ∷ qs) s t a b hp hq ha hb e = absurd (not_ended n k (most n size since k (q ∷ qs) t) at q.code q.missing s a ha hq.0 (q.more, _, e ∙ first_part q qs t))
-same_parts n size since k at o (p ∷ ps) [] s t a b hp hq ha hb e = absurd (not_ended n k (most n size since k (p ∷ ps) s) o p.code p.missing t b hb hp.0 (p.more, _, sym e ∙ first_part p ps s))
+same_parts n size since k at o [] (q ∷ qs) s t a b hp hq ha hb e = absurd (not_ended n size since k at q.code q.missing s a ha (subst (λ (z : List ℕ). MeansIn n size since k z q.code q.missing) (sym e) hq.0) (q.more, _, e ∙ first_part q qs t))
+same_parts n size since k at o (p ∷ ps) [] s t a b hp hq ha hb e = absurd (not_ended n size since k o p.code p.missing t b hb (subst (λ (z : List ℕ). MeansIn n size since k z p.code p.missing) e hp.0) (p.more, _, sym e ∙ first_part p ps s))
 same_parts n size since k at o (p ∷ ps) (q ∷ qs) s t a b hp hq ha hb e =
     let x = p.raw ++ (flat_map part_bytes ps ++ s) in
     let y = q.raw ++ (flat_map part_bytes qs ++ t) in
-    let limit = most n size since k (q ∷ qs) t in
-    let means_p : IsMeaning n k limit p.code p.missing = subst (λ (z : List ℕ). IsMeaning n k (most_missing n size since k (markers_in 0 z)) p.code p.missing) e hp.0 in
-    let has_p = means n k limit p.code p.missing means_p in
-    let has_q = means n k limit q.code q.missing hq.0 in
+    let here = flat_map part_bytes (q ∷ qs) ++ t in
+    let means_p : MeansIn n size since k here p.code p.missing = subst (λ (z : List ℕ). MeansIn n size since k z p.code p.missing) e hp.0 in
+    let has_p = means n size since k here p.code p.missing means_p in
+    let has_q = means n size since k here q.code q.missing hq.0 in
     let mark = run_same (suc p.more) (suc q.more) p.code q.code x y (λ z. omega (arith, z, has_p.less)) (λ z. omega (arith, z, has_q.less))
     (sym (run_of p.more p.code x) ∙ sym (first_part p ps s) ∙ e ∙ first_part q qs t ∙ run_of q.more q.code y) in
     let more : p.more ≡ q.more = omega (arith, mark.0) in
     let code : p.code ≡ q.code = mark.1 in
-    let missing : p.missing ≡ q.missing = same_meaning n k limit q.code p.missing q.missing (subst (λ (c : ℕ). IsMeaning n k limit c p.missing) code means_p) hq.0 in
+    let missing : p.missing ≡ q.missing = same_meaning_in n size since k here q.code p.missing q.missing (subst (λ (c : ℕ). MeansIn n size since k here c p.missing) code means_p) hq.0 in
     let number = number_after k p.missing in
     let ends = subst (λ (m : Option ℕ). EndsResync n (last_number (number_after k m) qs) o t b) (sym missing) hb in
     let after_p = since_after since p.missing (length (part_bytes p)) in
@@ -108,24 +121,24 @@ same_parts n size since k at o (p ∷ ps) (q ∷ qs) s t a b hp hq ha hb e =
     let raw : p.raw ≡ q.raw = append_cancel_right p.raw q.raw (flat_map part_bytes qs ++ t) (ap (λ (z : List ℕ). p.raw ++ z) (sym data'.1) ∙ mark.2) in
     let one : Part = record { more = p.more; code = p.code; missing = p.missing; raw = p.raw; bytes = p.bytes } in
     let other : Part = record { more = q.more; code = q.code; missing = q.missing; raw = q.raw; bytes = q.bytes } in
-    let here : one ≡ other = cc (more, code, missing, raw, bytes) in
-    let are : AreParts n size after_p number t qs = subst (λ (r : Part). AreParts n size (since_after since r.missing (length (part_bytes r))) (number_after k r.missing) t qs) (sym here) hq.2 in
+    let equal : one ≡ other = cc (more, code, missing, raw, bytes) in
+    let are : AreParts n size after_p number t qs = subst (λ (r : Part). AreParts n size (since_after since r.missing (length (part_bytes r))) (number_after k r.missing) t qs) (sym equal) hq.2 in
     let others = same_parts n size after_p number at o ps qs s t a b hp.2 are ha ends data'.1 in
-    (ap (λ (r : Part). r ∷ ps) here ∙ ap (λ (rs : List Part). q ∷ rs) others.0, others.1)
+    (ap (λ (r : Part). r ∷ ps) equal ∙ ap (λ (rs : List Part). q ∷ rs) others.0, others.1)
 
 -- ---- the end
 
-not_out : (n k : ℕ) (end : ScanEnd) → end ≢ EndOfFile → end ≢ EndOfImage → k + 1 < n → (end ≡ EndOfFile) ⊎ ((end ≡ EndOfImage) ⊎ (k + 1 ≡ n)) → ⊥
-not_out n k end file image less (inl e) = file e
-not_out n k end file image less (inr (inl e)) = image e
-not_out n k end file image less (inr (inr e)) = omega (arith, e, less)
+not_out : (n k : ℕ) (tail : List ℕ) (end : ScanEnd) → end ≢ EndOfFile → end ≢ EndOfImage → k + 1 < n → (end ≡ EndOfFile) ⊎ (((end ≡ EndOfImage) × (is_over n (markers_in 0 tail) ≡ true)) ⊎ (k + 1 ≡ n)) → ⊥
+not_out n k tail end file image less (inl e) = file e
+not_out n k tail end file image less (inr (inl e)) = image e.0
+not_out n k tail end file image less (inr (inr e)) = omega (arith, e, less)
 
 -- its end is the end of a scan of one segment
 to_one : (n k at : ℕ) (tail : List ℕ) (end : ScanEnd) → EndsResync n k at tail end → IsEnding 1 0 at tail end
 to_one n k at tail EndOfFile h = h.0
 to_one n k at tail EndOfImage h = h.0
 to_one n k at tail (ExtraRestart o) h = let e = h.0 in (e.0, e.1, e.2, refl, e.4)
-to_one n k at tail (OutOfStep f x o) h = let e = h.0 in absurd (not_out n k (OutOfStep f x o) (λ z. absurd cc) (λ z. absurd cc) e.2 h.1)
+to_one n k at tail (OutOfStep f x o) h = let e = h.0 in absurd (not_out n k tail (OutOfStep f x o) (λ z. absurd cc) (λ z. absurd cc) e.2 h.1)
 to_one n k at tail (OtherMarker c o) h = h.0
 
 same_end : (n k at : ℕ) (tail : List ℕ) (a b : ScanEnd) → EndsResync n k at tail a → EndsResync n k at tail b → a ≡ b
@@ -160,7 +173,7 @@ following_stop n size since k at bytes r f = subst IsStop (sym f.spelled) (parts
 
 pub one_resync : (n at : ℕ) (bytes : List ℕ) (a b : Resync) → IsResync n at bytes a → IsResync n at bytes b → a ≡ b
 one_resync n at bytes a b x y =
-    let size = scan_bytes (markers_in 0 bytes) in
+    let size = scan_bytes (scan_markers n bytes) in
     let data' = one_stop x.raw x.first y.raw y.first x.rest y.rest x.is_raw y.is_raw (sym x.spelled ∙ y.spelled) (following_stop n size (length x.raw) 0 (at + length x.raw) x.rest x.after x.parts) (following_stop n size (length y.raw) 0 (at + length y.raw) y.rest y.after y.parts) in
     let first : x.first ≡ y.first = sym data'.0 in
     let raw : x.raw ≡ y.raw = append_cancel_right x.raw y.raw y.rest (ap (λ (z : List ℕ). x.raw ++ z) (sym data'.1) ∙ sym x.spelled ∙ y.spelled) in

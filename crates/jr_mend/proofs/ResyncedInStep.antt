@@ -1,5 +1,5 @@
 -- A file whose restart markers are in step and whose scan ends with EOI becomes one with its own scan.
-use Rattle.std.proofs.Common.{◌≡◌, ℕ, suc, ◌+◌, ◌-◌, ◌%◌, ◌≤◌, List, [], ◌∷◌, ◌++◌, length, map, take, drop, replicate, refl, sym, ap, subst, ◌∙◌, length-append, arith}
+use Rattle.std.proofs.Common.{◌≡◌, ℕ, suc, ◌+◌, ◌-◌, ◌%◌, ◌≤◌, ◌⊎◌, true, inl, List, [], ◌∷◌, ◌++◌, length, map, take, drop, replicate, refl, sym, ap, subst, ◌∙◌, length-append, arith}
 use Rattle.std.specs.List.{AllByRecursion, AllZip, flat_map}
 use Rattle.std.proofs.lemmas.List.{drop_at, length-take-le}
 use Rattle.std.proofs.Math.ListN.{length-drop}
@@ -14,10 +14,11 @@ use Rattle.jr_head.specs.HeadValue.{HeadValue}
 use Rattle.jr_head.specs.Heads.{HeadOf}
 use Rattle.jr_head.proofs.HeadStays.{header_stays, scan_within}
 use Rattle.jr_scan.specs.ScanValue.{IsScanOf, ScanValue, intervals_of}
+use Rattle.jr_mend.specs.Markers.{is_over, markers_in}
 use Rattle.jr_mend.specs.Reading.{Becomes, IsFileInStep}
 use Rattle.jr_mend.specs.Resync.{Part, Resync, new_segments}
 use Rattle.jr_mend.specs.Splice.{after_markers, coded_intervals, spliced}
-use Rattle.jr_mend.proofs.InStep.{after, parts_of, resync, whole}
+use Rattle.jr_mend.proofs.InStep.{after, all_segments, parts_of, resync, whole}
 use Rattle.jr_mend.proofs.Splices.{coded_cut, scan_is}
 
 -- the segments that follow markers, as coded
@@ -60,8 +61,11 @@ module _ (file : List ℕ) (s : ScanValue) (head : HeadOf file s.head) (is : IsS
   abbrev c : IsCut n h.scan_at bytes in_step.0 EndOfImage
   c = in_step.1
 
+  abbrev over : (0 + length c.segments + 1 ≡ n) ⊎ (is_over n (markers_in 0 c.tail) ≡ true)
+  over = inl (all_segments n h.scan_at bytes in_step.0 EndOfImage c in_step.2)
+
   abbrev segments : Resync
-  segments = whole n h.scan_at bytes in_step.0 EndOfImage c tt
+  segments = whole n h.scan_at bytes in_step.0 EndOfImage c tt over
 
   abbrev new : List ℕ
   new = spliced file h segments.raws
@@ -103,7 +107,7 @@ module _ (file : List ℕ) (s : ScanValue) (head : HeadOf file s.head) (is : IsS
   unfolding after
   become = record {
     segments = segments;
-    is = resync n h.scan_at bytes in_step.0 EndOfImage c tt;
+    is = resync n h.scan_at bytes in_step.0 EndOfImage c tt over;
     bytes = refl;
     breaks = refl;
     ended = refl;

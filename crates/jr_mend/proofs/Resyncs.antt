@@ -1,12 +1,11 @@
 -- Markers with the bytes after them, one after the other.
-use Rattle.std.proofs.Common.{◌≡◌, ◌≢◌, ℕ, zero, suc, ◌+◌, ◌%◌, ◌<◌, List, [], ◌∷◌, ◌++◌, length, replicate, refl, sym, ap, subst, ◌∙◌, append_assoc, length-append, Option, Some, None, arith}
+use Rattle.std.proofs.Common.{◌≡◌, ◌≢◌, ℕ, zero, suc, ◌+◌, ◌%◌, ◌<◌, inl, inr, List, [], ◌∷◌, ◌++◌, length, replicate, refl, sym, ap, subst, ◌∙◌, append_assoc, length-append, Option, Some, None, arith}
 use Rattle.std.specs.List.{AllZip, flat_map}
 use Rattle.jr_cut.specs.declared.scan_end.ScanEnd.{ScanEnd}
 use Rattle.jr_cut.specs.Cut.{IsRaw}
 use Rattle.jr_cut.proofs.Cuts.{raw_none}
 use Rattle.jr_cut.specs.declared.breaks.Break.{Break}
-use Rattle.jr_mend.specs.Markers.{markers_in, most_missing}
-use Rattle.jr_mend.specs.Resync.{EndsResync, IsMeaning, Part, PartsFrom, Resync, break_at, last_number, new_segments, number_after, part_bytes, since_after}
+use Rattle.jr_mend.specs.Resync.{EndsResync, MeansIn, Part, PartsFrom, Resync, break_at, last_number, new_segments, number_after, part_bytes, since_after}
 
 -- ---- segments of a part
 
@@ -18,9 +17,10 @@ count_after k (Some d) raws raw e = omega (arith, e, length-append raws (replica
     long zero = refl
     long (suc d) = ap suc (long d)
 
-pub few_after : (n k limit code : ℕ) (a : Option ℕ) → IsMeaning n k limit code a → number_after k a < n
-few_after n k limit code None m = omega (arith, m.3)
-few_after n k limit code (Some d) m = omega (arith, m.0)
+pub few_after : (n size since k : ℕ) (bytes : List ℕ) (code : ℕ) (a : Option ℕ) → MeansIn n size since k bytes code a → number_after k a < n
+few_after n size since k bytes code a (inr p) = omega (arith, p.further, ap (number_after k) p.none)
+few_after n size since k bytes code None (inl m) = omega (arith, m.3)
+few_after n size since k bytes code (Some d) (inl m) = omega (arith, m.0)
 
 pub zip_append : (xs ys us vs : List (List ℕ)) → AllZip IsRaw xs ys → AllZip IsRaw us vs → AllZip IsRaw (xs ++ us) (ys ++ vs)
 zip_append [] [] us vs a b = b
@@ -62,7 +62,7 @@ parts_last n size since k at tail end ends =
 abbrev pub with_part : (at k : ℕ) → Part → Resync → Resync
 with_part at k p r = record { raws = new_segments p.missing p.raw ++ r.raws; datas = new_segments p.missing p.bytes ++ r.datas; breaks = break_at at k p.code p.missing ++ r.breaks; end = r.end }
 
-pub parts_next : (n size since k at : ℕ) (p : Part) (bytes rest : List ℕ) (r : Resync) → IsMeaning n k (most_missing n size since k (markers_in 0 bytes)) p.code p.missing → IsRaw p.raw p.bytes → bytes ≡ part_bytes p ++ rest → PartsFrom n size (since_after since p.missing (length (part_bytes p))) (number_after k p.missing) (at + length (part_bytes p)) rest r → PartsFrom n size since k at bytes (with_part at k p r)
+pub parts_next : (n size since k at : ℕ) (p : Part) (bytes rest : List ℕ) (r : Resync) → MeansIn n size since k bytes p.code p.missing → IsRaw p.raw p.bytes → bytes ≡ part_bytes p ++ rest → PartsFrom n size (since_after since p.missing (length (part_bytes p))) (number_after k p.missing) (at + length (part_bytes p)) rest r → PartsFrom n size since k at bytes (with_part at k p r)
 parts_next n size since k at p bytes rest r means raw e f =
     let here = part_bytes p in
     let behind = flat_map part_bytes f.parts in
@@ -71,7 +71,7 @@ parts_next n size since k at p bytes rest r means raw e f =
     record {
       parts = p ∷ f.parts;
       tail = f.tail;
-      are = (subst (λ (x : List ℕ). IsMeaning n k (most_missing n size since k (markers_in 0 x)) p.code p.missing) spelled means, raw, f.are);
+      are = (subst (λ (x : List ℕ). MeansIn n size since k x p.code p.missing) spelled means, raw, f.are);
       spelled = spelled;
       raws = ap (λ (x : List (List ℕ)). new_segments p.missing p.raw ++ x) f.raws;
       datas = ap (λ (x : List (List ℕ)). new_segments p.missing p.bytes ++ x) f.datas;

@@ -19,20 +19,20 @@ use Rattle.jr_mend.specs.declared.resync.ResyncFault.TheVariants.{Memory, TooLon
 use Rattle.jr_mend.specs.declared.resync.Resynced.{Resynced}
 use Rattle.jr_mend.specs.declared.markers.ScanMarker.{ScanMarker}
 use Rattle.jr_mend.specs.declared.outlook.Outlook.{Outlook}
-use Rattle.jr_mend.specs.Markers.{counted_back, has_end, markers_in, restarts, scan_bytes}
-use Rattle.jr_mend.specs.Resync.{EndsResync, IsMeaning, IsResync, PartsFrom, Resync, break_at, new_segments, number_after, since_after}
+use Rattle.jr_mend.specs.Markers.{counted_back, has_end, is_restart, restarts, scan_bytes, scan_markers}
+use Rattle.jr_mend.specs.Resync.{EndsResync, IsResync, MeansIn, PartsFrom, Resync, break_at, new_segments, number_after, since_after}
 use Rattle.jr_mend.specs.Splice.{joined_intervals, spliced}
 
--- bytes after segment k of n begin with this marker, before which at most the given number may be missing
-pub record Meets (n k limit : ℕ) (tail : List ℕ) (m : FoundMarker) : Type 0 where
+-- bytes after segment k of n begin with this marker
+pub record Meets (n size since k : ℕ) (tail : List ℕ) (m : FoundMarker) : Type 0 where
   pub more : ℕ
   pub long : m.length ≡ more + 2
   pub spelled : tail ≡ marker more m.code ++ drop m.length tail
-  pub means : IsMeaning n k limit m.code m.missing
+  pub means : MeansIn n size since k tail m.code m.missing
 
-abbrev pub IsFollowing : (n k limit at : ℕ) → List ℕ → Following → Type 0
-IsFollowing n k limit at tail (End end) = EndsResync n k at tail end
-IsFollowing n k limit at tail (Marker m) = Meets n k limit tail m
+abbrev pub IsFollowing : (n size since k at : ℕ) → List ℕ → Following → Type 0
+IsFollowing n size since k at tail (End end) = EndsResync n k at tail end
+IsFollowing n size since k at tail (Marker m) = Meets n size since k tail m
 
 -- what is known of the markers that lie ahead
 pub record IsOutlook (n : ℕ) (ms : List ScanMarker) (o : Outlook) : Type 0 where
@@ -51,7 +51,7 @@ pub record Takes (file : List ℕ) (old new : Reading) (m : FoundMarker) : Type 
   pub number : new.k ≡ number_after old.k m.missing
   pub since : new.since ≡ since_after old.since m.missing (m.length + len)
   pub size : new.outlook.size ≡ old.outlook.size
-  pub outlook : (n : ℕ) (x : ScanMarker) (ms : List ScanMarker) → x.code ≡ m.code → x.code ≢ EOI → IsOutlook n (x ∷ ms) old.outlook → IsOutlook n ms new.outlook
+  pub outlook : (n : ℕ) (x : ScanMarker) (ms : List ScanMarker) → is_restart x.code ≡ is_restart m.code → x.code ≢ EOI → IsOutlook n (x ∷ ms) old.outlook → IsOutlook n ms new.outlook
   pub breaks : new.breaks.items ≡ old.breaks.items ++ break_at old.at old.k m.code m.missing
   pub written : (front : List ℕ) (raws : List (List ℕ)) → length raws ≡ suc old.k → old.bytes.items ≡ front ++ joined_intervals raws → new.bytes.items ≡ front ++ joined_intervals (raws ++ new_segments m.missing (take len (drop (old.at + m.length) file)))
 
@@ -63,8 +63,8 @@ pub record HasResyncedTo (file : List ℕ) (h : HeadValue) (w : Reading) : Type 
   pub few : w.k < intervals_of h
   pub each : AllZip IsRaw raws datas
   pub near : h.scan_at + w.since ≤ w.at
-  pub size : w.outlook.size ≡ scan_bytes (markers_in 0 (drop h.scan_at file))
-  pub outlook : IsOutlook (intervals_of h) (markers_in 0 (drop w.at file)) w.outlook
+  pub size : w.outlook.size ≡ scan_bytes (scan_markers (intervals_of h) (drop h.scan_at file))
+  pub outlook : IsOutlook (intervals_of h) (scan_markers (intervals_of h) (drop w.at file)) w.outlook
   pub within : w.at ≤ length file
   pub stop : IsStop (drop w.at file)
   pub written : w.bytes.items ≡ take h.scan_at file ++ joined_intervals raws
@@ -85,9 +85,9 @@ pub record Becomes (file : List ℕ) (h : HeadValue) (new : List ℕ) (found : L
 abbrev pub IsResynced : (file : List ℕ) → HeadValue → Resynced → Type 0
 IsResynced file h r = Becomes file h r.file.items r.breaks.items r.ended
 
--- the restart markers of the file are those that are due, and EOI ends its scan
+-- the file has all its intervals, with the restart markers that are due, and EOI after them
 abbrev pub IsFileInStep : (file : List ℕ) → HeadValue → Type 0
-IsFileInStep file h = (datas : List (List ℕ)) × IsCut (intervals_of h) h.scan_at (drop h.scan_at file) datas EndOfImage
+IsFileInStep file h = (datas : List (List ℕ)) × IsCut (intervals_of h) h.scan_at (drop h.scan_at file) datas EndOfImage × (length datas ≡ intervals_of h)
 
 -- the file that it would become is too long
 pub record IsTooLong (file : List ℕ) (h : HeadValue) : Type 0 where

@@ -1,13 +1,13 @@
 -- How the bytes of a scan fall into intervals if markers or data are lost: restart markers are counted modulo 8, so that a
 -- decoder can find how many are missing before one (T.81, B.1.1.5, E.1.4 and E.2.4).
-use Rattle.std.specs.Prelude.{◌≡◌, ◌≢◌, ℕ, zero, suc, ◌+◌, ◌%◌, ◌<◌, ◌≤◌, ◌⊎◌, List, [], ◌∷◌, ◌++◌, length, replicate, Option, Some, None}
+use Rattle.std.specs.Prelude.{◌≡◌, ◌≢◌, ℕ, zero, suc, ◌+◌, ◌%◌, ◌<◌, ◌≤◌, ◌⊎◌, List, [], ◌∷◌, ◌++◌, length, drop, replicate, true, false, Option, Some, None}
 use Rattle.std.specs.List.{flat_map}
 use Rattle.jr_base.specs.declared.marker.TheConstants.{EOI, PREFIX, RST0}
 use Rattle.jr_cut.specs.declared.scan_end.ScanEnd.{ScanEnd}
 use Rattle.jr_cut.specs.declared.scan_end.ScanEnd.TheVariants.{EndOfImage, OtherMarker, OutOfStep, ExtraRestart, EndOfFile}
 use Rattle.jr_cut.specs.Cut.{IsRaw, marker, IsEnding}
 use Rattle.jr_cut.specs.declared.breaks.Break.{Break}
-use Rattle.jr_mend.specs.Markers.{markers_in, most_missing, scan_bytes}
+use Rattle.jr_mend.specs.Markers.{is_over, markers_in, most_missing, scan_bytes, scan_markers}
 
 -- after segment k of n: the restart marker d ahead of the one that is due, and the segment that follows it is one of the
 -- scan; of the numbers that equal this one modulo 8, the one that is due, otherwise the last up to the limit
@@ -19,9 +19,17 @@ abbrev pub IsMeaning : (n k limit code : ℕ) → Option ℕ → Type 0
 IsMeaning n k limit code (Some d) = IsAhead n k limit code d
 IsMeaning n k limit code None = (0 < code) × (code < PREFIX) × (code ≢ EOI) × (k + 1 < n) × ((d : ℕ) → IsAhead n k limit code d → ⊥)
 
--- what ends the scan after segment k: the end of the file, EOI, or any marker if it was the last segment
+-- these bytes, after segment k, begin with an EOI after which the scan continues: it is passed over
+pub record PassesEnd (n k : ℕ) (bytes : List ℕ) (code : ℕ) (missing : Option ℕ) : Type 0 where
+  pub further : k + 1 < n
+  pub eoi : code ≡ EOI
+  pub on : is_over n (markers_in 0 bytes) ≡ false
+  pub none : missing ≡ None
+
+-- what ends the scan after segment k: the end of the file, an EOI after which it does not continue, or any marker if it was the
+-- last segment
 abbrev pub EndsResync : (n k at : ℕ) → List ℕ → ScanEnd → Type 0
-EndsResync n k at tail end = IsEnding n k at tail end × ((end ≡ EndOfFile) ⊎ ((end ≡ EndOfImage) ⊎ (k + 1 ≡ n)))
+EndsResync n k at tail end = IsEnding n k at tail end × ((end ≡ EndOfFile) ⊎ (((end ≡ EndOfImage) × (is_over n (markers_in 0 tail) ≡ true)) ⊎ (k + 1 ≡ n)))
 
 -- a marker, its further FF and what it means, and the bytes up to the next marker, as coded, and what they spell
 pub record Part : Type 0 where
@@ -48,10 +56,16 @@ abbrev pub since_after : (since : ℕ) → Option ℕ → (part : ℕ) → ℕ
 since_after since None part = since + part
 since_after since (Some d) part = part
 
+-- what a marker means with which these bytes, after segment k, begin
+abbrev pub MeansIn : (n size since k : ℕ) → List ℕ → ℕ → Option ℕ → Type 0
+MeansIn n size since k bytes code missing =
+    IsMeaning n k (most_missing n size since k (scan_markers n bytes)) code missing ⊎ PassesEnd n k bytes code missing
+
 -- parts of a scan of that size, before the bytes of which `tail` are the last
 abbrev pub AreParts : (n size since k : ℕ) → (tail : List ℕ) → List Part → Type 0
 AreParts n size since k tail [] = Unit {0}
-AreParts n size since k tail (p ∷ ps) = IsMeaning n k (most_missing n size since k (markers_in 0 (flat_map part_bytes (p ∷ ps) ++ tail))) p.code p.missing × IsRaw p.raw p.bytes × AreParts n size (since_after since p.missing (length (part_bytes p))) (number_after k p.missing) tail ps
+AreParts n size since k tail (p ∷ ps) =
+    MeansIn n size since k (flat_map part_bytes (p ∷ ps) ++ tail) p.code p.missing × IsRaw p.raw p.bytes × AreParts n size (since_after since p.missing (length (part_bytes p))) (number_after k p.missing) tail ps
 
 -- segments without bytes for those that are missing, and these bytes; bytes after a marker that is passed over are no segment's
 abbrev pub new_segments : Option ℕ → List ℕ → List (List ℕ)
@@ -95,8 +109,16 @@ pub record IsResync (n at : ℕ) (bytes : List ℕ) (r : Resync) : Type 0 where
   pub after : Resync
   pub is_raw : IsRaw raw first
   pub spelled : bytes ≡ raw ++ rest
-  pub parts : PartsFrom n (scan_bytes (markers_in 0 bytes)) (length raw) 0 (at + length raw) rest after
+  pub parts : PartsFrom n (scan_bytes (scan_markers n bytes)) (length raw) 0 (at + length raw) rest after
   pub is : r ≡ record { raws = raw ∷ after.raws; datas = first ∷ after.datas; breaks = after.breaks; end = after.end }
+
+-- the scan continues neither after the first marker of this tail, nor if more bytes follow
+abbrev pub EndsFor : (n : ℕ) → (tail more : List ℕ) → Type 0
+EndsFor n tail more = (is_over n (markers_in 0 tail) ≡ true) × (is_over n (markers_in 0 (tail ++ more)) ≡ true)
+
+-- after no EOI in these bytes does the scan continue
+abbrev pub HasNoFalseEnd : (n : ℕ) → List ℕ → Type 0
+HasNoFalseEnd n bytes = (k : ℕ) → is_over n (markers_in 0 (drop k bytes)) ≡ true
 
 -- a scan that ends so has the restart markers that are due, as far as it goes
 abbrev pub IsInStep : ScanEnd → Type 0

@@ -4,11 +4,11 @@ ghost use Rattle.std.specs.Prelude.{◌≡◌, ◌≢◌, ℕ, ◌+◌, ◌<◌,
 ghost use Rattle.jr_base.specs.declared.limits.TheConstants.{MAX_FILE_BYTES};
 ghost use Rattle.jr_base.specs.declared.marker.TheConstants.{EOI, PREFIX};
 ghost use Rattle.jr_cut.specs.Cut.{HasMarker, IsStop};
-ghost use Rattle.jr_mend.specs.Markers.{markers_in, most_missing};
+ghost use Rattle.jr_mend.specs.Markers.{most_missing, scan_markers};
 ghost use Rattle.jr_mend.specs.Reading.{IsFollowing, IsOutlook};
 ghost use Rattle.jr_mend.specs.Resync.{EndsResync, IsMeaning};
 
-use crate::markers::is_restart;
+use crate::markers::{is_continued, is_restart};
 use crate::outlook::Outlook;
 use jr_base::marker::{EOI, RST0, RST7, fill_count};
 use jr_cut::ScanEnd;
@@ -75,8 +75,8 @@ fn missing_in(
     requires not_fill { slice_index_or tail.now fill 0 ≢ PREFIX }
     requires not_end { slice_index_or tail.now fill 0 ≢ EOI }
     requires few { since ≤ MAX_FILE_BYTES }
-    requires known { IsOutlook intervals (markers_in 0 tail.now) outlook }
-    ensures { IsMeaning intervals k (most_missing intervals outlook.size since k (markers_in 0 tail.now)) (slice_index_or tail.now fill 0) result }
+    requires known { IsOutlook intervals (scan_markers intervals tail.now) outlook }
+    ensures { IsMeaning intervals k (most_missing intervals outlook.size since k (scan_markers intervals tail.now)) (slice_index_or tail.now fill 0) result }
 {
     let code = tail[fill];
     if !is_restart(code) || (code - RST0) as u32 == k % 8 {
@@ -90,9 +90,11 @@ fn missing_in(
 fn end_after_last(code: u8, at: u64) -> ScanEnd
     requires not_stuffing { code ≢ 0 }
     requires not_fill { code ≢ PREFIX }
-    requires not_end { code ≢ EOI }
     ensures { (n k : ℕ) (tail : List ℕ) → k + 1 ≡ n → HasMarker tail code → EndsResync n k at tail result }
 {
+    if code == EOI {
+        return ScanEnd::EndOfImage;
+    }
     if code >= RST0 && code <= RST7 {
         return ScanEnd::ExtraRestart(at);
     }
@@ -111,23 +113,30 @@ pub(crate) fn following_at(
     requires few { k < intervals }
     requires stop { IsStop tail.now }
     requires short { since ≤ MAX_FILE_BYTES }
-    requires known { IsOutlook intervals (markers_in 0 tail.now) outlook }
-    ensures { IsFollowing intervals k (most_missing intervals outlook.size since k (markers_in 0 tail.now)) at tail.now result }
+    requires known { IsOutlook intervals (scan_markers intervals tail.now) outlook }
+    ensures { IsFollowing intervals outlook.size since k at tail.now result }
 {
     let fill = fill_count(tail);
     if fill == tail.len() {
         return Following::End(ScanEnd::EndOfFile);
     }
     let code = tail[fill];
-    if code == EOI {
-        return Following::End(ScanEnd::EndOfImage);
-    }
     if k + 1 == intervals {
         return Following::End(end_after_last(code, at));
+    }
+    if code != EOI {
+        return Following::Marker(FoundMarker {
+            code,
+            length: fill + 1,
+            missing: missing_in(tail, fill, k, intervals, since, outlook),
+        });
+    }
+    if !is_continued(tail, intervals) {
+        return Following::End(ScanEnd::EndOfImage);
     }
     Following::Marker(FoundMarker {
         code,
         length: fill + 1,
-        missing: missing_in(tail, fill, k, intervals, since, outlook),
+        missing: None,
     })
 }

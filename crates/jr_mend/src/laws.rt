@@ -1,6 +1,6 @@
 //! What holds of every file that is written of coded intervals, and of every scan that is resynchronised.
 
-ghost use Rattle.std.specs.Prelude.{◌≡◌, ◌<◌, [], ◌≤◌, ◌++◌, ℕ, List, length, take};
+ghost use Rattle.std.specs.Prelude.{◌≡◌, ◌<◌, [], ◌≤◌, ◌++◌, ◌⊎◌, ℕ, List, length, take, drop};
 ghost use Rattle.std.specs.List.{All, AllZip};
 ghost use Rattle.jr_base.specs.declared.limits.TheConstants.{MAX_FILE_BYTES};
 ghost use Rattle.jr_cut.specs.declared.scan_end.ScanEnd.{ScanEnd};
@@ -10,7 +10,7 @@ ghost use Rattle.jr_head.specs.HeadValue.{HeadValue};
 ghost use Rattle.jr_head.specs.Heads.{HeadOf};
 ghost use Rattle.jr_mend.specs.declared.resync.Resynced.{Resynced};
 ghost use Rattle.jr_mend.specs.Reading.{Becomes, IsFileInStep, IsResynced};
-ghost use Rattle.jr_mend.specs.Resync.{IsInStep, IsResync, Resync};
+ghost use Rattle.jr_mend.specs.Resync.{EndsFor, HasNoFalseEnd, IsInStep, IsResync, Resync};
 ghost use Rattle.jr_mend.specs.Splice.{coded_intervals, spliced};
 ghost use Rattle.jr_scan.specs.ScanValue.{IsSameScan, IsScanOf, ScanValue, intervals_of, scan_of_segments};
 
@@ -36,9 +36,10 @@ pub fn one_resync()
     ensures { (n at : ℕ) (bytes : List ℕ) (a b : Resync) → IsResync n at bytes a → IsResync n at bytes b → a ≡ b }
 {}
 
-/// States that a scan whose restart markers are in step is resynchronised to the segments that it is cut into.
+/// States that a scan whose restart markers are in step is resynchronised to the segments that it is cut into, if it has all
+/// of them or does not continue after an EOI.
 pub fn in_step_stays()
-    ensures { (n at : ℕ) (bytes : List ℕ) (datas : List (List ℕ)) (end : ScanEnd) (r : Resync) → IsCut n at bytes datas end → IsInStep end → IsResync n at bytes r → (r.datas ≡ datas) × (r.breaks ≡ []) × (r.end ≡ end) }
+    ensures { (n at : ℕ) (bytes : List ℕ) (datas : List (List ℕ)) (end : ScanEnd) (r : Resync) → IsCut n at bytes datas end → IsInStep end → (length datas ≡ n) ⊎ HasNoFalseEnd n bytes → IsResync n at bytes r → (r.datas ≡ datas) × (r.breaks ≡ []) × (r.end ≡ end) }
 {}
 
 /// States that the bytes of each scan can be resynchronised, whatever they are, if it has intervals.
@@ -46,18 +47,20 @@ pub fn each_scan_resyncs()
     ensures { (n at : ℕ) (bytes : List ℕ) → 0 < n → All (λ b. b < 256) bytes → (r : Resync) × IsResync n at bytes r }
 {}
 
-/// States that a file whose restart markers are in step, once it is resynchronised, has the data that it had in each interval.
+/// States that a file whose restart markers are in step, and whose scan continues after no EOI, has once it is resynchronised
+/// the data that it had in each interval.
 pub fn file_in_step_stays()
-    ensures { (file : List ℕ) (h : HeadValue) (r : Resynced) (s t : ScanValue) → IsResynced file h r → s.head ≡ h → t.head ≡ h → IsScanOf file s → IsInStep s.ended → IsScanOf r.file.items t → IsSameScan s t }
+    ensures { (file : List ℕ) (h : HeadValue) (r : Resynced) (s t : ScanValue) → IsResynced file h r → s.head ≡ h → t.head ≡ h → IsScanOf file s → IsInStep s.ended → HasNoFalseEnd (intervals_of h) (drop h.scan_at file) → IsScanOf r.file.items t → IsSameScan s t }
 {}
 
-/// States that a file whose restart markers are in step and whose scan ends with EOI becomes one with its own scan, without breaks.
+/// States that a file with all its intervals in step, and EOI, becomes one with its own scan, without breaks.
 pub fn file_in_step_is_resynced()
     ensures { (file : List ℕ) (s : ScanValue) → HeadOf file s.head → IsScanOf file s → IsFileInStep file s.head → (new : List ℕ) × Becomes file s.head new [] EndOfImage × IsScanOf new s }
 {}
 
-/// States that bytes after EOI change nothing: a scan that EOI ends, and a file, are resynchronised as without them.
+/// States that bytes after EOI change nothing, unless the scan continues in them: a scan that EOI ends, and a file, are
+/// resynchronised as without them.
 pub fn bytes_after_image_are_ignored()
-    ensures scan { (n at : ℕ) (bytes more : List ℕ) (r : Resync) → IsResync n at bytes r → r.end ≡ EndOfImage → IsResync n at (bytes ++ more) r }
-    ensures file { (file more : List ℕ) (h : HeadValue) (r : Resynced) → HeadOf file h → IsResynced file h r → r.ended ≡ EndOfImage → IsResynced (file ++ more) h r }
+    ensures scan { (n at : ℕ) (bytes more : List ℕ) (r : Resync) (is : IsResync n at bytes r) → r.end ≡ EndOfImage → EndsFor n is.parts.tail more → IsResync n at (bytes ++ more) r }
+    ensures file { (file more : List ℕ) (h : HeadValue) (r : Resynced) → HeadOf file h → (made : IsResynced file h r) → r.ended ≡ EndOfImage → EndsFor (intervals_of h) made.is.parts.tail more → IsResynced (file ++ more) h r }
 {}

@@ -4,10 +4,10 @@ ghost use Rattle.std.specs.Prelude.{◌≡◌, ◌≢◌, ◌+◌, ◌<◌, ◌�
 ghost use Rattle.jr_base.specs.declared.limits.TheConstants.{MAX_FILE_BYTES};
 ghost use Rattle.jr_base.specs.declared.marker.TheConstants.{EOI, RST0, RST7};
 ghost use Rattle.jr_mend.specs.declared.markers.ScanMarker.{ScanMarker};
-ghost use Rattle.jr_mend.specs.Markers.{counted_back, has_end, held, is_back, is_run, markers_in, most_missing, restarts, scan_bytes};
+ghost use Rattle.jr_mend.specs.Markers.{counted_back, has_end, held, is_back, is_restart, is_run, most_missing, restarts, scan_bytes, scan_markers};
 ghost use Rattle.jr_mend.specs.Reading.{IsOutlook};
 
-use crate::markers::{first_marker, is_restart};
+use crate::markers::{is_restart, next_marker};
 use jr_base::marker::{EOI, RST0};
 
 /// The maximum number of restart markers missing before one that others follow in step, beyond the number of intervals that
@@ -29,16 +29,16 @@ pub(crate) struct ScanCounts {
 }
 
 /// Counts the bytes and the restart markers of a scan up to EOI.
-pub(crate) fn counts_of(bytes: &[u8]) -> ScanCounts
-    ensures size { result.size ≡ scan_bytes (markers_in 0 bytes.now) }
-    ensures restarts { result.restarts ≡ restarts (markers_in 0 bytes.now) }
-    ensures end { result.is_ended ≡ has_end (markers_in 0 bytes.now) }
+pub(crate) fn counts_of(bytes: &[u8], intervals: u32) -> ScanCounts
+    ensures size { result.size ≡ scan_bytes (scan_markers intervals bytes.now) }
+    ensures restarts { result.restarts ≡ restarts (scan_markers intervals bytes.now) }
+    ensures end { result.is_ended ≡ has_end (scan_markers intervals bytes.now) }
     ensures few { result.restarts ≤ length bytes.now }
 {
     let mut size: usize = 0;
     let mut restarts: usize = 0;
     'markers: loop {
-        let Some(found) = first_marker(&bytes[size..]) else {
+        let Some(found) = next_marker(&bytes[size..], intervals) else {
             return ScanCounts {
                 size,
                 restarts,
@@ -70,14 +70,14 @@ fn is_back(intervals: u32, left: usize, code: u8) -> bool
 /// Returns the number of restart markers before EOI, of the given number in all, from the last one back, that are those
 /// before the last intervals.
 pub(crate) fn counted_back(bytes: &[u8], intervals: u32, all: usize) -> usize
-    requires { all ≡ restarts (markers_in 0 bytes.now) }
-    ensures { result ≡ counted_back intervals (markers_in 0 bytes.now) }
+    requires { all ≡ restarts (scan_markers intervals bytes.now) }
+    ensures { result ≡ counted_back intervals (scan_markers intervals bytes.now) }
 {
     let mut at: usize = 0;
     let mut left = all;
     let mut run: usize = 0;
     'markers: loop {
-        let Some(found) = first_marker(&bytes[at..]) else {
+        let Some(found) = next_marker(&bytes[at..], intervals) else {
             return run;
         };
         if found.code == EOI {
@@ -96,13 +96,13 @@ pub(crate) fn counted_back(bytes: &[u8], intervals: u32, all: usize) -> usize
 }
 
 /// Returns whether the restart markers in bytes, the first of which has this number modulo 8, are in step over `SURE_BYTES`.
-pub(crate) fn is_run(bytes: &[u8], number: u8) -> bool
-    ensures { result ≡ is_run number SURE_BYTES (markers_in 0 bytes.now) }
+pub(crate) fn is_run(bytes: &[u8], intervals: u32, number: u8) -> bool
+    ensures { result ≡ is_run number SURE_BYTES (scan_markers intervals bytes.now) }
 {
     let mut at: usize = 0;
     let mut due = number as usize;
     'markers: loop {
-        let Some(found) = first_marker(&bytes[at..]) else {
+        let Some(found) = next_marker(&bytes[at..], intervals) else {
             return false;
         };
         if found.code == EOI {
@@ -147,10 +147,10 @@ pub(crate) struct Outlook {
 impl Outlook {
     /// Reads the markers of a scan up to EOI, twice.
     pub(crate) fn of(bytes: &[u8], intervals: u32) -> Outlook
-        ensures size { result.size ≡ scan_bytes (markers_in 0 bytes.now) }
-        ensures is { IsOutlook intervals (markers_in 0 bytes.now) result }
+        ensures size { result.size ≡ scan_bytes (scan_markers intervals bytes.now) }
+        ensures is { IsOutlook intervals (scan_markers intervals bytes.now) result }
     {
-        let counts = counts_of(bytes);
+        let counts = counts_of(bytes, intervals);
         Outlook {
             size: counts.size,
             left: counts.restarts,
@@ -162,7 +162,7 @@ impl Outlook {
     /// Returns what is known after a marker.
     pub(crate) fn after(self, code: u8) -> Outlook
         ensures size { result.size ≡ self.size }
-        ensures is { (n : ℕ) (m : ScanMarker) (ms : List ScanMarker) → m.code ≡ code → m.code ≢ EOI → IsOutlook n (m ∷ ms) self → IsOutlook n ms result }
+        ensures is { (n : ℕ) (m : ScanMarker) (ms : List ScanMarker) → is_restart m.code ≡ is_restart code → m.code ≢ EOI → IsOutlook n (m ∷ ms) self → IsOutlook n ms result }
     {
         let mut after = self;
         if is_restart(code) {
@@ -184,7 +184,7 @@ impl Outlook {
         requires low { RST0 ≤ code }
         requires high { code ≤ RST7 }
         requires few { since ≤ MAX_FILE_BYTES }
-        ensures { (m : ScanMarker) → m.code ≡ code → IsOutlook intervals (m ∷ markers_in 0 after.now) self → result ≡ most_missing intervals self.size since k (m ∷ markers_in 0 after.now) }
+        ensures { (m : ScanMarker) → m.code ≡ code → IsOutlook intervals (m ∷ scan_markers intervals after.now) self → result ≡ most_missing intervals self.size since k (m ∷ scan_markers intervals after.now) }
     {
         if 2 * intervals as usize > self.size {
             return 0;
@@ -194,7 +194,7 @@ impl Outlook {
                 .saturating_sub(self.left as u64)
                 .saturating_sub(k as u64 + 1);
         }
-        let early = if is_run(after, code - RST0 + 1) {
+        let early = if is_run(after, intervals, code - RST0 + 1) {
             MAX_EARLY
         } else {
             0

@@ -14,9 +14,9 @@ segments-init c =
     due_first c.args.intervals c.args.bytes.now c.segment_length-at.result c.requires first.within first.data first.stop
 
 pub returns-in-End-EndOfImage : goal.returns-in-End-EndOfImage
-returns-in-End-EndOfImage c = λ _.
+returns-in-End-EndOfImage c = λ last.
     let bytes = c.args.bytes.now in
-    due_end c.args.intervals bytes c.segments.at c.segments.k c.segments.invariant (subst (λ (x : List ℕ). HasMarker x EOI) (rest_is bytes c.segments.at) (search (rules, c.in-End-EndOfImage.ensures)))
+    due_end c.args.intervals bytes c.segments.at c.segments.k c.segments.invariant (subst (λ (x : List ℕ). HasMarker x EOI) (rest_is bytes c.segments.at) (search (rules, c.in-End-EndOfImage.ensures))) (search (rules, last))
 
 pub segments-preserved : goal.segments-preserved
 segments-preserved c =

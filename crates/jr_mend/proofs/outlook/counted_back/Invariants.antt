@@ -1,5 +1,5 @@
 use Rattle.std.proofs.Common.{◌≡◌, ◌-◌, ◌≤◌, drop, length}
-use Rattle.jr_mend.specs.Markers.{counted_back, markers_in, restarts}
+use Rattle.jr_mend.specs.Markers.{counted_back, scan_markers, restarts}
 use Rattle.jr_mend.proofs.MarkersLaw.{joined}
 use Rattle.jr_mend.proofs.outlook.counted_back.Given as goal
 
@@ -7,8 +7,8 @@ abbrev pub invariant-markers : goal.invariant-markers
 invariant-markers l = record {
   within : l.at ≤ length l.bytes;
   few : l.run ≤ l.at;
-  left : l.left ≡ restarts (markers_in 0 (drop l.at l.bytes));
-  counted : counted_back l.intervals (markers_in 0 l.bytes) ≡ joined l.intervals l.run (markers_in 0 (drop l.at l.bytes));
+  left : l.left ≡ restarts (scan_markers l.intervals (drop l.at l.bytes));
+  counted : counted_back l.intervals (scan_markers l.intervals l.bytes) ≡ joined l.intervals l.run (scan_markers l.intervals (drop l.at l.bytes));
 }
 
 abbrev pub decreases-markers : goal.decreases-markers

@@ -1,6 +1,6 @@
 use Rattle.std.proofs.Common.{◌≡◌, ◌+◌, ◌-◌, ◌<◌, ◌++◌, ◌∷◌, [], ℕ, List, take, drop, refl, ap, subst, ◌∙◌, arith}
 use Rattle.jr_cut.proofs.Cuts.{rest_is}
-use Rattle.jr_mend.specs.Markers.{markers_in, scan_bytes}
+use Rattle.jr_mend.specs.Markers.{scan_markers, scan_bytes}
 use Rattle.jr_mend.specs.Reading.{IsOutlook}
 use Rattle.jr_mend.specs.Splice.{joined_intervals}
 use Rattle.jr_mend.proofs.Readings.{Segment, read_first, segment, slice_is}
@@ -25,7 +25,8 @@ returns c =
     let written : c.write_interval.new.bytes.items ≡ front ++ joined_intervals (raw ∷ []) = grind (arith, c.in_ok-write_interval.ensures.joined_intervals front [] refl before, slice) in
     let since = size_is c.scan_at-start.result len in
     let rest = rest_is file c.scan_at-start.result ∙ ap (λ (a : ℕ). drop a file) start in
-    let size = subst (λ (x : List ℕ). c.of.result.size ≡ scan_bytes (markers_in 0 x)) rest c.of.ensures.size in
-    let is = subst (λ (x : List ℕ). IsOutlook c.intervals.result (markers_in 0 x) c.of.result) rest c.of.ensures.is in
-    let known = subst (λ (n : ℕ). IsOutlook n (markers_in 0 (drop at file)) c.of.result) c.intervals.ensures.value is in
-    read_first file h _ len told some refl (ap (λ a. a + len) start) c.new.ensures.items since size known written
+    let size = subst (λ (x : List ℕ). c.of.result.size ≡ scan_bytes (scan_markers c.intervals.result x)) rest c.of.ensures.size in
+    let sized = subst (λ (n : ℕ). c.of.result.size ≡ scan_bytes (scan_markers n (drop at file))) c.intervals.ensures.value size in
+    let is = subst (λ (x : List ℕ). IsOutlook c.intervals.result (scan_markers c.intervals.result x) c.of.result) rest c.of.ensures.is in
+    let known = subst (λ (n : ℕ). IsOutlook n (scan_markers n (drop at file)) c.of.result) c.intervals.ensures.value is in
+    read_first file h _ len told some refl (ap (λ a. a + len) start) c.new.ensures.items since sized known written
