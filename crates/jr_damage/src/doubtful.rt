@@ -63,7 +63,7 @@ fn has_doubtful(unit: &Coefficients, quantisers: &Quantisers) -> bool
 }
 
 /// Returns whether an MCU has a doubtful value, by its data units.
-fn is_doubtful_mcu(head: &Head, units: &[Coefficients]) -> bool
+pub fn is_doubtful_mcu(head: &Head, units: &[Coefficients]) -> bool
     requires { length units.now ≡ length (order_of head.now) }
     ensures { IsTrue result ↔ IsDoubtfulMcu head.now units.now }
 {

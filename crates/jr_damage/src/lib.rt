@@ -17,7 +17,7 @@ mod verdict;
 pub use by_threads::check_scan_by;
 pub use damage::damaged_front;
 pub use decodable::decodable_end;
-pub use doubtful::{DoubtfulMcu, first_doubtful};
+pub use doubtful::{DoubtfulMcu, first_doubtful, is_doubtful_mcu};
 pub use laws::one_count;
 pub use lines::{Lines, McuRange, lines_of, mcus_of};
 pub use map::{DamagedInterval, damaged_interval};

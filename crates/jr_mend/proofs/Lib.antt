@@ -13,3 +13,5 @@ pub mod FilesInStep
 pub mod LocalLaws
 pub mod DueMarkers
 pub mod ResyncedInStep
+pub mod CombinedBytes
+pub mod FurtherCopies

@@ -1,5 +1,6 @@
 pub mod Choice
 pub mod Copies
+pub mod Combined
 pub mod Mended
 pub mod Splice
 pub mod Markers

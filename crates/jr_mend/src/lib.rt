@@ -4,7 +4,9 @@
 #![tactic(auto)]
 
 mod buffers;
+mod byte_runs;
 mod choice;
+mod combining;
 mod file_copy;
 mod following;
 mod headers;
@@ -19,8 +21,11 @@ mod reading;
 mod resync;
 mod soundness;
 mod splice;
+mod spot;
 
+pub use byte_runs::{ByteRun, MIN_GAP, SECTOR_BYTES};
 pub use choice::{Choice, MAX_COPIES};
+pub use combining::{CombineError, Combined, FAR_BYTES, MAX_RUNS, combine};
 pub use file_copy::FileCopy;
 pub use headers::under_header;
 pub use in_step::is_in_step;
@@ -33,5 +38,5 @@ pub use locality::{damage_is_local, mending_is_exact};
 pub use mending::{MendError, Mended, mend};
 pub use outlook::{MAX_EARLY, SURE_BYTES};
 pub use resync::{ResyncFault, Resynced, resynchronised};
-pub use soundness::sound_if_any_is;
+pub use soundness::{sound_copies_come_first, sound_if_any_is};
 pub use splice::{write_header, write_image_end, write_interval};

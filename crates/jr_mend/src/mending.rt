@@ -38,7 +38,7 @@ pub enum MendError {
 }
 
 /// Returns the number of the first copy with another header than the first copy.
-fn other_head(copies: &[FileCopy]) -> Option<u32>
+pub(crate) fn other_head(copies: &[FileCopy]) -> Option<u32>
     requires some { 0 < length copies.now }
     requires few { length copies.now ≤ MAX_COPIES }
     ensures alike { IfNone result (AreAlike copies.now) }

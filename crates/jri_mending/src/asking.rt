@@ -35,7 +35,8 @@ written as it is. A report goes to standard error; with -o, that of --json to st
 output. Each copy is read past restart markers that are out of step, as after lost
 bytes, and one COPY is enough; --no-resync ends it at the first of them, and needs two.
 With --borrow-headers a COPY whose header is refused, or another one, is read under the
-header of the first COPY that has one.
+header of the first COPY that has one. If an interval is damaged in all copies, copies of
+one length are combined: where they differ, the bytes are taken that decode furthest.
 
 Exit status:
   0  every interval is sound

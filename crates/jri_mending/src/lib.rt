@@ -3,8 +3,10 @@
 
 mod asking;
 mod breaks;
+mod combined;
 mod ended;
 mod headers;
+mod outcome;
 mod preparing;
 mod reading;
 mod report;

@@ -5,7 +5,7 @@ ghost use Rattle.std.specs.Prelude.{◌≡◌, length};
 use crate::asking::MendRequest;
 use crate::breaks::CopyBreak;
 use crate::headers::{Borrowed, borrow_headers};
-use crate::reading::{CopyError, resync_files};
+use crate::reading::{CopyError, ResyncedFiles, resync_files};
 use std::alloc::Global;
 
 /// What is done to the copies before they are mended.
@@ -15,6 +15,8 @@ pub(crate) struct Prepared {
     pub(crate) borrowed: Vec<Borrowed>,
     /// The restart markers that are out of step.
     pub(crate) breaks: Vec<CopyBreak>,
+    /// For each copy what it becomes if it is resynchronised.
+    pub(crate) resynced: Vec<Option<Vec<u8>>>,
 }
 
 impl Prepared {
@@ -39,7 +41,7 @@ impl Prepared {
     }
 }
 
-/// Gives the copies their headers and brings their restart markers into step, as far as the request says. The error has the
+/// Gives the copies their headers and resynchronises them, as far as the request says. The error has the
 /// number of a copy.
 pub(crate) fn prepare(
     alloc: Global,
@@ -53,10 +55,20 @@ pub(crate) fn prepare(
     } else {
         Vec::new(alloc)
     };
-    let breaks = if asked.is_resync {
-        resync_files(alloc, files)?
-    } else {
-        Vec::new(alloc)
-    };
-    Ok(Prepared { borrowed, breaks })
+    if !asked.is_resync {
+        return Ok(Prepared {
+            borrowed,
+            breaks: Vec::new(alloc),
+            resynced: Vec::new(alloc),
+        });
+    }
+    let ResyncedFiles {
+        files: resynced,
+        breaks,
+    } = resync_files(alloc, files)?;
+    Ok(Prepared {
+        borrowed,
+        breaks,
+        resynced,
+    })
 }

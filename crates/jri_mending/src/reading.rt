@@ -1,6 +1,6 @@
 //! The copies that are read.
 
-ghost use Rattle.std.specs.Prelude.{◌≡◌, IfOk, length};
+ghost use Rattle.std.specs.Prelude.{◌≡◌, ◌<◌, IfOk, length};
 
 use crate::breaks::CopyBreak;
 use jr_base::limits::MAX_FILE_BYTES;
@@ -97,7 +97,7 @@ fn append_breaks(
 }
 
 /// Returns a file with its restart markers in step, unless they are, and appends its breaks.
-fn in_step(
+pub(crate) fn in_step(
     alloc: Global,
     file: &[u8],
     copy: usize,
@@ -142,34 +142,58 @@ pub(crate) fn read_files<D: Devices>(
     Ok(files)
 }
 
-/// Resynchronises the files that are not in step, and returns their breaks. The error has the number of a file.
+/// The files that are resynchronised.
+#[derive(Drop)]
+pub(crate) struct ResyncedFiles {
+    /// For each file what it becomes if it is out of step.
+    pub(crate) files: Vec<Option<Vec<u8>>>,
+    pub(crate) breaks: Vec<CopyBreak>,
+}
+
+/// Resynchronises the files that are not in step. The error has the number of a file.
 pub(crate) fn resync_files(
     alloc: Global,
-    files: &mut [Vec<u8>],
-) -> Result<Vec<CopyBreak>, (usize, CopyError)>
-    ensures { length files.new ≡ length files.old }
-{
+    files: &[Vec<u8>],
+) -> Result<ResyncedFiles, (usize, CopyError)> {
     let mut breaks = Vec::new(alloc);
+    let mut resynced = Vec::new(alloc);
     for k in 0..files.len() {
         match in_step(alloc, &files[k], k, &mut breaks) {
-            Ok(Some(file)) => files[k] = file,
-            Ok(None) => {}
+            Ok(file) => {
+                if resynced.push(file).is_err() {
+                    return Err((k, CopyError::Memory));
+                }
+            }
             Err(error) => return Err((k, error)),
         }
     }
-    Ok(breaks)
+    Ok(ResyncedFiles {
+        files: resynced,
+        breaks,
+    })
+}
+
+/// Returns what a file has become, the file itself if it is in step.
+fn file_at<'a>(files: &'a [Vec<u8>], resynced: &'a [Option<Vec<u8>>], k: usize) -> &'a [u8]
+    requires { k < length files.now }
+{
+    match resynced.get(k) {
+        Some(Some(file)) => file.as_slice(),
+        _ => files[k].as_slice(),
+    }
 }
 
 /// Reads the headers of the copies, and cuts their scans. The error has the number of the copy that is refused.
-pub(crate) fn copies_of(
+pub(crate) fn copies_of<'a>(
     alloc: Global,
-    files: &[Vec<u8>],
-) -> Result<Vec<FileCopy<'_>>, (usize, CopyError)>
+    files: &'a [Vec<u8>],
+    resynced: &'a [Option<Vec<u8>>],
+) -> Result<Vec<FileCopy<'a>>, (usize, CopyError)>
     ensures { IfOk result (λ copies. length copies.items ≡ length files.now) }
 {
     let mut copies = Vec::new(alloc);
     for k in 0..files.len() {
-        match FileCopy::of(alloc, &files[k]) {
+        match FileCopy::of(alloc, file_at(files, resynced, k)) {
             Ok(copy) => {
                 if copies.push(copy).is_err() {
                     return Err((k, CopyError::Memory));

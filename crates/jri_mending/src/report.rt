@@ -1,10 +1,12 @@
 //! What is reported of a mended file.
 
 use crate::breaks::{BreakObject, CopyBreak};
+use crate::combined::{RunBytesObject, RunLine, joined_at};
 use crate::headers::{Borrowed, BorrowedObject};
+use crate::outcome::Outcome;
 use crate::preparing::Prepared;
 use crate::runs::{RunObject, run_at};
-use jr_mend::Choice;
+use jr_mend::{ByteRun, Choice};
 use jr_picture::Report;
 use jr_scan::ScanEnd;
 use std::alloc::{AllocError, Global};
@@ -56,15 +58,32 @@ pub(crate) fn write_prepared<E: Write>(errors: &mut E, prepared: &Prepared) -> I
     write_breaks(errors, &prepared.breaks)
 }
 
-/// Writes a line for each run of intervals, and one if the first copy is written as it is.
+/// Writes a line for the bytes of each run of the combined copy.
+fn write_runs<E: Write>(errors: &mut E, runs: &[ByteRun]) -> IoResult<()> {
+    let mut next = 0;
+    for _ in 0..runs.len() {
+        let Some(run) = joined_at(runs, next) else {
+            break;
+        };
+        let line = RunLine(run.bytes);
+        writeln!(errors, "{line}")?;
+        next = run.next;
+    }
+    Ok(())
+}
+
+/// Writes a line for the bytes of each run of the combined copy and for each run of intervals, and one if the first copy is
+/// written as it is.
 pub(crate) fn write_lines<E: Write>(
     errors: &mut E,
-    choices: &[Choice],
+    outcome: &Outcome,
     is_mended: bool,
 ) -> IoResult<()> {
+    write_runs(errors, &outcome.runs)?;
+    let choices = outcome.mended.choices.as_slice();
     let mut next = 0;
     for _ in 0..choices.len() {
-        let Some(run) = run_at(choices, next) else {
+        let Some(run) = run_at(choices, next, outcome.copies) else {
             break;
         };
         writeln!(errors, "{run}")?;
@@ -108,13 +127,35 @@ fn write_break_objects(line: &mut String, breaks: &[CopyBreak]) -> Result<(), Al
     line.push_str("],")
 }
 
+/// Appends the runs of the combined copy as a member of an object; nothing if there are none.
+fn write_run_objects(line: &mut String, runs: &[ByteRun]) -> Result<(), AllocError> {
+    if runs.is_empty() {
+        return Ok(());
+    }
+    line.push_str("\"combined\":[")?;
+    let mut next = 0;
+    for _ in 0..runs.len() {
+        let Some(run) = joined_at(runs, next) else {
+            break;
+        };
+        if next > 0 {
+            line.push(',')?;
+        }
+        let bytes = RunBytesObject(run.bytes);
+        write!(line, "{bytes}")?;
+        next = run.next;
+    }
+    line.push_str("],")
+}
+
 /// Returns the report as a JSON object, with the line's end.
 pub(crate) fn object_of(
     alloc: Global,
-    choices: &[Choice],
+    outcome: &Outcome,
     prepared: &Prepared,
     is_mended: bool,
 ) -> Result<String, AllocError> {
+    let choices = outcome.mended.choices.as_slice();
     let Report {
         intervals,
         damaged,
@@ -124,13 +165,14 @@ pub(crate) fn object_of(
     line.push('{')?;
     write_headers(&mut line, &prepared.borrowed)?;
     write_break_objects(&mut line, &prepared.breaks)?;
+    write_run_objects(&mut line, &outcome.runs)?;
     write!(
         line,
         "\"intervals\":{intervals},\"damaged\":{damaged},\"mended\":{is_mended},\"runs\":["
     )?;
     let mut next = 0;
     for _ in 0..choices.len() {
-        let Some(run) = run_at(choices, next) else {
+        let Some(run) = run_at(choices, next, outcome.copies) else {
             break;
         };
         if next > 0 {

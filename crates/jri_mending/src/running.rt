@@ -5,12 +5,14 @@ ghost use Rattle.jr_mend.specs.declared.choice.TheConstants.{MAX_COPIES};
 ghost use Rattle.jri_words.specs.Steps.{LeavesFile};
 
 use crate::asking::{MendRequest, asked};
+use crate::combined::combined_of;
 use crate::ended::Ended;
+use crate::outcome::{Outcome, mend_copies, mend_with};
 use crate::preparing::{Prepared, prepare};
 use crate::reading::{CopyError, copies_of, read_files};
 use crate::report::{is_first_sound, object_of, report_of, write_lines, write_prepared};
 use jr_base::{Printable, Tally};
-use jr_mend::{FileCopy, MendError, Mended, mend};
+use jr_mend::{FileCopy, MAX_COPIES, MendError};
 use jr_picture::{Fault, Report};
 use jri_words::{
     Destination, Devices, Ending, Existing, Noted, Part, Target, Unasked, answer, flush_written,
@@ -170,19 +172,18 @@ fn report_mended<D: Devices, E: Write>(
     alloc: Global,
     devices: &D,
     asked: &MendRequest,
-    mended: &Mended,
+    outcome: &Outcome,
     prepared: &Prepared,
     is_mended: bool,
     errors: &mut E,
 ) -> u8 {
-    let choices = mended.choices.as_slice();
-    let status = if report_of(choices).damaged > 0 { 1 } else { 0 };
+    let status = if outcome.is_damaged() { 1 } else { 0 };
     if !asked.is_json {
         let _ = write_prepared(errors, prepared);
-        let _ = write_lines(errors, choices, is_mended);
+        let _ = write_lines(errors, outcome, is_mended);
         return status;
     }
-    let Ok(object) = object_of(alloc, choices, prepared, is_mended) else {
+    let Ok(object) = object_of(alloc, outcome, prepared, is_mended) else {
         let _ = writeln!(errors, "out of memory");
         return FAILED;
     };
@@ -199,6 +200,27 @@ fn report_mended<D: Devices, E: Write>(
         }
     }
     status
+}
+
+/// Why there is no mended file.
+#[derive(Clone, Copy)]
+enum MendFailure {
+    /// The copy of this number is not there.
+    Copy(usize, CopyError),
+    /// The copies are not mended.
+    Mending(MendError),
+}
+
+impl From<(usize, CopyError)> for MendFailure {
+    fn from((copy, error): (usize, CopyError)) -> MendFailure {
+        MendFailure::Copy(copy, error)
+    }
+}
+
+impl From<MendError> for MendFailure {
+    fn from(error: MendError) -> MendFailure {
+        MendFailure::Mending(error)
+    }
 }
 
 /// Returns the name of a copy, for a line.
@@ -233,30 +255,32 @@ fn file_of<'a>(is_mended: bool, mended: &'a [u8], first: &'a [u8]) -> &'a [u8] {
     if is_mended { mended } else { first }
 }
 
-/// Mends copies, writes the file, the first copy as it is if all of it is sound, and returns the exit status.
-fn mend_copies<D: Devices, E: Write>(
+/// Writes the mended file, the first copy as it is if all of it is sound, and returns the exit status.
+fn write_outcome<D: Devices, E: Write>(
     alloc: Global,
     devices: &mut D,
     asked: &MendRequest,
-    copies: &[FileCopy],
+    first: &[u8],
+    outcome: &Outcome,
     prepared: &Prepared,
     errors: &mut E,
-) -> u8
-    requires some { 0 < length copies.now }
-    requires few { length copies.now ≤ MAX_COPIES }
-{
-    let mended = match mend(alloc, copies) {
-        Ok(mended) => mended,
-        Err(error) => return report_error(errors, &asked.copies, error),
-    };
-    let choices = mended.choices.as_slice();
+) -> u8 {
+    let choices = outcome.mended.choices.as_slice();
     let is_mended = !is_first_sound(choices) || prepared.changes_first();
-    let file = file_of(is_mended, mended.file.as_slice(), copies[0].file());
+    let file = file_of(is_mended, outcome.mended.file.as_slice(), first);
     let ending = write_mended(alloc, devices, &asked.target, file, report_of(choices));
     if ending.outcome.is_err() {
         return report_unwritten(errors, &ending);
     }
-    report_mended(alloc, devices, asked, &mended, prepared, is_mended, errors)
+    report_mended(alloc, devices, asked, outcome, prepared, is_mended, errors)
+}
+
+/// Reports why there is no mended file, and returns the exit status.
+fn report_failure<E: Write>(errors: &mut E, names: &[String], failure: MendFailure) -> u8 {
+    match failure {
+        MendFailure::Copy(copy, error) => report_copy(errors, names, copy, error),
+        MendFailure::Mending(error) => report_error(errors, names, error),
+    }
 }
 
 /// Reports the copy that is not there, and returns the exit status.
@@ -264,6 +288,27 @@ fn report_copy<E: Write>(errors: &mut E, names: &[String], copy: usize, error: C
     let name = shown(names, copy);
     let _ = writeln!(errors, "{name}: {error}");
     error.status()
+}
+
+/// Mends files. If an interval is damaged in all copies they are also combined to one further copy.
+fn mended_of(
+    alloc: Global,
+    asked: &MendRequest,
+    files: &[Vec<u8>],
+    prepared: &Prepared,
+) -> Result<Outcome, MendFailure>
+    requires some { 0 < length files.now }
+    requires few { length files.now ≤ MAX_COPIES }
+{
+    let copies = copies_of(alloc, files, &prepared.resynced)?;
+    let outcome = mend_copies(alloc, &copies)?;
+    if !outcome.is_damaged() || files.len() >= MAX_COPIES {
+        return Ok(outcome);
+    }
+    match combined_of(alloc, files, asked.is_resync)? {
+        Some(combined) => Ok(mend_with(alloc, copies, &combined)?),
+        None => Ok(outcome),
+    }
 }
 
 /// Prepares files, mends them, writes the mended one, and returns the exit status.
@@ -281,9 +326,12 @@ fn mend_files<D: Devices, E: Write>(
         Ok(prepared) => prepared,
         Err((copy, error)) => return report_copy(errors, &asked.copies, copy, error),
     };
-    match copies_of(alloc, files) {
-        Ok(copies) => mend_copies(alloc, devices, asked, &copies, &prepared, errors),
-        Err((copy, error)) => report_copy(errors, &asked.copies, copy, error),
+    match mended_of(alloc, asked, files, &prepared) {
+        Ok(outcome) => {
+            let first = &files[0];
+            write_outcome(alloc, devices, asked, first, &outcome, &prepared, errors)
+        }
+        Err(failure) => report_failure(errors, &asked.copies, failure),
     }
 }
 

@@ -10,6 +10,8 @@ pub(crate) struct Run {
     pub(crate) first: usize,
     pub(crate) last: usize,
     pub(crate) choice: Choice,
+    /// Whether it is the combined copy's.
+    pub(crate) is_combined: bool,
 }
 
 impl Display for Run {
@@ -22,10 +24,19 @@ impl Display for Run {
             write!(f, "intervals {first} to {last}: ")?;
         }
         let copy = u64::from(self.choice.copy).saturating_add(1);
-        if let Some(mcus) = self.choice.front {
-            return write!(f, "damaged in all copies, copy {copy} decodes {mcus} MCUs");
+        match self.choice.front {
+            Some(mcus) if self.is_combined => {
+                return write!(
+                    f,
+                    "damaged in all copies, the combined copy decodes {mcus} MCUs"
+                );
+            }
+            Some(mcus) => {
+                return write!(f, "damaged in all copies, copy {copy} decodes {mcus} MCUs");
+            }
+            None if self.is_combined => f.write_str("combined copy")?,
+            None => write!(f, "copy {copy}")?,
         }
-        write!(f, "copy {copy}")?;
         if self.choice.differs {
             f.write_str(", sound in copies with different data")?;
         }
@@ -43,12 +54,15 @@ impl Display for RunObject {
             first,
             last,
             choice,
+            is_combined,
         } = self.0;
-        let copy = u64::from(choice.copy).saturating_add(1);
-        write!(
-            f,
-            "{{\"interval\":{first},\"last_interval\":{last},\"copy\":{copy}"
-        )?;
+        write!(f, "{{\"interval\":{first},\"last_interval\":{last}")?;
+        if is_combined {
+            f.write_str(",\"combined\":true")?;
+        } else {
+            let copy = u64::from(choice.copy).saturating_add(1);
+            write!(f, ",\"copy\":{copy}")?;
+        }
         if let Some(mcus) = choice.front {
             return write!(f, ",\"is\":\"damaged\",\"decodable\":{mcus}}}");
         }
@@ -60,8 +74,8 @@ impl Display for RunObject {
     }
 }
 
-/// Returns the run of intervals that begins with one of them.
-pub(crate) fn run_at(choices: &[Choice], first: usize) -> Option<Run> {
+/// Returns the run of intervals that begins with one of them. The copy after the last of these is the combined one.
+pub(crate) fn run_at(choices: &[Choice], first: usize, copies: usize) -> Option<Run> {
     if first >= choices.len() {
         return None;
     }
@@ -77,5 +91,6 @@ pub(crate) fn run_at(choices: &[Choice], first: usize) -> Option<Run> {
         first,
         last,
         choice,
+        is_combined: u64::from(choice.copy) >= copies as u64,
     })
 }

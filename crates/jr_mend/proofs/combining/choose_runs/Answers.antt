@@ -1,0 +1,27 @@
+use Rattle.std.proofs.Common.{List, length, sym, subst, arith}
+use Rattle.jr_mend.specs.declared.byte_runs.ByteRun.{ByteRun}
+use Rattle.jr_mend.specs.Combined.{AreBetween, AreBytesByRuns}
+use Rattle.jr_mend.proofs.CombinedBytes.{between_longer, between_more}
+use Rattle.jr_mend.proofs.combining.choose_runs.Goals as goal
+
+pub loop-preserved : goal.loop-preserved
+loop-preserved c =
+    let inv = c.loop.invariant in
+    let runs = c.loop.runs.items in
+    let run = c.settle.result in
+    let told = c.settle.ensures in
+    let found = c.in-Some.found in
+    let scan_at = c.args.head.now.scan_at in
+    let from = c.in-Some.ensures.from in
+    let between = between_more scan_at c.loop.at found.end runs run inv.4 (omega (arith, from, told.start)) (omega (arith, c.in-Some.ensures.some, told.start, told.end)) (omega (arith, told.end)) in
+    let items = c.in_ok-push.ensures.items in (
+      omega (arith, told.long, inv.0),
+      omega (arith, c.in-Some.ensures.within),
+      c.advanced-spot.ensures.in_range,
+      omega (arith, told.long, c.best_version.ensures.capacity),
+      subst (AreBetween scan_at found.end) (sym items) between,
+      subst (λ (l : List ByteRun). AreBytesByRuns c.args.copies.now l c.settle.new.file) (sym items) (told.bytes scan_at c.loop.at runs inv.4 from inv.5),
+    )
+
+pub returns-clause-runs : goal.returns-clause-runs
+returns-clause-runs c = between_longer c.args.head.now.scan_at c.loop.at (length c.args.file.now) c.loop.runs.items c.loop.invariant.4 c.loop.invariant.1
