@@ -31,7 +31,7 @@ extern "C" {
 #define JRI_RELEASE "0.1.0"
 
 /* The number of this interface; jri_version() returns that of the library. */
-#define JRI_VERSION 9
+#define JRI_VERSION 10
 
 /* The status of a call. */
 enum {
@@ -80,14 +80,15 @@ enum {
 };
 
 /*
- * What a file's header says. Proved: unless the status is JRI_OK everything but the refusal's two numbers is 0; with
- * JRI_OK and JRI_NEED_MORE these two are 0.
+ * What a file's header says. Proved: with JRI_REFUSED everything but the refusal's two numbers and the size (width,
+ * height and components) is 0; with JRI_NO_MEMORY and JRI_NEED_MORE the size is 0 too; with JRI_OK and JRI_NEED_MORE the
+ * refusal's two numbers are 0.
  */
 struct jri_header {
-    uint32_t width;         /* in pixels, 1 to 65535 */
-    uint32_t height;        /* in lines, 1 to 65535 */
+    uint32_t width;         /* in pixels, 1 to 65535; with JRI_REFUSED as the frame header has it, from 0 */
+    uint32_t height;        /* in lines, 1 to 65535; with JRI_REFUSED as the frame header has it, from 0 */
     uint32_t kind;          /* JRI_GREY, JRI_RGB or JRI_YCBCR */
-    uint32_t components;    /* 1 or 3; a pixel has as many bytes */
+    uint32_t components;    /* 1 or 3; a pixel has as many bytes; with JRI_REFUSED as the frame header has it */
     uint32_t intervals;     /* number of restart intervals; the marks have as many bytes */
     uint32_t refusal;       /* the number of the refusal, 1 to 18, or 19 with JRI_NO_MEMORY; otherwise 0 */
     uint64_t pixels;        /* size of the pixels in bytes: width * height * components */
@@ -221,11 +222,17 @@ uint32_t jri_version(void);
  * Returns:
  *   JRI_OK: `header` has what the header says. Allocate the buffers and decode.
  *   JRI_NEED_MORE: only with JRI_PARTIAL; the header is not complete. Call again with more bytes.
- *   JRI_REFUSED: header->refusal and header->detail have the first fault. Another decoder may accept the file.
+ *   JRI_REFUSED: header->refusal and header->detail have the first fault. Another decoder may accept the file: width,
+ *     height and components are those of its first frame header, progressive or not.
  *   JRI_NO_MEMORY: memory ran out.
  *
  * Proved: what is returned is said of these bytes and, with JRI_PARTIAL, of every file that begins with them.
  * JRI_NEED_MORE means that these bytes alone are too short: their refusal is 2, or 1 and they are fewer than two.
+ *
+ * Proved: with JRI_REFUSED the size is that of the first frame header, of SOF0 to SOF15, of these bytes and of every file
+ * that begins with them. It is 0 if no whole frame header comes after SOI and whole segments of tables, restart
+ * intervals, APPn and COM, and otherwise as the frame header has it. With JRI_PARTIAL a file may be refused before its
+ * frame header has come: the size is then 0.
  */
 uint32_t jri_read_header(const uint8_t *file, size_t file_length, uint32_t more, struct jri_header *header);
 
@@ -507,7 +514,8 @@ uint32_t jri_resynchronise(const uint8_t *file, size_t file_length, uint8_t *out
  * copy is sound in the mended file.
  *
  * The copies are read as they are: nothing is read after a restart marker that is out of step. To read past it, pass
- * what jri_resynchronise writes of the copy.
+ * what jri_resynchronise writes of the copy. An interval that is damaged in all copies is taken whole from one of them:
+ * copies are not combined, as the program jri_mend does.
  */
 uint32_t jri_mend(const uint8_t *files, size_t files_length, const size_t *sizes, size_t copies, uint8_t *out,
                   size_t out_size, struct jri_choice *choices, size_t choices_count, struct jri_mended *report);

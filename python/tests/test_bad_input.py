@@ -48,6 +48,7 @@ def test_refuses_by_number(data, number, detail):
         with pytest.raises(jri.RefusedError) as raised:
             call(data)
         assert (raised.value.number, raised.value.detail) == (number, detail) and str(raised.value)
+        assert raised.value.size is None
         assert str(pickle.loads(pickle.dumps(raised.value))) == str(raised.value)
 
 
@@ -74,12 +75,17 @@ def test_unsupported_files_have_an_error_of_their_own(photo):
         (14, 0): with_frame(photo, 9, 0x33),
         (17, 0): photo[: photo.index(b"\xff\xc4")] + photo[photo.index(b"\xff\xda") :],
     }
+    # No frame header precedes DAC and DHP here, and a height of 0 is none.
+    sizes = {4: None, 11: None, 13: (8, 8)}
     for (number, detail), data in files.items():
-        with pytest.raises(jri.UnsupportedError) as raised:
-            jri.decode(data)
-        assert raised.value.number == number and (detail == 0 or raised.value.detail == detail)
-        sent = pickle.loads(pickle.dumps(raised.value))
-        assert type(sent) is jri.UnsupportedError and (sent.number, str(sent)) == (number, str(raised.value))
+        for call in (jri.decode, jri.measure, jri.index, jri.Stream().feed):
+            with pytest.raises(jri.UnsupportedError) as raised:
+                call(data)
+            assert raised.value.number == number and (detail == 0 or raised.value.detail == detail)
+            assert raised.value.size == sizes.get(number, (227, 149))
+            sent = pickle.loads(pickle.dumps(raised.value))
+            assert type(sent) is jri.UnsupportedError and (sent.number, str(sent)) == (number, str(raised.value))
+            assert sent.size == raised.value.size
 
 
 def cmyk_frame():

@@ -89,6 +89,7 @@ def test_mends_copies_out_of_step(photo):
     mended = jri.mend(copies)
     assert mended.data == photo and mended.is_sound
     assert not jri.mend(iter(copies), resync=False).is_sound
+    assert jri.mend([jri.resync(copy).data for copy in copies], resync=False).data == photo
 
 
 def test_damaged_in_all_copies(photo):

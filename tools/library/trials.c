@@ -113,7 +113,8 @@ static void refuse(const struct trial *t) {
         uint32_t status = jri_read_header(t->file, t->length, JRI_COMPLETE, &header);
         refused = -1;
         int is_same = status == JRI_OK && !memcmp(&header, &t->header, sizeof header);
-        see(is_same || (requests > k && status == JRI_NO_MEMORY), t, "a request of a header refused");
+        int is_empty = !header.width && !header.height && !header.components && !header.scan_at;
+        see(is_same || (requests > k && status == JRI_NO_MEMORY && is_empty), t, "a request of a header refused");
         refusals += 1;
     }
 }

@@ -11,7 +11,8 @@ ghost use Rattle.jri_memory.specs.Damages.{ListsDamages, TellsNoDamage};
 ghost use Rattle.jri_memory.specs.Checks.{ChecksFile, LacksMarkRoom};
 ghost use Rattle.jri_memory.specs.Mends.{HasOtherHeader, IsTooLongMend, LackCopies, LacksMendRoom, MendsFiles, TellsCopyFault, TellsNoMend, files_of};
 ghost use Rattle.jri_memory.specs.Resyncs.{IsTooLongFile, IsTooLongRead, LacksResyncRoom, OfRead, ResyncsFile, TellsNoResync};
-ghost use Rattle.jri_memory.specs.Calls.{DecodesFile, DecodesLines, TellsFault, IsHeaderOf, IsNumberOfSome, LacksLines, LacksRoom, LacksRoomForLines, TellsNoHeader, TellsNoPicture, TellsNoRefusal};
+ghost use Rattle.jri_memory.specs.Calls.{DecodesFile, DecodesLines, TellsFault, IsHeaderOf, IsNumberOfSome, LacksLines, LacksRoom, LacksRoomForLines, TellsNoHeader, TellsNoPicture, TellsNoRefusal, TellsNoSize, TellsSize};
+ghost use Rattle.jri_memory.specs.Frames.{HasOneSize};
 ghost use Rattle.jri_memory.specs.Rows.{GivesRows, LacksRoomForRow, LacksRows, LiesInside, LiesOutside, SkipsRows, TellsPartialFault, TellsNoRows, TellsNothing, are_all, file_part, window_part};
 
 use jri_memory::{
@@ -24,19 +25,19 @@ use jri_memory::{
 use std::alloc::Global;
 
 /// The version number of these calls: it changes if one of them does.
-const VERSION: u32 = 9;
+const VERSION: u32 = 10;
 
 /// The number of these calls.
 #[unsafe(no_mangle)]
 pub extern "C" fn jri_version() -> u32
-    ensures { result ≡ 9 }
+    ensures { result ≡ 10 }
 {
     VERSION
 }
 
 /// Reads a file's header, and decodes nothing; more of the file may come if `more` is not 0. Returns 0 with what the header says, 1 if
 /// memory ran out, 2 if the file is refused, and 7 if more bytes are wanted. With 0 the header, and with more to come a refusal, is
-/// that of every file that begins with these bytes.
+/// that of every file that begins with these bytes. With 2 the header has the size in the file's first frame header, if there is one.
 #[unsafe(no_mangle)]
 pub extern "C" fn jri_read_header(alloc: Global, file: &[u8], more: u32, header: &mut Header) -> u32
     ensures read { result ≡ 0 → IsHeaderOf file.now header.new }
@@ -48,6 +49,9 @@ pub extern "C" fn jri_read_header(alloc: Global, file: &[u8], more: u32, header:
     ensures partial { result ≡ 7 → are_all more ≡ false }
     ensures no_refusal { result ≡ 7 → (header.new.refusal ≡ 0) × (header.new.detail ≡ 0) }
     ensures no_header { result ≢ 0 → TellsNoHeader header.new }
+    ensures size { result ≡ 2 → TellsSize file.now header.new }
+    ensures size_stays { result ≡ 2 → TellsNoSize header.new ⊎ ((whole : List ℕ) → CanBecome file.now whole → HasOneSize whole header.new.width header.new.height header.new.components) }
+    ensures no_size { result ≢ 0 → result ≢ 2 → TellsNoSize header.new }
     ensures few { result ≢ 7 → result ≤ 2 }
 {
     read_header(alloc, file, more, header)

@@ -1,12 +1,16 @@
 -- A header, or a refusal, of the bytes so far of a file is that of each file that they can become.
-use Rattle.std.specs.Prelude.{◌≡◌, ℕ, List}
+use Rattle.std.proofs.Common.{◌≡◌, ◌⊎◌, ℕ, List, Option, Some, None, inl, inr, subst, sym}
+use Rattle.std.specs.Prelude.{IfSome, IfNone}
 use Rattle.jr_segments.specs.declared.refusal.Refusal.{Refusal}
 use Rattle.jr_head.specs.Heads.{RefusalOf}
 use Rattle.jr_segments.specs.Refusal.{number_of}
 use Rattle.jr_arrival.specs.Arrival.{CanBecome, IsFinalFault}
 use Rattle.jr_arrival.proofs.HeadsStay.{fault_is_final, head_is_final}
-use Rattle.jri_memory.specs.Calls.{IsHeaderOf, TellsFault, detail_of}
+use Rattle.jri_memory.specs.Calls.{IsHeaderOf, TellsFault, TellsNoSize, TellsSize, detail_of}
+use Rattle.jri_memory.specs.Frames.{HasOneSize, LacksSize}
+use Rattle.jri_memory.specs.declared.frame_size.FrameSize.{FrameSize}
 use Rattle.jri_memory.specs.declared.header.Header.{Header}
+use Rattle.jri_memory.proofs.SizesStay.{one_size_more}
 
 pub header_stays : (bytes whole : List ℕ) (m : Header) → CanBecome bytes whole → IsHeaderOf bytes m → IsHeaderOf whole m
 header_stays bytes whole m can of_bytes = record {
@@ -39,3 +43,24 @@ refusal_stays bytes whole f number detail can final of_bytes number_is detail_is
   number_is = number_is;
   detail_is = detail_is;
 }
+
+-- the numbers of a header are those of a size
+abbrev HasNumbers : Header → FrameSize → Type 0
+HasNumbers m s = (m.width ≡ s.width) × (m.height ≡ s.height) × (m.components ≡ s.components)
+
+with_numbers : (file : List ℕ) (s : FrameSize) (m : Header) → HasNumbers m s → HasOneSize file s.width s.height s.components → HasOneSize file m.width m.height m.components
+with_numbers file s m same has =
+    subst (λ (c : ℕ). HasOneSize file m.width m.height c) (sym same.2)
+    (subst (λ (h : ℕ). HasOneSize file m.width h s.components) (sym same.1) (subst (λ (w : ℕ). HasOneSize file w s.height s.components) (sym same.0) has))
+
+pub size_is_told : (file : List ℕ) (found : Option FrameSize) (m : Header) → IfSome found (λ s. HasOneSize file s.width s.height s.components) → IfNone found (LacksSize file)
+    → IfSome found (HasNumbers m) → IfNone found (TellsNoSize m) → TellsSize file m
+size_is_told file (Some s) m has lacks sized unsized = inl (with_numbers file s m sized has)
+size_is_told file None m has lacks sized unsized = inr (unsized, lacks)
+
+-- a size that is told of the bytes so far is that of the file
+pub size_stays : (bytes : List ℕ) (m : Header) → TellsSize bytes m → TellsNoSize m ⊎ ((whole : List ℕ) → CanBecome bytes whole → HasOneSize whole m.width m.height m.components)
+size_stays bytes m told = elim told [
+  | inl has ↦ inr (λ whole can. subst (λ (file : List ℕ). HasOneSize file m.width m.height m.components) (sym can.is) (one_size_more bytes can.more m.width m.height m.components has))
+  | inr none ↦ inl none.0
+]

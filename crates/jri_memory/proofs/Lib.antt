@@ -7,3 +7,5 @@ pub mod Mending
 pub mod OnResults
 pub mod ReadAs
 pub mod Reasons
+pub mod Sizes
+pub mod SizesStay

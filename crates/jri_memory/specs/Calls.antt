@@ -16,6 +16,7 @@ use Rattle.jr_picture.specs.Headline.{AreCounts}
 use Rattle.jri_file.specs.Files.{IsPictureOf}
 use Rattle.jr_rows.specs.MarkBytes.{mark_byte}
 use Rattle.jr_rows.specs.SomeLines.{EndInLines}
+use Rattle.jri_memory.specs.Frames.{HasOneSize, LacksSize}
 use Rattle.jri_memory.specs.declared.decode.DecodeError.{DecodeError}
 use Rattle.jri_memory.specs.declared.decode.DecodeError.TheVariants.{Refused}
 use Rattle.jri_memory.specs.declared.header.Header.{Header}
@@ -84,12 +85,9 @@ pub record IsHeaderOf (file : List ℕ) (m : Header) : Type 0 where
   pub no_fault : m.refusal ≡ 0
   pub no_detail : m.detail ≡ 0
 
--- of no header: 0 for all but the refusal's two numbers
+-- of no header: 0 for all but the size and the refusal's two numbers
 pub record TellsNoHeader (m : Header) : Type 0 where
-  pub width : m.width ≡ 0
-  pub height : m.height ≡ 0
   pub kind : m.kind ≡ 0
-  pub components : m.components ≡ 0
   pub intervals : m.intervals ≡ 0
   pub pixels : m.pixels ≡ 0
   pub scan_at : m.scan_at ≡ 0
@@ -101,6 +99,16 @@ pub record TellsNoHeader (m : Header) : Type 0 where
   pub mcus : m.mcus ≡ 0
   pub horizontal : m.horizontal ≡ of_three (λ _. 0)
   pub vertical : m.vertical ≡ of_three (λ _. 0)
+
+-- of no frame header: no size
+pub record TellsNoSize (m : Header) : Type 0 where
+  pub width : m.width ≡ 0
+  pub height : m.height ≡ 0
+  pub components : m.components ≡ 0
+
+-- the size in the file's first frame header, or none if it has none
+abbrev pub TellsSize : List ℕ → Header → Type 0
+TellsSize file m = HasOneSize file m.width m.height m.components ⊎ (TellsNoSize m × LacksSize file)
 
 -- what ended the scan, as numbers: 0 for what that end has not
 abbrev pub IsScanEnd : ScanEnd → (ended found due at : ℕ) → Type 0

@@ -1,10 +1,11 @@
 //! The calls: a file's header, its image, some lines of it, and the marks of its intervals alone.
 
-ghost use Rattle.std.specs.Prelude.{◌≡◌, ◌≢◌, ◌<◌, ◌≤◌, ℕ, List, length, false};
+ghost use Rattle.std.specs.Prelude.{◌≡◌, ◌≢◌, ◌<◌, ◌≤◌, ◌⊎◌, ℕ, List, length, false};
 ghost use Rattle.jr_arrival.specs.Arrival.{CanBecome};
 ghost use Rattle.jr_arrival.specs.Settled.{WantsMore};
 ghost use Rattle.jri_memory.specs.Checks.{ChecksFile, LacksMarkRoom};
-ghost use Rattle.jri_memory.specs.Calls.{DecodesFile, DecodesLines, TellsFault, IsHeaderOf, LacksLines, LacksRoom, LacksRoomForLines, TellsNoHeader, TellsNoPicture, TellsNoRefusal};
+ghost use Rattle.jri_memory.specs.Calls.{DecodesFile, DecodesLines, TellsFault, IsHeaderOf, LacksLines, LacksRoom, LacksRoomForLines, TellsNoHeader, TellsNoPicture, TellsNoRefusal, TellsNoSize, TellsSize};
+ghost use Rattle.jri_memory.specs.Frames.{HasOneSize};
 ghost use Rattle.jri_memory.specs.Resyncs.{IsTooLongRead, OfRead};
 ghost use Rattle.jri_memory.specs.Rows.{are_all};
 
@@ -12,6 +13,7 @@ use crate::answers::{status_of, tell, tell_why};
 use crate::check::check;
 use crate::decode::decode;
 use crate::file_head::head_of;
+use crate::frame_size::size_of_refused;
 use crate::header::Header;
 use crate::lines::decode_some;
 use crate::report::DecodeReport;
@@ -21,7 +23,7 @@ use std::alloc::Global;
 
 /// Reads a file's header, and decodes nothing; more of the file may come if `more` is not 0. Returns 0 with what the header says, 1 if
 /// memory ran out, 2 if the file is refused, and 7 if more bytes are wanted. With 0 the header, and with more to come a refusal, is
-/// that of every file that begins with these bytes.
+/// that of every file that begins with these bytes. With 2 the header has the size in the file's first frame header, if there is one.
 pub fn read_header(alloc: Global, file: &[u8], more: u32, header: &mut Header) -> u32
     ensures read { result ≡ 0 → IsHeaderOf file.now header.new }
     ensures stays { result ≡ 0 → (whole : List ℕ) → CanBecome file.now whole → IsHeaderOf whole header.new }
@@ -32,6 +34,9 @@ pub fn read_header(alloc: Global, file: &[u8], more: u32, header: &mut Header) -
     ensures partial { result ≡ 7 → are_all more ≡ false }
     ensures no_refusal { result ≡ 7 → (header.new.refusal ≡ 0) × (header.new.detail ≡ 0) }
     ensures no_header { result ≢ 0 → TellsNoHeader header.new }
+    ensures size { result ≡ 2 → TellsSize file.now header.new }
+    ensures size_stays { result ≡ 2 → TellsNoSize header.new ⊎ ((whole : List ℕ) → CanBecome file.now whole → HasOneSize whole header.new.width header.new.height header.new.components) }
+    ensures no_size { result ≢ 0 → result ≢ 2 → TellsNoSize header.new }
     ensures few { result ≢ 7 → result ≤ 2 }
 {
     let bytes = FileBytes {
@@ -49,7 +54,7 @@ pub fn read_header(alloc: Global, file: &[u8], more: u32, header: &mut Header) -
             NEED_MORE
         }
         Err(refusal) => {
-            *header = Header::refused(refusal);
+            *header = Header::refused(refusal, size_of_refused(file, refusal));
             status_of(refusal)
         }
     }

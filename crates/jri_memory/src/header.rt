@@ -1,17 +1,18 @@
 //! What a file's header says of its image.
 
-ghost use Rattle.std.specs.Prelude.{◌≡◌, ◌*◌};
+ghost use Rattle.std.specs.Prelude.{◌≡◌, ◌*◌, IfNone, IfSome};
 ghost use Rattle.jr_head.specs.HeadValue.{kind_number};
 ghost use Rattle.jr_head.specs.Geometry.{components_of, horizontal_max, horizontal_of, mcus_across, mcus_down, mcus_of, vertical_max, vertical_of};
 ghost use Rattle.jr_segments.specs.Refusal.{number_of};
 ghost use Rattle.jr_scan.specs.ScanValue.{intervals_of};
-ghost use Rattle.jri_memory.specs.Calls.{TellsNoHeader, detail_of, of_three, picture_size};
+ghost use Rattle.jri_memory.specs.Calls.{TellsNoHeader, TellsNoSize, detail_of, of_three, picture_size};
 
+use crate::frame_size::FrameSize;
 use crate::report::detail;
 use crate::room::bytes_of_picture;
 use jr_head::{Head, Kind, Refusal};
 
-/// A file's header in numbers, or a refusal's two numbers; the rest is 0.
+/// A file's header in numbers, or a refusal's two numbers and the size in a frame header; the rest is 0.
 #[repr(C)]
 #[derive(Clone, Copy, PartialEq, Eq)]
 pub struct Header {
@@ -21,7 +22,7 @@ pub struct Header {
     pub height: u32,
     /// 0 for grey, 1 for RGB, 2 for YCbCr, which is decoded to RGB.
     pub kind: u32,
-    /// Number of components, 1 or 3, and of bytes of a pixel.
+    /// Number of components, 1 or 3, and of bytes of a pixel; of a refused file any number.
     pub components: u32,
     /// Number of restart intervals of the scan, and of bytes of its marks.
     pub intervals: u32,
@@ -88,6 +89,7 @@ impl Header {
     /// Returns the header whose numbers are all 0.
     pub const fn empty() -> Header
         ensures no_header { TellsNoHeader result }
+        ensures no_size { TellsNoSize result }
         ensures no_fault { result.refusal ≡ 0 }
         ensures no_detail { result.detail ≡ 0 }
     {
@@ -112,9 +114,10 @@ impl Header {
         }
     }
 
-    /// Returns a refusal.
-    pub(crate) fn refused(refusal: Refusal) -> Header
+    /// Returns a refusal, without a size.
+    fn unsized_refusal(refusal: Refusal) -> Header
         ensures no_header { TellsNoHeader result }
+        ensures no_size { TellsNoSize result }
         ensures number { result.refusal ≡ number_of refusal }
         ensures detail { result.detail ≡ detail_of refusal }
     {
@@ -122,6 +125,25 @@ impl Header {
             refusal: u32::from(refusal.number()),
             detail: detail(refusal),
             ..Header::empty()
+        }
+    }
+
+    /// Returns a refusal, and the size in the file's frame header.
+    pub(crate) fn refused(refusal: Refusal, size: Option<FrameSize>) -> Header
+        ensures no_header { TellsNoHeader result }
+        ensures size { IfSome size (λ s. (result.width ≡ s.width) × (result.height ≡ s.height) × (result.components ≡ s.components)) }
+        ensures no_size { IfNone size (TellsNoSize result) }
+        ensures number { result.refusal ≡ number_of refusal }
+        ensures detail { result.detail ≡ detail_of refusal }
+    {
+        match size {
+            Some(size) => Header {
+                width: size.width,
+                height: size.height,
+                components: size.components,
+                ..Header::unsized_refusal(refusal)
+            },
+            None => Header::unsized_refusal(refusal),
         }
     }
 

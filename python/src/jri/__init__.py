@@ -111,15 +111,18 @@ _ENDS: Dict[int, Ended] = {1: "EOI", 2: "marker", 3: "out of step", 4: "extra re
 class RefusedError(ValueError):
     """A file that jri does not decode: `number`, 1 to 18, and `detail` say why, as in jri.h.
 
-    `filename` is its name or None.
+    `filename` is its name or None. `size` is the width and the height in its frame header, of whatever kind the frame is, or
+    None if there is none before the scan.
     """
 
-    def __init__(self, number: int, detail: int, filename: Optional[str] = None) -> None:
+    def __init__(
+        self, number: int, detail: int, filename: Optional[str] = None, size: Optional[Tuple[int, int]] = None
+    ) -> None:
         super().__init__(_with_name(filename, refusal_text(number, detail)))
-        self.number, self.detail, self.filename = number, detail, filename
+        self.number, self.detail, self.filename, self.size = number, detail, filename, size
 
     def __reduce__(self) -> Tuple[Any, ...]:
-        return type(self), (self.number, self.detail, self.filename)
+        return type(self), (self.number, self.detail, self.filename, self.size)
 
 
 class UnsupportedError(RefusedError):
@@ -289,14 +292,16 @@ def _name_of(source: Source) -> Optional[str]:
     return os.fsdecode(name) if isinstance(name, (str, bytes, os.PathLike)) else None
 
 
-def _raise(status: int, number: int, detail: int, name: Optional[str] = None) -> NoReturn:
-    """Raises the error for a status without an image, of a file of this name."""
+def _raise(
+    status: int, number: int, detail: int, name: Optional[str] = None, size: Optional[Tuple[int, int]] = None
+) -> NoReturn:
+    """Raises the error for a status without an image, of a file of this name and size."""
     if status == NO_MEMORY:
         raise MemoryError("out of memory")
     if status == TOO_LONG:
         status, number, detail = REFUSED, _TOO_LONG, 0
     if status == REFUSED:
-        raise (UnsupportedError if unsupported_text(number, detail) else RefusedError)(number, detail, name)
+        raise (UnsupportedError if unsupported_text(number, detail) else RefusedError)(number, detail, name, size)
     text = {BUFFER_TOO_SMALL: "the buffer is too small", NO_LINES: "the image has no such lines"}[status]
     raise ValueError(_with_name(name, text))
 
@@ -310,7 +315,8 @@ def _measured(file: _File) -> Measure:
 def _measure(status: int, told: Any, name: Optional[str]) -> Measure:
     """Returns what a header says. Raises the error for a status without one, of a file of this name."""
     if status != OK:
-        _raise(status, told.refusal, told.detail, name)
+        size = (told.width, told.height) if told.width and told.height else None
+        _raise(status, told.refusal, told.detail, name, size)
     return Measure(told.width, told.height, told.components, told.intervals)
 
 

@@ -4,7 +4,7 @@ from __future__ import annotations
 
 from typing import Any
 
-CALLS = 9
+CALLS = 10
 
 SOUND, NO_MEMORY, REFUSED, DAMAGED, BUFFER_TOO_SMALL, NO_LINES, NO_LAYOUT, NEED_MORE, TOO_LONG, NO_COPIES, OTHER_HEADER = range(11)
 
