@@ -12,7 +12,7 @@ use Rattle.jri_archive.specs.declared.counts.FileState.TheVariants.{Sound, Damag
 use Rattle.jri_archive.specs.declared.outcome.Outcome.{Outcome}
 use Rattle.jri_archive.specs.Outcomes.{state_of}
 use Rattle.jri_archive.specs.Status.{counts_with}
-use Rattle.jri_archive.specs.Told.{AreCounted, AreTold, IsToldOf, count_of, same_state}
+use Rattle.jri_archive.specs.Told.{AreCounted, AreSomeTold, AreTold, IsToldOf, count_of, same_state}
 
 summed : (s state : FileState) (xs : List FileState) → sum_by (same_state s) (xs ++ state ∷ []) ≡ sum_by (same_state s) xs + same_state s state
 summed s state xs = sum_by-append (same_state s) xs (state ∷ []) ∙ (let e : sum_by (same_state s) (state ∷ []) ≡ same_state s state = omega arith in ap (λ (n : ℕ). sum_by (same_state s) xs + n) e)
@@ -120,6 +120,48 @@ told_of may_be names xs state o each is state_is k lt = elim (cases_lt k (length
         state = ap (λ (n : ℕ). get_or (xs ++ state ∷ []) n OutOfMemory) e ∙ get_or-append_seam xs state [] OutOfMemory ∙ state_is;
       })
 ]
+
+-- the same if the file's name is added to the names
+found_of : (may_be : List ℕ → Outcome → Type 0) (names : List (List ℕ)) (xs : List FileState) (name : List ℕ) (state : FileState) (o : Outcome) → length xs ≡ length names
+    → ((k : ℕ) → k < length names → IsToldOf may_be names xs k) → may_be name o → state ≡ state_of o
+    → (k : ℕ) → k < length names + 1 → IsToldOf may_be (names ++ name ∷ []) (xs ++ state ∷ []) k
+found_of may_be names xs name state o long each is state_is k lt = elim (cases_lt k (length names)) [
+  | inl before ↦ (
+      let t = each k before in
+      record {
+        outcome = t.outcome;
+        is = subst (λ (n : List ℕ). may_be n t.outcome) (sym (get_or_append_left names (name ∷ []) [] k before)) t.is;
+        state = get_or_append_left xs (state ∷ []) OutOfMemory k (omega (arith, before, long)) ∙ t.state;
+      })
+  | inr last ↦ (
+      let e : k ≡ length names = omega (arith, last, lt) in
+      let here : get_or (names ++ name ∷ []) k [] ≡ name = ap (λ (n : ℕ). get_or (names ++ name ∷ []) n []) e ∙ get_or-append_seam names name [] [] in
+      let at : k ≡ length xs = omega (arith, e, long) in
+      record {
+        outcome = o;
+        is = subst (λ (n : List ℕ). may_be n o) (sym here) is;
+        state = ap (λ (n : ℕ). get_or (xs ++ state ∷ []) n OutOfMemory) at ∙ get_or-append_seam xs state [] OutOfMemory ∙ state_is;
+      })
+]
+
+-- no file is reported yet
+pub none_found : (may_be : List ℕ → Outcome → Type 0) (c : FileCounts) → AreCounted c [] → AreSomeTold may_be c
+none_found may_be c none = record { names = []; told = record { states = []; long = refl; counted = none; each = λ k lt. absurd (omega (arith, lt)) } }
+
+-- one more file is reported, of some name
+pub found_more : (may_be : List ℕ → Outcome → Type 0) (c : FileCounts) (name : List ℕ) (state : FileState) (o : Outcome) → may_be name o → state ≡ state_of o → AreSomeTold may_be c → AreSomeTold may_be (counts_with c state)
+found_more may_be c name state o is state_is found =
+    let t = found.told in
+    let names = found.names in
+    record {
+      names = names ++ name ∷ [];
+      told = record {
+        states = t.states ++ state ∷ [];
+        long = omega (arith, length-append t.states (state ∷ []), length-append names (name ∷ []), t.long);
+        counted = counted_more c t.states state t.counted;
+        each = λ k lt. found_of may_be names t.states name state o t.long t.each is state_is k (omega (arith, lt, length-append names (name ∷ [])));
+      };
+    }
 
 -- one more file is reported
 pub told_more : (may_be : List ℕ → Outcome → Type 0) (names : List (List ℕ)) (told : ℕ) (c : FileCounts) (state : FileState) (o : Outcome)

@@ -1,20 +1,38 @@
 -- The names of the files that are to be checked.
-use Rattle.std.specs.Prelude.{◌≡◌, ℕ, false, List, [], ◌∷◌, drop, map, Option, Some, None}
+use Rattle.std.specs.Prelude.{◌≡◌, ℕ, ◌==◌, false, List, [], ◌∷◌, ◌++◌, drop, map, Option, Some, None, if◌then◌else◌}
+use Rattle.std.specs.Prelude.{option_map}
 use Rattle.std.specs.Global.{Vec}
 use Rattle.std.specs.Str.{IsUtf8}
+use Rattle.jri_archive.specs.declared.given.ListedName.{ListedName}
 use Rattle.jri_archive.specs.declared.names.NamedFile.{NamedFile}
 use Rattle.jri_archive.specs.declared.reading.ReadError.{ReadError}
 use Rattle.jri_archive.specs.declared.reading.ReadError.TheVariants.{NameIsNoText}
 
--- the names among the arguments after the first ones; if a list follows, their number is not known
-abbrev pub names_left : {L : Type 0} → List (Vec ℕ) → ℕ → Option L → Option (List (List ℕ))
-names_left words taken None = Some (drop taken (map (λ w. w.items) words))
-names_left words taken (Some list) = None
+-- the byte, and then the first of these names
+abbrev pub begin_with : ℕ → List (List ℕ) → List (List ℕ)
+begin_with b [] = (b ∷ []) ∷ []
+begin_with b (n ∷ ns) = (b ∷ n) ∷ ns
+
+-- the names of a list: each ends at a NUL byte, the last one also with the list
+abbrev pub names_in : List ℕ → List (List ℕ)
+names_in [] = []
+names_in (b ∷ bs) = if b == 0 then [] ∷ names_in bs else begin_with b (names_in bs)
+
+-- the names among the arguments after the first ones, and those of the bytes that a list has left, if these are known
+abbrev pub names_left : {L : Type 0} → (L → Option (List ℕ)) → List (Vec ℕ) → ℕ → Option L → Option (List (List ℕ))
+names_left remaining words taken None = Some (drop taken (map (λ w. w.items) words))
+names_left remaining words taken (Some list) = option_map (λ bytes. drop taken (map (λ w. w.items) words) ++ names_in bytes) (remaining list)
 
 -- the same if directories are searched
 abbrev pub known_names : {W : Type 0} → Option (List (List ℕ)) → Option W → Option (List (List ℕ))
 known_names given None = given
 known_names given (Some walk) = None
+
+-- the next name of a list that has these bytes left, if they are known, and what it then has left
+abbrev pub IsNextListed : Option (List ℕ) → Option ListedName → Option (List ℕ) → Type 0
+IsNextListed None listed left = Unit {0}
+IsNextListed (Some bytes) None left = bytes ≡ []
+IsNextListed (Some bytes) (Some listed) left = (rest : List ℕ) × (left ≡ Some rest) × (names_in bytes ≡ listed.name.items ∷ names_in rest)
 
 -- the next of these names, and those that are left
 abbrev pub IsNextGiven : List (List ℕ) → Option (Vec ℕ) → Option (List (List ℕ)) → Type 0

@@ -1,9 +1,10 @@
 -- What is reported of files that have names.
-use Rattle.std.specs.Prelude.{◌≡◌, ◌≢◌, ℕ, ◌-◌, ◌^◌, ◌<◌, ◌≤◌, ◌⊎◌, Bool, true, false, List, [], Option, Some, None, drop, length, map, min, sum_by, slice_get, slice_index_or}
+use Rattle.std.specs.Prelude.{◌≡◌, ◌≢◌, ℕ, ◌-◌, ◌^◌, ◌<◌, ◌≤◌, ◌⊎◌, Bool, true, false, List, [], Option, Some, None, drop, length, min, nat_lt, sum_by, slice_get, slice_index_or, IfSome, if◌then◌else◌}
 use Rattle.std.specs.Global.{Vec}
 use Rattle.jri_archive.specs.declared.reading.ReadError.{ReadError}
 use Rattle.jri_archive.specs.declared.names.NamedFile.{NamedFile}
-use Rattle.jri_archive.specs.Names.{IsNamed, IsNoText}
+use Rattle.jri_archive.specs.declared.names.NamesError.{NamesError}
+use Rattle.jri_archive.specs.Names.{IsNamed, IsNoText, names_left}
 use Rattle.jri_archive.specs.declared.counts.CheckEnd.{CheckEnd}
 use Rattle.jri_archive.specs.declared.counts.CheckEnd.TheVariants.{AllTold, NamesUnread, NamesUnended, Unwritten, Memory as NoMemory, Unrecorded}
 use Rattle.jri_archive.specs.declared.counts.CheckReport.{CheckReport}
@@ -40,6 +41,21 @@ IsCheckOf holds fails stamps knows name outcome.Skipped = ⊥
 IsCheckOf holds fails stamps knows name (outcome.Unchanged was) = (r : FileRecord) × IsStamped stamps knows name r × (r.state ≡ was)
 IsCheckOf holds fails stamps knows name (outcome.Changed c) = (bytes : List ℕ) × holds name bytes × IsOutcomeOf bytes (outcome.Checked c) × IsOther stamps knows name bytes
 IsCheckOf holds fails stamps knows name (outcome.ChangedRefused f) = (bytes : List ℕ) × holds name bytes × IsOutcomeOf bytes (outcome.Refused f) × IsOther stamps knows name bytes
+
+-- the same of a file that was found in a directory, which may be skipped, or not read for what its entry says
+abbrev pub IsFoundCheckOf : (holds : List ℕ → List ℕ → Type 0) (fails : List ℕ → ReadError → Type 0) (stamps : List ℕ → Stamp → Type 0) (knows : List ℕ → FileRecord → Type 0) → List ℕ → Outcome → Type 0
+IsFoundCheckOf holds fails stamps knows name (outcome.Checked c) = IsCheckOf holds fails stamps knows name (outcome.Checked c)
+IsFoundCheckOf holds fails stamps knows name (outcome.Refused f) = IsCheckOf holds fails stamps knows name (outcome.Refused f)
+IsFoundCheckOf holds fails stamps knows name (outcome.Unread e) = Unit {0}
+IsFoundCheckOf holds fails stamps knows name outcome.Skipped = Unit {0}
+IsFoundCheckOf holds fails stamps knows name (outcome.Unchanged was) = IsCheckOf holds fails stamps knows name (outcome.Unchanged was)
+IsFoundCheckOf holds fails stamps knows name (outcome.Changed c) = IsCheckOf holds fails stamps knows name (outcome.Changed c)
+IsFoundCheckOf holds fails stamps knows name (outcome.ChangedRefused f) = IsCheckOf holds fails stamps knows name (outcome.ChangedRefused f)
+
+-- what a check may come to of the file of such a name, by whether a proof knows all names
+abbrev pub IsCheckBy : Option (List (List ℕ)) → (holds : List ℕ → List ℕ → Type 0) (fails : List ℕ → ReadError → Type 0) (stamps : List ℕ → Stamp → Type 0) (knows : List ℕ → FileRecord → Type 0) → List ℕ → Outcome → Type 0
+IsCheckBy (Some names) = IsCheckOf
+IsCheckBy None = IsFoundCheckOf
 
 -- what a state file, if there is one, has of the file of that name
 abbrev pub HasRecord : Option (List (Vec ℕ × FileRecord)) → List ℕ → FileRecord → Type 0
@@ -113,10 +129,20 @@ pub record AreTold (may_be : List ℕ → Outcome → Type 0) (names : List (Lis
   pub counted : AreCounted c states
   pub each : (k : ℕ) → k < told → IsToldOf may_be names states k
 
--- the names among the arguments, if no list follows them and no directory is searched
-abbrev pub given_names : {L : Type 0} → Option L → Bool → List (Vec ℕ) → Option (List (List ℕ))
-given_names None false words = Some (map (λ w. w.items) words)
-given_names list is_recursive words = None
+-- files that have some names are reported, each once, and counted
+pub record AreSomeTold (may_be : List ℕ → Outcome → Type 0) (c : FileCounts) : Type 0 where
+  pub names : List (List ℕ)
+  pub told : AreTold may_be names (length names) c
+
+-- these names, if 64 bits number them
+abbrev pub numbered : Option (List (List ℕ)) → Option (List (List ℕ))
+numbered None = None
+numbered (Some names) = if nat_lt (length names) (2 ^ 64) then Some names else None
+
+-- the names among the arguments, and those of the bytes that the list has, if these are known and no directory is searched
+abbrev pub given_names : {L : Type 0} → (L → Option (List ℕ)) → Option L → Bool → List (Vec ℕ) → Option (List (List ℕ))
+given_names remaining list false words = numbered (names_left remaining words 0 list)
+given_names remaining list true words = None
 
 -- the number of reported files, of all files if that is known, and what they came to
 pub record QueueValue : Type 0 where
@@ -127,19 +153,25 @@ pub record QueueValue : Type 0 where
 -- what is reported so far is about the files that a proof knows
 pub record IsQueueOf (names : Option (List (List ℕ))) (may_be : List ℕ → Outcome → Type 0) (q : QueueValue) : Type 0 where
   pub few : (all : List (List ℕ)) → names ≡ Some all → length all < 2 ^ 64
-  pub files : (all : List (List ℕ)) → names ≡ Some all → q.files ≡ Some (length all)
+  pub files : (all : List (List ℕ)) → names ≡ Some all → IfSome q.files (λ n. n ≡ length all)
   pub counted : is_open q.report.end ≡ true → (all : List (List ℕ)) → names ≡ Some all → AreTold may_be all q.told q.report.counts
+  pub found : is_open q.report.end ≡ true → names ≡ None → AreSomeTold may_be q.report.counts
+
+-- a check may find that a file is skipped, or not read for any reason
+abbrev pub AllowsEntries : (List ℕ → Outcome → Type 0) → Type 0
+AllowsEntries may_be = (name : List ℕ) → may_be name outcome.Skipped × ((e : ReadError) → may_be name (outcome.Unread e))
 
 -- a file that is claimed of such names: the one of its number
 abbrev pub IsClaimOf : Option (List (List ℕ)) → (number : ℕ) → NamedFile → Type 0
 IsClaimOf None number file = Unit {0}
 IsClaimOf (Some names) number file = (name : List ℕ) × (slice_get names number ≡ Some name) × IsNamed file name
 
--- these of the names that a proof knows are left, unless there was an error
-pub record IsNameQueueOf (names others : Option (List (List ℕ))) (claimed : ℕ) (is_over : Bool) : Type 0 where
+-- these of the names that a proof knows are left; once there is none, and there was no error, all are claimed
+pub record IsNameQueueOf (names others : Option (List (List ℕ))) (claimed : ℕ) (is_over : Bool) (error : Option NamesError) : Type 0 where
   pub few : (all : List (List ℕ)) → names ≡ Some all → length all < 2 ^ 64
   pub within : (all : List (List ℕ)) → names ≡ Some all → is_over ≡ false → claimed ≤ length all
   pub left : (all : List (List ℕ)) → names ≡ Some all → is_over ≡ false → others ≡ Some (drop claimed all)
+  pub over : (all : List (List ℕ)) → names ≡ Some all → is_over ≡ true → error ≡ None → claimed ≡ length all
 
 -- what a check of a file comes to is what a proof expects of it
 abbrev pub AreChecksOf : (holds : List ℕ → List ℕ → Type 0) (fails : List ℕ → ReadError → Type 0) (stamps : List ℕ → Stamp → Type 0) (knows : List ℕ → FileRecord → Type 0) → (may_be : List ℕ → Outcome → Type 0) → Type 0

@@ -3,7 +3,7 @@
 ghost use Rattle.std.specs.Prelude.{◌≡◌, ℕ, ◌<◌, ◌^◌, not, List, [], Some, None, true, false, length, slice_get, slice_index_or, IfSome};
 ghost use Rattle.jri_archive.specs.Outcomes.{IsOutcomeOf, plain_outcome, state_of};
 ghost use Rattle.jri_archive.specs.Status.{findings_with};
-ghost use Rattle.jri_archive.specs.Told.{AreTold, is_open};
+ghost use Rattle.jri_archive.specs.Told.{AreSomeTold, AreTold, is_open};
 
 use crate::answers::LineForm;
 use crate::count_lines::append_counts;
@@ -108,7 +108,7 @@ impl<S: OneCheck, O: Write, P: Progress + Drop> FileQueue<S, O, P> {
     /// Returns a queue of which no file is reported yet. `files` is their number, if it is known.
     pub(crate) fn of(form: LineForm, files: Option<u64>, out: O, progress: P) -> FileQueue<S, O, P>
         requires few { (names : List (List ℕ)) → S.names ≡ Some names → length names < 2 ^ 64 }
-        requires all { (names : List (List ℕ)) → S.names ≡ Some names → files ≡ Some (length names) }
+        requires all { (names : List (List ℕ)) → S.names ≡ Some names → IfSome files (λ n. n ≡ length names) }
     {
         FileQueue {
             form,
@@ -135,7 +135,9 @@ impl<S: OneCheck, O: Write, P: Progress + Drop> FileQueue<S, O, P> {
     }
 
     /// Stores the number of files, if it was not known before.
-    fn set_files(&mut self, files: u64) {
+    pub(crate) fn set_files(&mut self, files: u64)
+        requires { (names : List (List ℕ)) → S.names ≡ Some names → files ≡ length names }
+    {
         if self.files.is_none() {
             self.files = Some(files);
         }
@@ -206,14 +208,13 @@ impl<S: OneCheck, O: Write, P: Progress + Drop> FileQueue<S, O, P> {
         }
     }
 
-    /// Notes that no name is claimed after the first `claimed`: there is none, or it could not be read.
-    pub(crate) fn end_names(&mut self, error: Option<NamesError>, claimed: u64) {
-        match error {
-            None => self.set_files(claimed),
-            Some(NamesError::Read) => self.end(CheckEnd::NamesUnread),
-            Some(NamesError::Unended) => self.end(CheckEnd::NamesUnended),
-            Some(NamesError::Memory) => self.end(CheckEnd::Memory),
-        }
+    /// Notes that the next name could not be read.
+    pub(crate) fn end_names(&mut self, error: NamesError) {
+        self.end(match error {
+            NamesError::Read => CheckEnd::NamesUnread,
+            NamesError::Unended => CheckEnd::NamesUnended,
+            NamesError::Memory => CheckEnd::Memory,
+        });
     }
 
     /// Notes that a record cannot be written.
@@ -224,20 +225,21 @@ impl<S: OneCheck, O: Write, P: Progress + Drop> FileQueue<S, O, P> {
         });
     }
 
-    /// Returns whether all files are reported, if their number is known.
+    /// Returns whether all files are reported. Their number is known once no name is left.
     fn has_told_all(&self) -> bool
         ensures { result ≡ true → (names : List (List ℕ)) → S.names ≡ Some names → self.now.told ≡ length names }
     {
         match self.files {
             Some(files) => self.told == files,
-            None => true,
+            None => false,
         }
     }
 
     /// Ends the reports, and returns what the files came to and the output. Allocation failed for a file that was not
     /// reported.
     pub(crate) fn close(self) -> (CheckReport, O)
-        ensures { result.0.end ≡ CheckEnd.AllTold → (names : List (List ℕ)) → S.names ≡ Some names → AreTold S.may_be names (length names) result.0.counts }
+        ensures told { result.0.end ≡ CheckEnd.AllTold → (names : List (List ℕ)) → S.names ≡ Some names → AreTold S.may_be names (length names) result.0.counts }
+        ensures found { result.0.end ≡ CheckEnd.AllTold → S.names ≡ None → AreSomeTold S.may_be result.0.counts }
     {
         let mut queue = self;
         queue.progress.end();
@@ -250,6 +252,7 @@ impl<S: OneCheck, O: Write, P: Progress + Drop> FileQueue<S, O, P> {
     /// Notes the state of the next file.
     fn note(&mut self, state: FileState)
         requires next { (names : List (List ℕ)) → S.names ≡ Some names → (self.old.told < length names) × ((o : Outcome) × S.may_be (slice_index_or names self.old.told []) o × (state ≡ state_of o)) }
+        requires found { S.names ≡ None → (name : List ℕ) × (o : Outcome) × S.may_be name o × (state ≡ state_of o) }
     {
         self.report.counts = self.report.counts.with(state);
         self.told = self.told.saturating_add(1);
@@ -301,6 +304,7 @@ impl<S: OneCheck, O: Write, P: Progress + Drop> FileQueue<S, O, P> {
     pub(crate) fn write_due(&mut self, alloc: Global, name: &[u8], file: &CheckedFile)
         requires bytes { IfSome file.now.bytes (λ b. IsOutcomeOf b.items (plain_outcome file.now.outcome)) }
         requires next { (names : List (List ℕ)) → S.names ≡ Some names → (slice_get names self.old.told ≡ Some name.now) × S.may_be name.now file.now.outcome }
+        requires found { S.names ≡ None → S.may_be name.now file.now.outcome }
     {
         let state = file.outcome.state();
         self.make_way(file);

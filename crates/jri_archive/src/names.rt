@@ -1,7 +1,8 @@
 //! The names of the files that are checked, in order.
 
-ghost use Rattle.std.specs.Prelude.{◌≡◌, ℕ, List, Some, None, false, length, map, IfOk, IfSome, IfNone};
-ghost use Rattle.jri_archive.specs.Names.{IsNamed, IsNextFile, IsNoText};
+ghost use Rattle.std.specs.Prelude.{◌≡◌, ℕ, List, Some, None, false, length, IfOk, IfSome, IfNone};
+ghost use Rattle.std.specs.Io.Buffered.{reader_remaining};
+ghost use Rattle.jri_archive.specs.Names.{IsNamed, IsNextFile, IsNoText, names_left};
 
 use crate::folders::FolderWalk;
 use crate::given::GivenNames;
@@ -87,7 +88,7 @@ impl<I: Read + Drop> FileNames<I> {
         list: Option<BufReader<I>>,
         is_recursive: bool,
     ) -> FileNames<I>
-        ensures { IfNone list (is_recursive ≡ false → result ≡ Some (map (λ w. w.items) given.items)) }
+        ensures { is_recursive ≡ false → result ≡ names_left (reader_remaining I.remaining) given.items 0 list }
     {
         let mut walk = None;
         if is_recursive {
@@ -109,7 +110,7 @@ impl<I: Read + Drop> FileNames<I> {
 
     /// Returns the number of names that are left, if it is known.
     pub fn left(&self) -> Option<u64>
-        ensures { (names : List (List ℕ)) → self.now ≡ Some names → result ≡ Some (length names) }
+        ensures { (names : List (List ℕ)) → self.now ≡ Some names → IfSome result (λ n. n ≡ length names) }
     {
         match self.walk {
             Some(_) => None,

@@ -1,9 +1,10 @@
 //! Many files, checked with several workers and reported in their order.
 
-ghost use Rattle.std.specs.Prelude.{◌≡◌, ◌≤◌, ◌<◌, ◌^◌, ℕ, List, Some, None, false, length, map, drop, slice_get, IfOk, IfSome, IfNone};
+ghost use Rattle.std.specs.Prelude.{◌≡◌, ◌≤◌, ◌<◌, ◌^◌, ℕ, List, Some, None, Ok, false, length, map, drop, slice_get, IfOk, IfSome, IfNone};
+ghost use Rattle.std.specs.Io.Buffered.{reader_remaining};
 ghost use Rattle.jri_archive.specs.Names.{IsNamed, IsNoText};
 ghost use Rattle.jri_archive.specs.Outcomes.{IsOutcomeOf, plain_outcome};
-ghost use Rattle.jri_archive.specs.Told.{AreChecksOf, AreTold, IsCheckOf, IsClaimOf, HasRecord, IsRecordOf, given_names};
+ghost use Rattle.jri_archive.specs.Told.{AllowsEntries, AreChecksOf, AreSomeTold, AreTold, IsCheckOf, IsClaimOf, IsFoundCheckOf, HasRecord, IsRecordOf, given_names};
 
 use crate::answers::CheckRequest;
 use crate::counts::{CheckEnd, CheckReport};
@@ -30,6 +31,8 @@ struct NameQueue<S: OneCheck, I: Read + Drop> {
     claimed: u64,
     /// Whether there is no further name.
     is_over: bool,
+    /// Why, if it is not that all are claimed.
+    error: Option<NamesError>,
     _of: PhantomData<S>,
 }
 
@@ -41,7 +44,7 @@ impl<S: OneCheck, I: Read + Drop> Model for NameQueue<S, I> {
 
     ghost view = { λ q. q.claimed };
 
-    ghost invariant = { λ q. IsNameQueueOf S.names q.names q.claimed q.is_over };
+    ghost invariant = { λ q. IsNameQueueOf S.names q.names q.claimed q.is_over q.error };
 }
 
 /// What the workers share.
@@ -58,15 +61,15 @@ struct Sharing<S: OneCheck, F: Folder, I: Read + Drop, O, P, W> {
 }
 
 impl<S: OneCheck, F: Folder, I: Read + Drop, O, P, W> Model for Sharing<S, F, I, O, P, W> {
-    ghost use Rattle.std.specs.Prelude.{ℕ, List};
+    ghost use Rattle.std.specs.Prelude.{◌≡◌, ℕ, List, None};
     ghost use Rattle.jri_archive.specs.declared.source.Source.{Source};
-    ghost use Rattle.jri_archive.specs.Told.{AreChecksOf, HasRecord};
+    ghost use Rattle.jri_archive.specs.Told.{AllowsEntries, AreChecksOf, HasRecord};
 
     ghost Value = { Source F W };
 
     ghost view = { λ s. s.source };
 
-    ghost invariant = { λ s. AreChecksOf (F.holds s.source.folder) (F.fails s.source.folder) (F.stamps s.source.folder) (HasRecord s.source.state) S.may_be };
+    ghost invariant = { λ s. AreChecksOf (F.holds s.source.folder) (F.fails s.source.folder) (F.stamps s.source.folder) (HasRecord s.source.state) S.may_be × (S.names ≡ None → AllowsEntries S.may_be) };
 }
 
 impl<S: OneCheck, I: Read + Drop> NameQueue<S, I> {
@@ -78,12 +81,15 @@ impl<S: OneCheck, I: Read + Drop> NameQueue<S, I> {
             names,
             claimed: 0,
             is_over: false,
+            error: None,
             _of: PhantomData,
         }
     }
 
     /// Returns the number of claimed names.
-    fn claimed(&self) -> u64 {
+    fn claimed(&self) -> u64
+        ensures { result ≡ self.now }
+    {
         self.claimed
     }
 
@@ -93,21 +99,30 @@ impl<S: OneCheck, I: Read + Drop> NameQueue<S, I> {
         alloc: Global,
         folder: &F,
     ) -> Result<Option<(u64, NamedFile)>, NamesError>
-        ensures { IfOk result (λ o. IfSome o (λ c. IsClaimOf S.names c.0 c.1)) }
+        ensures claim { IfOk result (λ o. IfSome o (λ c. IsClaimOf S.names c.0 c.1)) }
+        ensures all { result ≡ Ok None → (all : List (List ℕ)) → S.names ≡ Some all → self.new ≡ length all }
     {
         if self.is_over {
-            return Ok(None);
+            return match self.error {
+                Some(error) => Err(error),
+                None => Ok(None),
+            };
         }
-        let file = self.names.next(alloc, folder);
-        if let Ok(Some(file)) = file {
-            let number = self.claimed;
-            self.claimed = self.claimed.saturating_add(1);
-            return Ok(Some((number, file)));
-        }
-        self.is_over = true;
-        match file {
-            Err(error) => Err(error),
-            Ok(_) => Ok(None),
+        match self.names.next(alloc, folder) {
+            Ok(Some(file)) => {
+                let number = self.claimed;
+                self.claimed = self.claimed.saturating_add(1);
+                Ok(Some((number, file)))
+            }
+            Ok(None) => {
+                self.is_over = true;
+                Ok(None)
+            }
+            Err(error) => {
+                self.is_over = true;
+                self.error = Some(error);
+                Err(error)
+            }
         }
     }
 }
@@ -122,7 +137,8 @@ impl<
 > Sharing<S, F, I, O, P, W> {
     /// Returns the next name, if there is one, and the number of claimed names then.
     fn next_name<R: Wait>(&self, rt: &R) -> (Result<Option<(u64, NamedFile)>, NamesError>, u64)
-        ensures { IfOk result.0 (λ o. IfSome o (λ c. IsClaimOf S.names c.0 c.1)) }
+        ensures claim { IfOk result.0 (λ o. IfSome o (λ c. IsClaimOf S.names c.0 c.1)) }
+        ensures all { result.0 ≡ Ok None → (all : List (List ℕ)) → S.names ≡ Some all → result.1 ≡ length all }
     {
         let mut names = self.names.lock(rt);
         let file = names.claim(self.alloc, &self.source.folder);
@@ -137,12 +153,11 @@ impl<
             return None;
         }
         let (file, claimed) = self.next_name(rt);
-        let error = match file {
+        match file {
             Ok(Some(file)) => return Some(file),
-            Ok(None) => None,
-            Err(error) => Some(error),
-        };
-        self.desk.lock(rt).end_names(error, claimed);
+            Ok(None) => self.desk.lock(rt).set_files(claimed),
+            Err(error) => self.desk.lock(rt).end_names(error),
+        }
         None
     }
 
@@ -150,6 +165,7 @@ impl<
     fn check<R: Threads + Wait + Sync>(&self, rt: &R, file: &NamedFile) -> CheckedFile
         ensures map { IfSome result.bytes (λ b. IsOutcomeOf b.items (plain_outcome result.outcome)) }
         ensures outcome { ((x : ReadError) → file.now.error ≡ Some x → IsNoText file.now.name.items x) → file.now.is_skipped ≡ false → S.may_be file.now.name.items result.outcome }
+        ensures found { S.names ≡ None → S.may_be file.now.name.items result.outcome }
         ensures entry { IfSome result.entry (λ r. IsRecordOf (F.holds self.now.folder) (F.stamps self.now.folder) file.now.name.items r result.outcome) }
     {
         if file.is_skipped {
@@ -180,6 +196,7 @@ impl<
     fn report<R: Wait>(&self, rt: &R, number: u64, name: &[u8], file: &CheckedFile)
         requires bytes { IfSome file.now.bytes (λ b. IsOutcomeOf b.items (plain_outcome file.now.outcome)) }
         requires next { (all : List (List ℕ)) → S.names ≡ Some all → (slice_get all number ≡ Some name.now) × S.may_be name.now file.now.outcome }
+        requires found { S.names ≡ None → S.may_be name.now file.now.outcome }
         requires entry { IfSome file.now.entry (λ r. IsRecordOf (F.holds self.now.folder) (F.stamps self.now.folder) name.now r file.now.outcome) }
     {
         let desk = self.desk.lock(rt);
@@ -238,7 +255,7 @@ impl<
                     desk.write_missing(self.alloc, name.as_slice());
                 }
             }
-            Err(_) => desk.end_names(Some(NamesError::Memory), 0),
+            Err(_) => desk.end_names(NamesError::Memory),
         }
     }
 
@@ -294,9 +311,11 @@ fn check_as<
     out: O,
     progress: P,
 ) -> (CheckReport, O)
-    requires names { S.names ≡ given_names list asked.is_recursive asked.names.items }
+    requires names { S.names ≡ given_names (reader_remaining I.remaining) list asked.is_recursive asked.names.items }
     requires checks { AreChecksOf (F.holds source.folder) (F.fails source.folder) (F.stamps source.folder) (HasRecord source.state) S.may_be }
-    ensures { result.0.end ≡ CheckEnd.AllTold → (all : List (List ℕ)) → S.names ≡ Some all → AreTold S.may_be all (length all) result.0.counts }
+    requires entries { S.names ≡ None → AllowsEntries S.may_be }
+    ensures told { result.0.end ≡ CheckEnd.AllTold → (all : List (List ℕ)) → S.names ≡ Some all → AreTold S.may_be all (length all) result.0.counts }
+    ensures found { result.0.end ≡ CheckEnd.AllTold → S.names ≡ None → AreSomeTold S.may_be result.0.counts }
 {
     let names = FileNames::of(alloc, asked.names, list, asked.is_recursive);
     let files = names.left();
@@ -339,7 +358,8 @@ pub fn check_all<
     out: O,
     progress: P,
 ) -> (CheckReport, O)
-    ensures { result.0.end ≡ CheckEnd.AllTold → IfNone list (asked.is_recursive ≡ false → AreTold (IsCheckOf (F.holds source.folder) (F.fails source.folder) (F.stamps source.folder) (HasRecord source.state)) (map (λ w. w.items) asked.names.items) (length asked.names.items) result.0.counts) }
+    ensures told { result.0.end ≡ CheckEnd.AllTold → (all : List (List ℕ)) → given_names (reader_remaining I.remaining) list asked.is_recursive asked.names.items ≡ Some all → AreTold (IsCheckOf (F.holds source.folder) (F.fails source.folder) (F.stamps source.folder) (HasRecord source.state)) all (length all) result.0.counts }
+    ensures found { result.0.end ≡ CheckEnd.AllTold → given_names (reader_remaining I.remaining) list asked.is_recursive asked.names.items ≡ None → AreSomeTold (IsFoundCheckOf (F.holds source.folder) (F.fails source.folder) (F.stamps source.folder) (HasRecord source.state)) result.0.counts }
 {
     let (form, has_counts) = (asked.form, asked.has_counts);
     let (report, mut out) = check_as::<Brand, R, F, I, O, P, W>(

@@ -1,8 +1,8 @@
 use Rattle.std.proofs.Common.{arith, ap, get_or, length, subst, sym, ◌∙◌, ◌≡◌, ℕ, [], ◌+◌, ◌<◌}
 use Rattle.std.proofs.Math.Nat.{min-eq_left}
 use Rattle.jri_archive.specs.declared.counts.FileCounts.{FileCounts}
-use Rattle.jri_archive.specs.Told.{AreTold, QueueValue}
-use Rattle.jri_archive.proofs.Counting.{told_more}
+use Rattle.jri_archive.specs.Told.{AreSomeTold, AreTold, QueueValue}
+use Rattle.jri_archive.proofs.Counting.{found_more, told_more}
 use Rattle.jri_archive.proofs.file_queue.FileQueue.note.Goals as goal
 
 pub invariant_of-self : goal.invariant_of-self
@@ -19,4 +19,8 @@ invariant_of-self g c = record {
       let more : c.saturating_add-self-inside.result ≡ c.self.inside.told + 1 = c.saturating_add-self-inside.ensures ∙ min-eq_left (omega (arith, within, few)) in
       subst (λ (n : ℕ). AreTold g.S.OneCheck.may_be all n c.with-self-inside.result) (sym more)
       (subst (λ (x : FileCounts). AreTold g.S.OneCheck.may_be all (c.self.inside.told + 1) x) (sym c.with-self-inside.ensures) t);
+  found = λ is_open unknown.
+      let f = c.requires.found unknown in
+      subst (λ (x : FileCounts). AreSomeTold g.S.OneCheck.may_be x) (sym c.with-self-inside.ensures)
+      (found_more g.S.OneCheck.may_be c.self.inside.report.counts f.0 c.args.state f.1 f.2 f.3 (c.self.invariant.found is_open unknown));
 }

@@ -15,4 +15,5 @@ note-requires g c = record {
           search (rules, c.state-state.ensures),
         ),
       );
+  found = λ unknown. (c.args.name.now, c.args.file.now.outcome, c.requires.found unknown, search (rules, c.state-state.ensures));
 }

@@ -6,4 +6,5 @@ invariant_of-result g c = record {
   few = λ all known. (c.requires all known).1;
   within = λ all known going. omega arith;
   left = λ all known going. (c.requires all known).0;
+  over = λ all known over _. absurd (let e = over in cc);
 }
