@@ -39,6 +39,25 @@ class Bits:
         return int(bits, 2) if bits[0] == "1" else int(bits, 2) - 2**size + 1
 
 
+def frame_size(data):
+    """The width, the height and the number of components in the first frame header of a file, of SOF0 to SOF15; zeros if no whole one
+    comes before the scan, and after nothing but whole segments of tables, restart intervals, APPn and COM."""
+    at = 2 if data[:2] == b"\xff\xd8" else len(data)
+    while found := re.match(rb"\xff+([^\xff])(..)", data[at:], re.S):
+        code, size = found[1][0], int.from_bytes(found[2], "big")
+        payload = data[at + found.end() :][: max(size - 2, 0)]
+        if size < 2 or len(payload) < size - 2:
+            break
+        if code in range(0xC0, 0xD0) and code not in (0xC4, 0xC8, 0xCC):
+            if len(payload) < 6:
+                break
+            return int.from_bytes(payload[3:5], "big"), int.from_bytes(payload[1:3], "big"), payload[5]
+        if code not in (0xC4, 0xDB, 0xDD, 0xFE, *range(0xE0, 0xF0)):
+            break
+        at += found.end() + size - 2
+    return 0, 0, 0
+
+
 class Head:
     """What the markers before the scan say."""
 

@@ -140,6 +140,22 @@ fn check_header(case: &Case<'_>, out: &mut Differences) {
     out.compare_numbers("header, more may come", 1, u64::from(is_same));
 }
 
+/// Compares the size in the frame header of a refused file with that of the row, unless it is cut to several lengths.
+fn check_size(case: &Case<'_>, out: &mut Differences) {
+    if case.row.cut.is_some() {
+        return;
+    }
+    let (width, height, components) = case.row.size;
+    let found = &case.header;
+    out.compare_numbers("width", u64::from(width), u64::from(found.width));
+    out.compare_numbers("height", u64::from(height), u64::from(found.height));
+    out.compare_numbers(
+        "components",
+        u64::from(components),
+        u64::from(found.components),
+    );
+}
+
 /// Decodes a case's file, checks it, and reads its header.
 pub(crate) fn check_buffers(case: &Case<'_>, out: &mut Differences) {
     let mut marks = out.bytes(1, case.header.intervals as usize);
@@ -151,5 +167,7 @@ pub(crate) fn check_buffers(case: &Case<'_>, out: &mut Differences) {
     if !case.is_refused() {
         check_header(case, out);
         check_small_buffer(case, out);
+    } else {
+        check_size(case, out);
     }
 }

@@ -12,6 +12,8 @@ pub(crate) struct Row<'a> {
     pub first: Option<u32>,
     /// The least and the greatest length to which the file is cut, if it is.
     pub cut: Option<(usize, usize)>,
+    /// The width, the height and the number of components in the frame header of a refused file; 0 if it has none.
+    pub size: (u32, u32, u32),
     /// Whether the stored run of `jri_check` has the file; such a file is also cut and changed at each byte.
     pub is_stored: bool,
     /// The lines of the report, separated by `/`.
@@ -34,12 +36,24 @@ fn lengths_of(digits: &str) -> Result<(usize, usize), NotationError> {
     Ok((least.parse::<usize>()?, most.parse::<usize>()?))
 }
 
+/// Returns the width, the height and the number of components of the option `size`, as `24,16,1`.
+fn size_of(digits: &str) -> Result<(u32, u32, u32), NotationError> {
+    let (width, others) = digits.split_once(',').ok_or(NotationError::Malformed)?;
+    let (height, components) = others.split_once(',').ok_or(NotationError::Malformed)?;
+    Ok((
+        width.parse::<u32>()?,
+        height.parse::<u32>()?,
+        components.parse::<u32>()?,
+    ))
+}
+
 /// Changes a row as an option says.
 fn set(row: &mut Row<'_>, word: &str) -> Result<(), NotationError> {
     match word.split_once('=') {
         None if word == "stored" => row.is_stored = true,
         Some(("first", digits)) => row.first = Some(digits.parse::<u32>()?),
         Some(("cut", digits)) => row.cut = Some(lengths_of(digits)?),
+        Some(("size", digits)) => row.size = size_of(digits)?,
         _ => return Err(NotationError::Malformed),
     }
     Ok(())
@@ -60,6 +74,7 @@ pub(crate) fn row_of(line: &str) -> Result<Row<'_>, NotationError> {
         file: field(line, 1),
         first: None,
         cut: None,
+        size: (0, 0, 0),
         is_stored: false,
         report: field(line, 3),
         status: field(line, 4).parse::<u8>()?,
