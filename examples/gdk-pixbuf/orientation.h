@@ -2,9 +2,10 @@
 #ifndef ORIENTATION_H
 #define ORIENTATION_H
 
-#include <glib.h>
+#include <stddef.h>
+#include <stdint.h>
 
-/* The orientation that a JPEG file's first Exif segment gives, 1 to 8; 0 where it gives none. */
-guint orientation_of(const guint8 *file, gsize length);
+/* The orientation that a JPEG file's first Exif segment gives, 1 to 8; 0 if it gives none. */
+unsigned orientation_of(const uint8_t *file, size_t length);
 
 #endif
