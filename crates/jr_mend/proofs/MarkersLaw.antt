@@ -1,4 +1,4 @@
--- The markers in bytes that are a segment's, and in those from a marker on.
+-- The markers in a segment's bytes, and in the bytes that start at a marker.
 use Rattle.std.proofs.Common.{◌≡◌, ◌≢◌, ℕ, zero, suc, ◌+◌, ◌-◌, ◌<◌, ◌≤◌, Bool, true, false, cond, min, List, [], ◌∷◌, ◌++◌, length, take, drop, get_or, replicate, refl, sym, ap, subst, ◌∙◌, inl, inr, append_assoc, length-append, Option, arith}
 use Rattle.std.specs.Prelude.{not, ◌&&◌, ◌||◌, ◌==◌}
 use Rattle.std.specs.List.{AllByRecursion, flat_map}
@@ -261,7 +261,7 @@ module _ (n run : ℕ) (m : ScanMarker) (ms : List ScanMarker) (on : (m.code == 
       let r : (is_restart m.code && (all && is_back n (suc (restarts ms)) m.code)) ≡ b = ap (λ (x : Bool). x && (all && is_back n (suc (restarts ms)) m.code)) restart ∙ e in
       cond-false (m.code == EOI) _ _ on ∙ ap (λ (x : Bool). cond x (suc (counted_back n ms)) (counted_back n ms)) r
 
-  -- the number of those from it on that are counted back is that of those after it, which are not all
+  -- this marker is not counted back, so the number stays that of the markers after it, which are not all counted back
   stays : counted_back n (m ∷ ms) ≡ counted_back n ms → joined n run (m ∷ ms) ≡ counted_back n ms
   stays e =
       let less : counted_back n (m ∷ ms) ≡ restarts (m ∷ ms) → ⊥ = λ z. omega (arith, z, e, some, counted_few n ms) in

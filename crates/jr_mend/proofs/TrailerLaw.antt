@@ -183,7 +183,7 @@ same_read n (x ∷ xs) (y ∷ ys) (e, inr s) =
     let same : is_false_end n x xs ≡ is_false_end n y ys = ap (λ (b : Bool). (x.code == EOI) && b) (same_goes_on n xs ys s) ∙ ap (λ (m : ScanMarker). is_false_end n m ys) e in
     (ap (λ (b : Bool). cond b (record { before = x.before; code = TEM }) x) same ∙ ap (λ (m : ScanMarker). cond (is_false_end n y ys) (record { before = m.before; code = TEM }) m) e, inr (same_read n xs ys s))
 
--- so are as many missing at most
+-- then both have the same maximum number of missing segments
 module _ (n size since k : ℕ) (m : ScanMarker) (xs ys : List ScanMarker) where
   -- by what is known of all, and of those after the first
   abbrev most_by : (ended counted : Bool) (left : ℕ) (run : Bool) → ℕ
@@ -279,7 +279,7 @@ module _ (n at : ℕ) (bytes more : List ℕ) (r : Resync) (x : IsResync n at by
   whole : bytes ≡ front ++ tail
   whole = x.spelled ∙ ap (λ (t : List ℕ). x.raw ++ t) x.parts.spelled ∙ sym (append_assoc x.raw (flat_map part_bytes parts) tail)
 
-  -- the scan has as many bytes
+  -- the scan has the same number of bytes
   size : scan_bytes (scan_markers n bytes) ≡ scan_bytes (scan_markers n (bytes ++ more))
   size =
       let same = (agree n _ _ (same_read n _ _ (to_end n eoi.0 eoi.1 (eoi.1 ++ more) both 0 front))).size in

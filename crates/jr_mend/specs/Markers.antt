@@ -95,8 +95,8 @@ held n size bytes = (2 * (bytes * n) / max size 1 + 1) / 2
 
 -- the number of segments that may be missing before the first of these markers, after segment k, whose marker is `since` bytes
 -- before it: none if the scan's bytes are too few for n markers; those up to the last intervals if all restart markers up to EOI
--- are counted back from there; otherwise as many as the bytes hold without segment k, and MAX_EARLY more if the markers after it
--- are in step over SURE_BYTES
+-- are counted back from there; otherwise the number that the bytes hold without segment k, and MAX_EARLY more if the markers
+-- after it are in step over SURE_BYTES
 abbrev pub most_missing : (n size since k : ℕ) → List ScanMarker → ℕ
 most_missing n size since k [] = 0
 most_missing n size since k (m ∷ ms) =

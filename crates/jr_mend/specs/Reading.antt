@@ -34,7 +34,7 @@ abbrev pub IsFollowing : (n size since k at : ℕ) → List ℕ → Following �
 IsFollowing n size since k at tail (End end) = EndsResync n k at tail end
 IsFollowing n size since k at tail (Marker m) = Meets n size since k tail m
 
--- what is known of the markers that lie ahead
+-- what is known of the markers ahead
 pub record IsOutlook (n : ℕ) (ms : List ScanMarker) (o : Outlook) : Type 0 where
   pub left : o.left ≡ restarts ms
   pub back : counted_back n ms ≡ min o.back (restarts ms)

@@ -28,7 +28,7 @@ fn longest_of(copies: &[FileCopy]) -> usize
 }
 
 impl DataBuffers {
-    /// Allocates buffers for any interval of the copies. Of a buffer as many pages are touched as the longest interval needs.
+    /// Allocates buffers for any interval of the copies. Each uses the pages that the longest interval needs.
     pub(crate) fn of(alloc: Global, copies: &[FileCopy]) -> Result<DataBuffers, Memory>
         ensures chosen { IfOk result (λ b. HasSpace copies.now (vec_capacity b.chosen)) }
         ensures next { IfOk result (λ b. HasSpace copies.now (vec_capacity b.next)) }

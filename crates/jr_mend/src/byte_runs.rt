@@ -71,7 +71,7 @@ fn difference_end(copies: &[FileCopy], start: usize, to: usize) -> usize
     end
 }
 
-/// Returns the first bytes in a range in which copies differ, as far as they lie in one sector.
+/// Returns the first bytes in a range in which copies differ, up to the end of their sector.
 pub(crate) fn next_difference(copies: &[FileCopy], from: usize, to: usize) -> Option<Difference>
     requires { All (λ c. to ≤ length c.file) copies.now }
     ensures from { IfSome result (λ d. from ≤ d.start) }

@@ -12,7 +12,7 @@ use crate::byte_runs::{ByteRun, Difference, next_difference};
 use crate::choice::MAX_COPIES;
 use crate::file_copy::FileCopy;
 use crate::mending::other_head;
-use crate::spot::{Reach, Spot};
+use crate::scan_position::{Reach, ScanPosition};
 use jr_base::Memory;
 use jr_head::Head;
 use std::alloc::Global;
@@ -180,7 +180,7 @@ fn best_version(
     copies: &[FileCopy],
     file: &[u8],
     found: Difference,
-    spot: Spot,
+    position: ScanPosition,
     buffers: &mut TrialBuffers,
 ) -> Result<u32, Memory>
     requires some { 0 < length copies.now }
@@ -189,17 +189,17 @@ fn best_version(
     requires within { found.end ≤ length file.now }
     requires long { All (λ c. length file.now ≤ length c.file) copies.now }
     requires short { length file.now ≤ MAX_FILE_BYTES }
-    requires in_range { All IsInDcRange spot.place.predictions }
+    requires in_range { All IsInDcRange position.place.predictions }
     requires capacity { length file.now < vec_capacity buffers.old.data }
     ensures copy { IfOk result (λ k. k < length copies.now) }
     ensures capacity { length file.now < vec_capacity buffers.new.data }
 {
-    let from = spot.at.min(found.start);
+    let from = position.at.min(found.start);
     let to = found.end.saturating_add(FAR_BYTES).min(file.len());
     let before = &file[from..found.start];
-    let spot = Spot {
-        at: spot.at.saturating_sub(from),
-        ..spot
+    let position = ScanPosition {
+        at: position.at.saturating_sub(from),
+        ..position
     };
     let mut best = 0;
     let mut rank = Rank { numbers: [0; 5] };
@@ -209,7 +209,7 @@ fn best_version(
         }
         let version = &copies[k].file()[found.start..to];
         write_trial(&mut buffers.bytes, before, version)?;
-        let reach = spot.reach(head, &buffers.bytes, &mut buffers.data);
+        let reach = position.reach(head, &buffers.bytes, &mut buffers.data);
         let next = Rank::of(reach, found.end - from, votes_for(copies, k, found));
         if next.is_above(&rank) {
             best = k;
@@ -265,16 +265,16 @@ fn choose_runs(
     let mut at = head.scan_at() as usize;
     // A header has at least one interval.
     let _some = head.intervals();
-    let mut spot = Spot::at_start(head, 0, at);
+    let mut position = ScanPosition::at_start(head, 0, at);
     for _ in 0..MAX_RUNS {
         let Some(found) = next_difference(copies, at, size) else {
             break;
         };
-        spot = spot.advanced(head, file, found.start, &mut buffers.data);
-        if spot.is_after_image {
+        position = position.advanced(head, file, found.start, &mut buffers.data);
+        if position.is_after_image {
             break;
         }
-        let copy = best_version(head, copies, file, found, spot, &mut buffers)?;
+        let copy = best_version(head, copies, file, found, position, &mut buffers)?;
         runs.push(settle(copies, file, found, copy))?;
         at = found.end;
     }
@@ -282,8 +282,8 @@ fn choose_runs(
 }
 
 /// Combines copies of one length to one file: of the bytes in which they differ it has those with which the scan decodes
-/// furthest. At most `MAX_RUNS` times as many versions are tried as there are copies, and each is decoded up to `FAR_BYTES`
-/// after the run. It allocates the file, the runs, and buffers for the bytes and the data of an interval.
+/// furthest. For each copy it tries at most `MAX_RUNS` versions, and decodes each up to `FAR_BYTES` after the run. It
+/// allocates the file, the runs, and buffers for the bytes and the data of an interval.
 ///
 /// # Errors
 ///

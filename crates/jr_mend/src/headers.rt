@@ -9,8 +9,8 @@ use jr_base::Memory;
 use jr_head::Head;
 use std::alloc::Global;
 
-/// Returns a file with the header of another one: the bytes of that one up to the end of its scan header, and the bytes of
-/// this one after as many. The header is that of the other file.
+/// Returns a file with the header of another one: the other file up to the end of its scan header, then
+/// this file starting at that offset. The header is that of the other file.
 ///
 /// A copy of a file whose header is damaged is read so under that of another copy.
 pub fn under_header(

@@ -19,9 +19,9 @@ mod outlook;
 mod positions;
 mod reading;
 mod resync;
+mod scan_position;
 mod soundness;
 mod splice;
-mod spot;
 
 pub use byte_runs::{ByteRun, MIN_GAP, SECTOR_BYTES};
 pub use choice::{Choice, MAX_COPIES};

@@ -1,4 +1,4 @@
-//! What the markers that lie ahead in a damaged scan say of an interval.
+//! What the markers ahead in a damaged scan say of an interval.
 
 ghost use Rattle.std.specs.Prelude.{◌≡◌, ◌≢◌, ◌+◌, ◌<◌, ◌≤◌, ◌∷◌, ℕ, List, length};
 ghost use Rattle.jr_base.specs.declared.limits.TheConstants.{MAX_FILE_BYTES};
@@ -131,12 +131,12 @@ pub(crate) fn held(intervals: u32, size: usize, bytes: usize) -> u64
     (twice + 1) / 2
 }
 
-/// What is known of the markers that lie ahead in a scan.
+/// What is known of the markers ahead in a scan.
 #[derive(Clone, Copy)]
 pub(crate) struct Outlook {
     /// The number of the scan's bytes, up to EOI.
     pub size: usize,
-    /// The number of restart markers that lie ahead, up to EOI.
+    /// The number of restart markers ahead, up to EOI.
     pub left: usize,
     /// The number of restart markers, from the last one back, that are those before the last intervals.
     pub back: usize,

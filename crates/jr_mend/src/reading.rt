@@ -48,7 +48,7 @@ pub(crate) struct Reading {
     pub k: u32,
     /// The number of bytes between its marker and the next one.
     pub since: usize,
-    /// What is known of the markers from the next one on.
+    /// What is known of the next marker and of those after it.
     pub outlook: Outlook,
     /// Offset in the damaged file of what is read next: a marker, or the end.
     pub at: usize,

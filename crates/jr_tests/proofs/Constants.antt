@@ -41,8 +41,8 @@ mending = refl
 largest_product : MAX_PRODUCT ≡ 1096
 largest_product = refl
 
--- The most bits of an MCU: those of ten blocks of 27 and 63 times 26 bits. With so many after its prefix an interval is final, with
--- fewer it may grow.
+-- The most bits of an MCU: those of ten blocks of 27 and 63 times 26 bits. With this number after its prefix an interval is final,
+-- with fewer it may grow.
 
 bits_of_an_mcu : (i : IntervalValue) (mcu : ℕ) (n : IsNeverWhole i mcu) → 10 * (27 + 63 * 26) ≤ length n.longest.front.rest
 bits_of_an_mcu i mcu n = n.long

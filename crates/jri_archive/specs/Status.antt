@@ -50,7 +50,7 @@ findings_with f Doubtful = record f { doubtful = one_more f.doubtful }
 abbrev pub findings_in : Findings → ℕ
 findings_in f = f.new_versions + (f.missing + f.doubtful)
 
--- the status of files whose names and lines had no failure, and of so many findings: the first that applies of 4, 3, 1, 6, 5 and 0
+-- the status of files whose names and lines had no failure, with `found` findings: the first that applies of 4, 3, 1, 6, 5 and 0
 abbrev pub counts_status : FileCounts → (found : ℕ) → ℕ
 counts_status c found =
     if nat_lt 0 c.out_of_memory then 4 else

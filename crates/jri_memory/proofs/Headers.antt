@@ -58,7 +58,7 @@ pub size_is_told : (file : List ℕ) (found : Option FrameSize) (m : Header) →
 size_is_told file (Some s) m has lacks sized unsized = inl (with_numbers file s m sized has)
 size_is_told file None m has lacks sized unsized = inr (unsized, lacks)
 
--- a size that is told of the bytes so far is that of the file
+-- a size that is reported for the bytes so far is the file's
 pub size_stays : (bytes : List ℕ) (m : Header) → TellsSize bytes m → TellsNoSize m ⊎ ((whole : List ℕ) → CanBecome bytes whole → HasOneSize whole m.width m.height m.components)
 size_stays bytes m told = elim told [
   | inl has ↦ inr (λ whole can. subst (λ (file : List ℕ). HasOneSize file m.width m.height m.components) (sym can.is) (one_size_more bytes can.more m.width m.height m.components has))

@@ -32,7 +32,7 @@ pub record HasFrame (bytes : List ℕ) (across down count : ℕ) : Type 0 where
   pub height : down ≡ height (segment_at bytes).payload
   pub components : count ≡ frame_component_count (segment_at bytes).payload
 
--- what follows the first segments, as many as this
+-- the bytes after the first n segments
 abbrev pub behind_segments : ℕ → List ℕ → List ℕ
 behind_segments zero bytes = bytes
 behind_segments (suc n) bytes = behind_segment (behind_segments n bytes)

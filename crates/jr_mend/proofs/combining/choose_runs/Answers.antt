@@ -17,7 +17,7 @@ loop-preserved c =
     let items = c.in_ok-push.ensures.items in (
       omega (arith, told.long, inv.0),
       omega (arith, c.in-Some.ensures.within),
-      c.advanced-spot.ensures.in_range,
+      c.advanced-position.ensures.in_range,
       omega (arith, told.long, c.best_version.ensures.capacity),
       subst (AreBetween scan_at found.end) (sym items) between,
       subst (λ (l : List ByteRun). AreBytesByRuns c.args.copies.now l c.settle.new.file) (sym items) (told.bytes scan_at c.loop.at runs inv.4 from inv.5),

@@ -1,4 +1,4 @@
-//! A position in a scan from which its MCUs are read, as far as its bytes decode.
+//! A position in a scan at which MCUs are read, up to the first that cannot be decoded.
 
 ghost use Rattle.std.specs.Prelude.{◌*◌, ◌<◌, ◌≤◌, IfSome, length};
 ghost use Rattle.std.specs.List.{All};
@@ -21,7 +21,7 @@ const MAX_MCU_BYTES: usize = 4164;
 
 /// A position between two MCUs of a scan.
 #[derive(Clone, Copy)]
-pub(crate) struct Spot {
+pub(crate) struct ScanPosition {
     /// Offset in the file of the byte in which the next MCU begins.
     pub at: usize,
     /// The bit of this byte, and the predictions.
@@ -89,7 +89,7 @@ fn read_mcus(interval: IntervalRef<'_>, from: Place) -> ReadMcus
 #[derive(Clone, Copy)]
 struct ReadBytes {
     /// The position after the MCUs.
-    spot: Spot,
+    position: ScanPosition,
     /// Offset of the marker after the bytes, or of their end.
     marker_at: usize,
     /// Offset of the byte in which the first doubtful MCU begins.
@@ -98,13 +98,13 @@ struct ReadBytes {
     is_whole: bool,
 }
 
-impl Spot {
+impl ScanPosition {
     /// Returns the start of interval `number`, whose bytes begin at an offset.
-    pub(crate) fn at_start(head: &Head, number: u32, at: usize) -> Spot
+    pub(crate) fn at_start(head: &Head, number: u32, at: usize) -> ScanPosition
         requires { number < intervals_of head.now }
         ensures in_range { All IsInDcRange result.place.predictions }
     {
-        Spot {
+        ScanPosition {
             at,
             place: Place::start(),
             number,
@@ -115,17 +115,17 @@ impl Spot {
     }
 
     /// Returns the position after a marker that ends at an offset: a restart marker begins the next interval of its number.
-    fn after_marker(self, head: &Head, code: u8, at: usize) -> Spot
+    fn after_marker(self, head: &Head, code: u8, at: usize) -> ScanPosition
         requires { All IsInDcRange self.place.predictions }
         ensures { All IsInDcRange result.place.predictions }
     {
         if is_restart(code) {
             let ahead = (code.saturating_sub(RST0) as u32 + 8 - self.number % 8) % 8 + 1;
             let number = self.number.saturating_add(ahead).min(head.intervals() - 1);
-            return Spot::at_start(head, number, at);
+            return ScanPosition::at_start(head, number, at);
         }
         let is_last = self.number.saturating_add(1) >= head.intervals();
-        Spot {
+        ScanPosition {
             at,
             is_lost: true,
             is_after_image: self.is_after_image || code == EOI && is_last,
@@ -134,20 +134,20 @@ impl Spot {
     }
 
     /// Returns the position after the last marker in the bytes up to an offset, this one if there is none.
-    fn after_markers(self, head: &Head, file: &[u8], to: usize) -> Spot
+    fn after_markers(self, head: &Head, file: &[u8], to: usize) -> ScanPosition
         requires within { to ≤ length file.now }
         requires in_range { All IsInDcRange self.place.predictions }
         ensures in_range { All IsInDcRange result.place.predictions }
     {
-        let mut spot = self;
+        let mut position = self;
         for _ in 0..to {
-            let from = spot.at.min(to);
+            let from = position.at.min(to);
             let Some(marker) = first_marker(&file[from..to]) else {
                 break;
             };
-            spot = spot.after_marker(head, marker.code, from + marker.before + 2);
+            position = position.after_marker(head, marker.code, from + marker.before + 2);
         }
-        spot
+        position
     }
 
     /// Reads the MCUs in the bytes up to a marker, or to an offset.
@@ -156,7 +156,7 @@ impl Spot {
         requires short { length file.now ≤ MAX_FILE_BYTES }
         requires in_range { All IsInDcRange self.place.predictions }
         requires capacity { length file.now < vec_capacity buffer.old }
-        ensures in_range { All IsInDcRange result.spot.place.predictions }
+        ensures in_range { All IsInDcRange result.position.place.predictions }
         ensures within { result.marker_at ≤ to }
         ensures capacity { vec_capacity buffer.old ≤ vec_capacity buffer.new }
     {
@@ -173,7 +173,7 @@ impl Spot {
         let read = read_mcus(interval, place);
         let left = self.left - read.mcus;
         ReadBytes {
-            spot: Spot {
+            position: ScanPosition {
                 at: from + spelled_length(coded, (read.place.bit / 8) as usize),
                 place: Place {
                     bit: read.place.bit % 8,
@@ -191,7 +191,7 @@ impl Spot {
     }
 
     /// Returns the position between the last MCU that ends before an offset and the next one.
-    pub(crate) fn advanced(self, head: &Head, file: &[u8], to: usize, buffer: &mut Vec<u8>) -> Spot
+    pub(crate) fn advanced(self, head: &Head, file: &[u8], to: usize, buffer: &mut Vec<u8>) -> ScanPosition
         requires within { to ≤ length file.now }
         requires short { length file.now ≤ MAX_FILE_BYTES }
         requires in_range { All IsInDcRange self.place.predictions }
@@ -199,14 +199,14 @@ impl Spot {
         ensures in_range { All IsInDcRange result.place.predictions }
         ensures capacity { length file.now < vec_capacity buffer.new }
     {
-        let spot = self.after_markers(head, file, to);
-        let read = if spot.is_lost {
-            spot
+        let position = self.after_markers(head, file, to);
+        let read = if position.is_lost {
+            position
         } else {
-            spot.read(head, file, to, buffer).spot
+            position.read(head, file, to, buffer).position
         };
         if read.is_lost || read.at.saturating_add(MAX_MCU_BYTES) < to {
-            return Spot {
+            return ScanPosition {
                 at: to,
                 is_lost: true,
                 ..read
@@ -215,7 +215,7 @@ impl Spot {
         read
     }
 
-    /// Returns how far bytes decode from this position on, over restart markers that are due.
+    /// Returns how far bytes decode starting at this position, over restart markers that are due.
     pub(crate) fn reach(self, head: &Head, bytes: &[u8], buffer: &mut Vec<u8>) -> Reach
         requires short { length bytes.now ≤ MAX_FILE_BYTES }
         requires in_range { All IsInDcRange self.place.predictions }
@@ -223,21 +223,21 @@ impl Spot {
         ensures capacity { vec_capacity buffer.old ≤ vec_capacity buffer.new }
     {
         let to = bytes.len();
-        let mut spot = self;
+        let mut position = self;
         let mut clean_end = None;
         for _ in 0..to {
-            if spot.is_lost {
+            if position.is_lost {
                 break;
             }
-            let read = spot.read(head, bytes, to, buffer);
+            let read = position.read(head, bytes, to, buffer);
             clean_end = clean_end.or(read.doubtful_at);
-            spot = read.spot;
+            position = read.position;
             let Some(next) = read.next(head, bytes, to) else {
                 break;
             };
-            spot = next;
+            position = next;
         }
-        let end = if spot.is_after_image { to } else { spot.at };
+        let end = if position.is_after_image { to } else { position.at };
         Reach {
             end,
             clean_end: clean_end.unwrap_or(end),
@@ -247,26 +247,26 @@ impl Spot {
 
 impl ReadBytes {
     /// Returns the position after the marker that is due after a whole interval: a restart marker, or EOI after the last.
-    fn next(&self, head: &Head, file: &[u8], to: usize) -> Option<Spot>
+    fn next(&self, head: &Head, file: &[u8], to: usize) -> Option<ScanPosition>
         requires within { to ≤ length file.now }
         requires at { self.now.marker_at ≤ to }
-        requires in_range { All IsInDcRange self.now.spot.place.predictions }
+        requires in_range { All IsInDcRange self.now.position.place.predictions }
         ensures { IfSome result (λ s. All IsInDcRange s.place.predictions) }
     {
         if !self.is_whole {
             return None;
         }
         let marker = first_marker(&file[self.marker_at..to])?;
-        let is_last = self.spot.number.saturating_add(1) >= head.intervals();
+        let is_last = self.position.number.saturating_add(1) >= head.intervals();
         let due = if is_last {
             EOI
         } else {
-            RST0 + (self.spot.number % 8) as u8
+            RST0 + (self.position.number % 8) as u8
         };
         if marker.code != due {
             return None;
         }
         let at = self.marker_at + marker.before + 2;
-        Some(self.spot.after_marker(head, marker.code, at))
+        Some(self.position.after_marker(head, marker.code, at))
     }
 }
