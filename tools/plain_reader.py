@@ -32,7 +32,7 @@ class Bits:
         raise Undecodable
 
     def value(self, size):
-        """So many extra bits as a signed value (F.2.2.1)."""
+        """The given number of additional bits as a signed value (F.2.2.1)."""
         if size == 0:
             return 0
         bits = self.take(size)
@@ -211,8 +211,8 @@ def check(data):
             top = (first + min(done, mcus - 1)) // head.across * head.high
             damaged.append((number, (first, last), lines, (start, end - 1) if start < end else None, done, mcus, at[bit // 8], top))
         if doubtful:
-            mcu, first, behind = doubtful
-            doubts.append((number, number * each + mcu, at[first // 8], at[(behind + 7) // 8] - 1))
+            mcu, first, end = doubtful
+            doubts.append((number, number * each + mcu, at[first // 8], at[(end + 7) // 8] - 1))
     return intervals, damaged, doubts, ended
 
 
@@ -234,9 +234,9 @@ def lines(data):
     intervals, damaged, doubts, _ = check(data)
     many = "1 interval" if intervals == 1 else f"{intervals} intervals"
     end = after_end(data)
-    told = [(run[0][0], 0, interval_line(run)) for run in runs(damaged)]
-    told += [(number, 1, f"interval {number}, MCU {mcu}, bytes {first} to {last}, doubtful: no 8-bit image has such a value") for number, mcu, first, last in doubts]
-    those = [line for _, _, line in sorted(told)]
+    printed = [(run[0][0], 0, interval_line(run)) for run in runs(damaged)]
+    printed += [(number, 1, f"interval {number}, MCU {mcu}, bytes {first} to {last}, doubtful: no 8-bit image has such a value") for number, mcu, first, last in doubts]
+    those = [line for _, _, line in sorted(printed)]
     if not damaged:
         return [f"sound, {many}{end}", *those]
     top, bottom = damaged[0][7], max(d[2][1] for d in damaged)

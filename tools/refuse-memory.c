@@ -2,7 +2,7 @@
  * Loaded before a program (LD_PRELOAD), refuses one of the program's requests for memory.
  *
  * REFUSED_REQUEST   which request is refused, counted from 1; 0 for none
- * REFUSED_FOLLOW    where it is set, each request behind that one is refused too
+ * REFUSED_FOLLOW    where it is set, each request after that one is also refused
  * REFUSED_TELLS     a file descriptor on which a byte for each refused request is written
  * REFUSED_CALL      where it is set, only the requests of the call of this number are counted, between its lines "call
  *                   begins" and "call ends" on standard error; else all from the program's start on

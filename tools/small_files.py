@@ -39,13 +39,13 @@ def dc_table(*sizes):
 
 
 def claims(height, width, intervals):
-    """A grey file of one coded MCU whose head claims so many pixels."""
+    """A grey file of one coded MCU whose header claims these dimensions."""
     head = cases.file("S Q F:%04X:%04X D A" % (height, width))
     return head + intervals + cases.file("C 63 E")
 
 
 def code_tables(counts, number):
-    """DHT segments with so many code tables of class 1 and destination 3, which no scan of these files names."""
+    """DHT segments with `number` code tables of class 1 and destination 3, which no scan of these files names."""
     table = bytes([0x13]) + bytes(counts) + bytes(sum(counts))
     a_segment = 65533 // len(table)
     for left in range(number, 0, -a_segment):
@@ -53,6 +53,6 @@ def code_tables(counts, number):
         yield bytes.fromhex("FF C4 %04X" % (2 + len(tables))) + tables
 
 
-def behind_tables(counts, number):
-    """A grey picture of 8 by 8 pixels behind so many code tables, counts[i] words of i + 1 bits in each."""
+def after_tables(counts, number):
+    """A grey picture of 8 by 8 pixels after `number` code tables, counts[i] codes of i + 1 bits in each."""
     return START + b"".join(code_tables(counts, number)) + cases.file("Q F D A C 63 E")

@@ -40,9 +40,9 @@ def write(name, data):
         file.write(data)
 
 
-def make_files(folder, data, many):
+def make_files(directory, data, many):
     """Sound and damaged files by turns, and what each is."""
-    names = [os.path.join(folder, f"{number:05}.jpg") for number in range(many)]
+    names = [os.path.join(directory, f"{number:05}.jpg") for number in range(many)]
     states = ["damaged" if number % 3 == 0 else "sound" for number in range(many)]
     for name, state in zip(names, states):
         write(name, data[: len(data) * 2 // 3] + b"\xff\xd9" if state == "damaged" else data)
@@ -62,10 +62,10 @@ class Trials:
     def see(self, title, found, wanted):
         self.counts.append(self.expect(title, found, wanted))
 
-    def records(self, folder, data):
+    def records(self, directory, data):
         """What is recorded, a second run, and verifications of a file of which a byte is flipped."""
-        names, states = make_files(folder, data, 60)
-        state = os.path.join(folder, "state")
+        names, states = make_files(directory, data, 60)
+        state = os.path.join(directory, "state")
         plain, status = self.check(names)
         self.see("a first run", self.check(["--state", state, *names]), (plain, status))
         wanted = FRONT + b"".join(line_of(name, it) for name, it in zip(names, states))
@@ -78,20 +78,20 @@ class Trials:
         write(names[1], bytes(flipped))
         os.utime(names[1], ns=(found.st_atime_ns, found.st_mtime_ns))
         for number in range(2):
-            told, status = self.check(["--json", "--state", state, "--verify", *names])
-            changed = [line["file"] for line in map(json.loads, told.splitlines()) if line["is"] == "changed"]
+            printed, status = self.check(["--json", "--state", state, "--verify", *names])
+            changed = [line["file"] for line in map(json.loads, printed.splitlines()) if line["is"] == "changed"]
             self.see(f"a flipped byte, {number}", (changed, status), ([names[1]], 1))
         self.see("records after that", read(state), wanted)
         os.utime(names[1], ns=(found.st_atime_ns, found.st_mtime_ns + 1))
-        told, _ = self.check(["--state", state, *names])
-        self.see("a new version", (told.count(b"unchanged"), read(state)[: len(wanted)] == wanted, read(state).count(b"\n")), (59, True, 62))
+        printed, _ = self.check(["--state", state, *names])
+        self.see("a new version", (printed.count(b"unchanged"), read(state)[: len(wanted)] == wanted, read(state).count(b"\n")), (59, True, 62))
 
-    def versions(self, folder, data):
+    def versions(self, directory, data):
         """Verifications of a directory of which a file has other bytes and another time, one only another time, and one is gone."""
-        inner = os.path.join(folder, "in")
+        inner = os.path.join(directory, "in")
         os.mkdir(inner)
         names, _ = make_files(inner, data, 6)
-        state = os.path.join(folder, "state")
+        state = os.path.join(directory, "state")
         self.check(["-r", "--state", state, inner])
         write(names[1], read(names[4])[:-2] + b"\xff\xd9")
         os.utime(names[1], ns=(0, 10**18))
@@ -100,8 +100,8 @@ class Trials:
         os.utime(names[4], ns=(0, 10**18))
         os.remove(names[5])
         for words in ([], ["--strict"]):
-            told, status = self.check(["-r", "-q", *words, "--verify", "--state", state, inner])
-            found = [line.split(": ", 1) for line in told.decode().splitlines()]
+            printed, status = self.check(["-r", "-q", *words, "--verify", "--state", state, inner])
+            found = [line.split(": ", 1) for line in printed.decode().splitlines()]
             wanted = [(names[2], "new version, sound"), (names[5], "missing")] if not words else [(names[5], "missing")]
             lines = [(name, it[: len(want[1])]) for (name, it), want in zip([it for it in found if "damaged" not in it[1]], wanted)]
             self.see(f"versions {words}", (lines, len(found), status), (wanted, len(wanted) + 2, 1))
@@ -111,24 +111,24 @@ class Trials:
         self.see("sound files, strict", self.check(["-r", "--verify", "--strict", "--state", state, inner])[1], 6)
         self.see("another directory", self.check(["-r", "--verify", "--strict", "--state", state, inner + "/."])[1], 0)
 
-    def cuts(self, folder, data):
+    def cuts(self, directory, data):
         """State files that are cut off at each byte."""
-        names, states = make_files(folder, data, 2)
-        state = os.path.join(folder, "cut")
+        names, states = make_files(directory, data, 2)
+        state = os.path.join(directory, "cut")
         _, status = self.check(["--state", state, *names])
         whole = read(state)
         for end in range(len(whole)):
             write(state, whole[:end])
             found = self.check(["--state", state, *names])[1]
             after = read(state)
-            told = self.check(["--state", state, *names])
+            printed = self.check(["--state", state, *names])
             is_kept = after.startswith(whole[:end]) and read(state) == after
-            self.see(f"cut at {end}", (found, told, is_kept), (status, (unchanged(names, states), status), True))
+            self.see(f"cut at {end}", (found, printed, is_kept), (status, (unchanged(names, states), status), True))
 
-    def damages(self, folder, data):
+    def damages(self, directory, data):
         """State files of which a byte is changed, each of which is refused by its line's number and left alone."""
-        names, _ = make_files(folder, data, 2)
-        state = os.path.join(folder, "damaged")
+        names, _ = make_files(directory, data, 2)
+        state = os.path.join(directory, "damaged")
         self.check(["--state", state, *names])
         whole = read(state)
         for at in range(len(whole)):
@@ -143,33 +143,33 @@ class Trials:
                 wanted = f"{REFUSED}line {line} is damaged\n".encode()
                 self.see(f"damaged at {at}", (run.stdout, run.stderr, run.returncode, read(state) == damaged), (b"", wanted, 2, True))
 
-    def refusals(self, folder, data):
+    def refusals(self, directory, data):
         """What is no state file, and is not written to."""
-        name, state = os.path.join(folder, "image.jpg"), os.path.join(folder, "used")
+        name, state = os.path.join(directory, "image.jpg"), os.path.join(directory, "used")
         write(name, data)
-        os.mkfifo(os.path.join(folder, "fifo"))
-        cases = [(name, "line 1 is damaged"), (folder, "a folder"), ("/dev/null", "not a regular file"), (os.path.join(folder, "fifo"), "not a regular file"),
-                 (os.path.join(folder, "none", "state"), "no such file"), ("/dev/stdin", "not a regular file")]
+        os.mkfifo(os.path.join(directory, "fifo"))
+        cases = [(name, "line 1 is damaged"), (directory, "a directory"), ("/dev/null", "not a regular file"), (os.path.join(directory, "fifo"), "not a regular file"),
+                 (os.path.join(directory, "none", "state"), "no such file"), ("/dev/stdin", "not a regular file")]
         for target, why in cases:
             run = subprocess.run([self.program, "--state", target, name], capture_output=True, stdin=subprocess.DEVNULL, timeout=60)
             self.see(f"{target} as a state file", (run.stdout, run.stderr, run.returncode), (b"", f"{REFUSED}{why}\n".encode(), 2))
         self.see("an image as a state file", read(name), data)
         for words in (["--state", "-", name], [b"--state", b"\xff", name], ["--verify", name], ["--state"], ["--state", state, "--state", state, name]):
-            run = subprocess.run([self.program, *words], capture_output=True, cwd=folder, timeout=60)
+            run = subprocess.run([self.program, *words], capture_output=True, cwd=directory, timeout=60)
             self.see(f"{words}", (run.stdout, run.returncode, os.path.exists(state)), (b"", 2, False))
         write(state, FRONT)
         with open(state, "rb") as held:
             fcntl.flock(held, fcntl.LOCK_EX)
             run = subprocess.run([self.program, "--state", state, name], capture_output=True, timeout=60)
         self.see("a state file in use", (run.stdout, run.stderr, run.returncode, read(state)), (b"", f"{REFUSED}another run uses it\n".encode(), 2, FRONT))
-        self.check(["--state", state, "-", "/dev/stdin", os.path.join(folder, "missing"), "/dev/zero"], input=data)
+        self.check(["--state", state, "-", "/dev/stdin", os.path.join(directory, "missing"), "/dev/zero"], input=data)
         self.see("what is not recorded", read(state), FRONT)
 
-    def kills(self, folder, data):
+    def kills(self, directory, data):
         """Runs that are killed, and the next one."""
-        names, states = make_files(folder, data, 3000)
+        names, states = make_files(directory, data, 3000)
         for number in range(10):
-            state = os.path.join(folder, f"killed-{number}")
+            state = os.path.join(directory, f"killed-{number}")
             with subprocess.Popen([self.program, "--state", state, *names], stdout=subprocess.PIPE, stderr=subprocess.DEVNULL) as process:
                 for _ in range(1 + 290 * number):
                     process.stdout.readline()
@@ -177,11 +177,11 @@ class Trials:
                 process.communicate()
             before = read(state)
             recorded = sum(line.endswith(check_of(line)) for line in before.split(b"\n")[1:])
-            told = self.check(["--state", state, *names])[0].splitlines()
+            printed = self.check(["--state", state, *names])[0].splitlines()
             after = read(state)
             lines = [line for line in after.split(b"\n")[1:] if line and not line.endswith(b" cut")]
-            self.see("each is told once", [line.split(b": ")[0].decode() for line in told], names)
-            self.see("those recorded are skipped", sum(b": unchanged, " in line for line in told), recorded)
+            self.see("each is printed once", [line.split(b": ")[0].decode() for line in printed], names)
+            self.see("those recorded are skipped", sum(b": unchanged, " in line for line in printed), recorded)
             wanted = [line_of(name, it)[:-1] for name, it in zip(names, states)]
             self.see("each is recorded once", (sorted(lines), after.startswith(before)), (sorted(wanted), True))
 
@@ -195,6 +195,6 @@ def compare(program, check, expect, data):
     """How many comparisons there are, and how many differences."""
     trials = Trials(program, check, expect)
     for trial in (trials.records, trials.versions, trials.cuts, trials.damages, trials.refusals, trials.kills):
-        with tempfile.TemporaryDirectory() as folder:
-            trial(folder, data)
+        with tempfile.TemporaryDirectory() as directory:
+            trial(directory, data)
     return sum(it[0] for it in trials.counts), sum(it[1] for it in trials.counts)

@@ -17,7 +17,7 @@ static int refused(uint32_t refusal, uint64_t detail) {
     return JRI_REFUSED;
 }
 
-static void tell(const struct jri_report *r) {
+static void print_report(const struct jri_report *r) {
     fprintf(stderr, "intervals %" PRIu32 " sound %" PRIu32 " damaged %" PRIu32 " blank %" PRIu32 "\nscan ended at ", r->intervals,
             r->sound, r->damaged, r->blank);
     switch (r->ended) {
@@ -49,7 +49,7 @@ static int decode(const uint8_t *file, size_t length) {
     printf("P%c\n%" PRIu32 " %" PRIu32 "\n255\n", header.components == 1 ? '5' : '6', header.width, header.height);
     fwrite(pixels, 1, header.pixels, stdout);
     free(pixels);
-    tell(&report);
+    print_report(&report);
     return (int)status;
 }
 

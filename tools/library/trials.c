@@ -3,11 +3,11 @@
  *
  *     trials FILE ..
  *
- * Of each file, which jri accepts, it sees that buffers with more room are left as they are behind the picture, that ones with
+ * Of each file, which jri accepts, it sees that larger buffers are unchanged after the image, that ones with
  * too little are not touched, that each request for memory may be refused, that the file may be resynchronised, has the same
  * image by JRI_RESYNC, and may be mended from itself and a copy without a scan, that lines decoded alone are those of the image, and so are rows from positions, of a file that
  * is there, arrives, or is passed by windows, that any position and window may be passed, and that many threads may decode at once; and
- * that pointers may be null where nothing is behind them. It ends with 1 where something else is seen, and says what.
+ * that pointers may be null where nothing is after them. It ends with 1 where something else is seen, and says what.
  */
 #define _DEFAULT_SOURCE
 #include "jri.h"
@@ -21,7 +21,7 @@
 
 enum { MORE = 100, FILL = 7, THREADS = 8, TIMES = 3, OF_TEXT = 64, REFUSALS = 19, PAGE = 65536, FORGED = 200 };
 
-/* So many bytes behind structs of 8 bytes, which end at a page's end, too. */
+/* The given number of bytes after structs of 8 bytes, which also end at a page's end. */
 enum { ALIGNED_MORE = 104 };
 
 /* As many lines as a whole number of rows of MCUs has, whatever their height: 8, 16, 24 or 32. */
@@ -60,10 +60,10 @@ static void see(int right, const struct trial *trial, const char *what) {
     }
 }
 
-/* As many whole pages as so many bytes take. */
+/* The size of the whole pages that hold the given number of bytes. */
 static size_t pages(size_t size) { return (size + PAGE - 1) / PAGE * PAGE; }
 
-/* A buffer behind whose end no byte can be read or written. */
+/* A buffer after whose end no byte can be read or written. */
 static uint8_t *buffer(size_t size) {
     uint8_t *start = mmap(NULL, pages(size) + PAGE, PROT_READ | PROT_WRITE, MAP_PRIVATE | MAP_ANONYMOUS, -1, 0);
     if (start == MAP_FAILED || mprotect(start + pages(size), PAGE, PROT_NONE))
@@ -82,7 +82,7 @@ static int is_filled(const uint8_t *bytes, size_t size) {
     return 1;
 }
 
-/* Decodes into buffers of so much room, while one request for memory is refused; it gives what it gave before, or answers this and touches neither. How many requests there were. */
+/* Decodes into buffers of so much space, while one request for memory is refused; it gives what it gave before, or answers this and touches neither. How many requests there were. */
 static long decode(const struct trial *t, size_t pixels_size, size_t marks_size, uint32_t otherwise, long k, const char *what) {
     uint8_t *pixels = buffer(pixels_size), *marks = buffer(marks_size);
     struct jri_report report;
@@ -138,7 +138,7 @@ static void try_header(const struct trial *t) {
 
 static size_t line_of(const struct trial *t) { return t->header.pixels / t->header.height; }
 
-/* Decodes lines into a buffer with more room than they take, while one request for memory is refused. How many requests there were. */
+/* Decodes lines into a buffer with more space than they take, while one request for memory is refused. How many requests there were. */
 static long decode_lines(const struct trial *t, uint32_t first, uint32_t count, long k, struct jri_report *report) {
     size_t size = count * line_of(t);
     uint8_t *pixels = buffer(size + MORE);
@@ -158,7 +158,7 @@ static long decode_lines(const struct trial *t, uint32_t first, uint32_t count, 
     return made;
 }
 
-/* Decodes all lines, so many by a call: whole rows of MCUs have the counts of the whole picture. */
+/* Decodes all lines, `count` in a call: whole rows of MCUs have the counts of the whole picture. */
 static void decode_by(const struct trial *t, uint32_t step) {
     uint32_t sound = 0, damaged = 0, height = t->header.height;
     for (uint32_t first = 0; first < height; first += step) {
@@ -198,29 +198,29 @@ static void try_lines(const struct trial *t) {
     release(pixels, line_of(t) - 1);
 }
 
-/* Checks into a buffer of so much room, while one request for memory is refused; it gives the marks and the report of the decoding, or answers this and touches nothing. How many requests there were. */
-static long check(const struct trial *t, size_t room, uint32_t otherwise, long k, const char *what) {
-    uint8_t *marks = buffer(room);
+/* Checks into a buffer of so much space, while one request for memory is refused; it gives the marks and the report of the decoding, or answers this and touches nothing. How many requests there were. */
+static long check(const struct trial *t, size_t space, uint32_t otherwise, long k, const char *what) {
+    uint8_t *marks = buffer(space);
     struct jri_report report;
-    size_t count = room ? t->header.intervals : 0;
+    size_t count = space ? t->header.intervals : 0;
     requests = 0;
     refused = k;
-    uint32_t status = jri_check(t->file, t->length, t->resync, marks, room, &report);
+    uint32_t status = jri_check(t->file, t->length, t->resync, marks, space, &report);
     long made = requests;
     refused = -1;
     if (status == t->status && otherwise != JRI_BUFFER_TOO_SMALL) {
-        see(!memcmp(marks, t->marks, count) && is_filled(marks + count, room - count), t, what);
+        see(!memcmp(marks, t->marks, count) && is_filled(marks + count, space - count), t, what);
         see(!memcmp(&report, &t->report, sizeof report), t, what);
     } else {
-        see(status == otherwise && is_filled(marks, room), t, what);
+        see(status == otherwise && is_filled(marks, space), t, what);
     }
-    release(marks, room);
+    release(marks, space);
     return made;
 }
 
 static void try_check(const struct trial *t) {
     size_t count = t->header.intervals;
-    check(t, count + MORE, t->status, -1, "a check with more room");
+    check(t, count + MORE, t->status, -1, "a check with more space");
     check(t, 0, t->status, -1, "a check without marks");
     if (count > 1)
         check(t, count - 1, JRI_BUFFER_TOO_SMALL, -1, "a check with a mark too few");
@@ -228,37 +228,37 @@ static void try_check(const struct trial *t) {
         refusals += 1;
 }
 
-/* Lists damage from a position on into a buffer of `room` entries, while request k for memory is refused. Returns the number of requests. */
-static long list_damages(const struct trial *t, uint32_t first, uint64_t first_at, size_t room, long k, struct jri_damage_list *list) {
-    size_t size = room * sizeof(struct jri_damage);
+/* Lists damage from a position on into a buffer of `space` entries, while request k for memory is refused. Returns the number of requests. */
+static long list_damages(const struct trial *t, uint32_t first, uint64_t first_at, size_t space, long k, struct jri_damage_list *list) {
+    size_t size = space * sizeof(struct jri_damage);
     uint8_t *bytes = buffer(size + ALIGNED_MORE);
     struct jri_damage *damages = (struct jri_damage *)bytes;
     requests = 0;
     refused = k;
-    uint32_t status = jri_list_damage(t->file, t->length, first, first_at, damages, room, list);
+    uint32_t status = jri_list_damage(t->file, t->length, first, first_at, damages, space, list);
     long made = requests;
     refused = -1;
     if (status == JRI_NO_MEMORY && made > k && k >= 0) {
         see(is_filled(bytes, size) && !list->count && list->refusal == 19, t, "damage, a request refused");
     } else {
-        see(status == (list->count ? JRI_DAMAGED : JRI_SOUND) && list->count <= room, t, "an answer to damage");
-        see(list->count == room || list->next == t->header.intervals, t, "entries left");
+        see(status == (list->count ? JRI_DAMAGED : JRI_SOUND) && list->count <= space, t, "an answer to damage");
+        see(list->count == space || list->next == t->header.intervals, t, "entries left");
         for (uint32_t i = 0; i < list->count; i++) {
             see(first <= damages[i].interval && damages[i].interval < list->next, t, "an interval of damage");
             see(damages[i].last_line < t->header.height && damages[i].end <= t->length, t, "numbers of damage");
         }
-        see(is_filled(bytes + list->count * sizeof *damages, size - list->count * sizeof *damages), t, "behind the damage");
+        see(is_filled(bytes + list->count * sizeof *damages, size - list->count * sizeof *damages), t, "after the damage");
     }
     release(bytes, size + ALIGNED_MORE);
     return made;
 }
 
-/* Sees that a list in parts of so many entries has each damaged interval and no other. */
-static void list_parts(const struct trial *t, size_t room) {
+/* Sees that a list in parts of the given number of entries has each damaged interval and no other. */
+static void list_parts(const struct trial *t, size_t space) {
     struct jri_damage_list list = {0};
     struct jri_damage damages[3];
     uint32_t all = 0;
-    while (jri_list_damage(t->file, t->length, list.next, list.next_at, damages, room, &list) == JRI_DAMAGED)
+    while (jri_list_damage(t->file, t->length, list.next, list.next_at, damages, space, &list) == JRI_DAMAGED)
         for (uint32_t i = 0; i < list.count; i++, all++)
             see(t->marks[damages[i].interval] == JRI_MARK_DAMAGED, t, "damage that is none");
     see(all == t->report.damaged && list.next == t->header.intervals, t, "all damage");
@@ -276,31 +276,31 @@ static void try_damages(const struct trial *t) {
         refusals += 1;
 }
 
-/* Decodes rows from a place on, into a buffer for so many lines whose other bytes stay, while one request for memory is refused. How many requests there were. */
+/* Decodes rows from a place on, into a buffer for the given number of lines whose other bytes stay, while one request for memory is refused. How many requests there were. */
 static long decode_rows(const struct trial *t, size_t length, uint32_t more, struct jri_position *place, uint32_t rows, size_t lines, long k, struct jri_rows *report) {
-    size_t room = lines * line_of(t);
-    uint8_t *pixels = buffer(room);
+    size_t space = lines * line_of(t);
+    uint8_t *pixels = buffer(space);
     struct jri_position before = *place;
     requests = 0;
     refused = k;
-    uint32_t status = jri_decode_rows(t->file, length, more, place, rows, pixels, room, report);
+    uint32_t status = jri_decode_rows(t->file, length, more, place, rows, pixels, space, report);
     long made = requests;
     refused = -1;
     if (status == JRI_OK) {
         size_t size = report->lines * line_of(t);
-        see(size <= room && report->first_line + report->lines <= t->header.height, t, "rows, too many lines");
+        see(size <= space && report->first_line + report->lines <= t->header.height, t, "rows, too many lines");
         see(!memcmp(pixels, t->pixels + report->first_line * line_of(t), size), t, "rows, other lines");
-        see(is_filled(pixels + size, room - size), t, "rows, bytes behind them");
+        see(is_filled(pixels + size, space - size), t, "rows, bytes after them");
         see(place->row == before.row + report->rows && report->rows <= rows, t, "rows, another place");
     } else {
-        int is_kept = is_filled(pixels, room) && !memcmp(place, &before, sizeof before) && !report->rows && !report->lines;
+        int is_kept = is_filled(pixels, space) && !memcmp(place, &before, sizeof before) && !report->rows && !report->lines;
         see(is_kept && (status == JRI_NO_LINES || (status == JRI_NO_MEMORY && made > k && k >= 0)), t, "rows that are none");
     }
-    release(pixels, room);
+    release(pixels, space);
     return made;
 }
 
-/* Decodes all rows of a file that is there, so many at a time. */
+/* Decodes all rows of a file that is there, the given number at a time. */
 static void rows_by(const struct trial *t, uint32_t rows) {
     struct jri_position place = {0};
     struct jri_rows report;
@@ -313,7 +313,7 @@ static void rows_by(const struct trial *t, uint32_t rows) {
     see(lines == t->header.height, t, "rows, not all lines");
 }
 
-/* Decodes a file that arrives by so many bytes, and its last rows once it is there. */
+/* Decodes a file that arrives in parts of the given number of bytes, and its last rows once it is there. */
 static void rows_arriving(const struct trial *t, size_t part) {
     struct jri_position place = {0};
     struct jri_rows report;
@@ -347,7 +347,7 @@ static void rows_by_index(const struct trial *t) {
         see(report.lines == passed.lines && report.first_line == passed.first_line, t, "lines passed over");
         place = next;
     }
-    see(passed.refusal == 0 && !passed.rows && place.row, t, "rows behind the last");
+    see(passed.refusal == 0 && !passed.rows && place.row, t, "rows after the last");
     for (long k = 0, made = 1; made > k; k++, refusals++) {
         struct jri_position from = {0};
         made = decode_rows(t, t->length, JRI_COMPLETE, &from, 1, WHOLE_ROWS, k, &report);
@@ -380,17 +380,17 @@ static uint8_t *part_of(const struct trial *t, size_t from, size_t length) {
 static uint32_t decode_window(const struct trial *t, size_t header, size_t from, size_t length, struct jri_position *place, long k, struct jri_rows *report) {
     uint8_t *head = part_of(t, 0, header), *window = part_of(t, from, length);
     uint32_t more = from + length < t->length ? JRI_PARTIAL : JRI_COMPLETE;
-    size_t room = WHOLE_ROWS * line_of(t);
-    uint8_t *pixels = buffer(room);
+    size_t space = WHOLE_ROWS * line_of(t);
+    uint8_t *pixels = buffer(space);
     struct jri_position before = *place, skipped = *place;
     struct jri_rows passed;
     requests = 0;
     refused = k;
-    uint32_t status = jri_decode_window(head, header, window, length, from, more, place, 2, pixels, room, report);
+    uint32_t status = jri_decode_window(head, header, window, length, from, more, place, 2, pixels, space, report);
     refused = -1;
     size_t size = report->lines * line_of(t);
     see(!memcmp(pixels, t->pixels + report->first_line * line_of(t), size), t, "a window, other lines");
-    see(is_filled(pixels + size, room - size), t, "a window, bytes after the lines");
+    see(is_filled(pixels + size, space - size), t, "a window, bytes after the lines");
     see(status == JRI_OK || (!report->rows && !memcmp(place, &before, sizeof before)), t, "a window, a position moved without rows");
     if (status != JRI_NO_MEMORY) {
         see(jri_skip_window(head, header, window, length, from, more, &skipped, 2, &passed) == status, t, "a window skipped");
@@ -398,7 +398,7 @@ static uint32_t decode_window(const struct trial *t, size_t header, size_t from,
     }
     release(head, header);
     release(window, length);
-    release(pixels, room);
+    release(pixels, space);
     return status;
 }
 
@@ -460,20 +460,20 @@ static void forge(const struct trial *t, const struct jri_position *like, uint32
     place.state = forged(&seed) & 3;
     if (!(forged(&seed) & 3))
         place.row = forged(&seed), place.interval = forged(&seed), place.mcu = forged(&seed);
-    size_t room = WHOLE_ROWS * line_of(t);
-    uint8_t *pixels = buffer(room);
+    size_t space = WHOLE_ROWS * line_of(t);
+    uint8_t *pixels = buffer(space);
     struct jri_position passed = place;
     uint32_t more = forged(&seed) & 1;
-    uint32_t status = jri_decode_rows(t->file, t->length, more, &place, 2, pixels, room, &report);
+    uint32_t status = jri_decode_rows(t->file, t->length, more, &place, 2, pixels, space, &report);
     see(status == JRI_OK || status == JRI_NO_LINES, t, "a forged place");
-    see(is_filled(pixels + report.lines * line_of(t), room - report.lines * line_of(t)), t, "a forged place, bytes behind the lines");
+    see(is_filled(pixels + report.lines * line_of(t), space - report.lines * line_of(t)), t, "a forged position, bytes after the lines");
     see(jri_skip_rows(t->file, t->length, more, &passed, 2, &report) == status && !memcmp(&passed, &place, sizeof place), t, "a forged place passed over");
     uint64_t at = forged(&seed) & 1 ? like->at + forged(&seed) : UINT64_MAX - forged(&seed);
-    memset(pixels, FILL, room);
-    status = jri_decode_window(t->file, t->length, t->file, t->length, at, more, &place, 2, pixels, room, &report);
+    memset(pixels, FILL, space);
+    status = jri_decode_window(t->file, t->length, t->file, t->length, at, more, &place, 2, pixels, space, &report);
     see(status == JRI_OK || status == JRI_NO_LINES || status == JRI_NOT_IN_WINDOW, t, "a forged window");
-    see(is_filled(pixels + report.lines * line_of(t), room - report.lines * line_of(t)), t, "a forged window, bytes after the lines");
-    release(pixels, room);
+    see(is_filled(pixels + report.lines * line_of(t), space - report.lines * line_of(t)), t, "a forged window, bytes after the lines");
+    release(pixels, space);
 }
 
 static void try_rows(const struct trial *t) {
@@ -492,16 +492,16 @@ static void try_rows(const struct trial *t) {
     place = (struct jri_position){0};
     uint8_t *pixels = buffer(line_of(t));
     see(jri_decode_rows(t->file, t->length, JRI_COMPLETE, &place, 0, pixels, line_of(t), &report) == JRI_NO_LINES, t, "no row asked for");
-    see(jri_decode_rows(t->file, t->length, JRI_COMPLETE, &place, 1, pixels, line_of(t) - 1, &report) == JRI_BUFFER_TOO_SMALL, t, "no room for a row");
-    see(is_filled(pixels, line_of(t)) && !place.row, t, "no room for a row, a buffer touched");
+    see(jri_decode_rows(t->file, t->length, JRI_COMPLETE, &place, 1, pixels, line_of(t) - 1, &report) == JRI_BUFFER_TOO_SMALL, t, "no space for a row");
+    see(is_filled(pixels, line_of(t)) && !place.row, t, "no space for a row, a buffer touched");
     release(pixels, line_of(t));
 }
 
 static void *work(void *argument) {
     const struct trial *t = argument;
     for (int i = 0; i < TIMES; i++) {
-        check(t, t->header.intervals, t->status, -1, "a check beside other threads");
-        decode(t, t->header.pixels, t->header.intervals, t->status, -1, "beside other threads");
+        check(t, t->header.intervals, t->status, -1, "a check next to other threads");
+        decode(t, t->header.pixels, t->header.intervals, t->status, -1, "next to other threads");
         rows_by(t, 3);
     }
     return NULL;
@@ -516,7 +516,7 @@ static void work_at_once(struct trial *t) {
         pthread_join(threads[i], NULL);
 }
 
-/* Resynchronises a file into buffers of so many bytes and entries, while request k for memory is refused. Returns the number of requests. */
+/* Resynchronises a file into buffers of the given numbers of bytes and entries, while request k for memory is refused. Returns the number of requests. */
 static long resynchronise(const struct trial *t, size_t size, size_t count, long k, struct jri_resynced *report) {
     size_t listed = count * sizeof(struct jri_break);
     uint8_t *out = buffer(size), *bytes = buffer(listed + ALIGNED_MORE);
@@ -530,8 +530,8 @@ static long resynchronise(const struct trial *t, size_t size, size_t count, long
     size_t found = whole.breaks < count ? whole.breaks : count;
     if (status == JRI_OK) {
         struct jri_report decoded;
-        see(report->size <= size && is_filled(out + report->size, size - report->size), t, "behind a resynchronised file");
-        see(is_filled(bytes + found * sizeof *breaks, listed - found * sizeof *breaks), t, "behind the breaks");
+        see(report->size <= size && is_filled(out + report->size, size - report->size), t, "after a resynchronised file");
+        see(is_filled(bytes + found * sizeof *breaks, listed - found * sizeof *breaks), t, "after the breaks");
         for (size_t i = 0; i < found; i++)
             see(breaks[i].at < t->length && breaks[i].due < 8 && (!i || breaks[i - 1].at < breaks[i].at), t, "a break");
         see(jri_check(out, report->size, JRI_AS_IS, NULL, 0, &decoded) <= JRI_DAMAGED && decoded.ended == JRI_END_OF_IMAGE, t, "a resynchronised file");
@@ -552,7 +552,7 @@ static long resynchronise(const struct trial *t, size_t size, size_t count, long
 
 static void try_resynchronise(const struct trial *t) {
     struct jri_resynced report;
-    see(jri_resynchronise(t->file, t->length, NULL, 0, NULL, 0, &report) == JRI_BUFFER_TOO_SMALL, t, "no room to resynchronise");
+    see(jri_resynchronise(t->file, t->length, NULL, 0, NULL, 0, &report) == JRI_BUFFER_TOO_SMALL, t, "no space to resynchronise");
     see(report.size <= t->length + 2 * (size_t)t->header.intervals, t, "a resynchronised file's size");
     resynchronise(t, report.size, report.breaks, -1, &report);
     resynchronise(t, report.size + MORE, report.breaks + 3, -1, &report);
@@ -568,7 +568,7 @@ struct copies {
     size_t length, sizes[2];
 };
 
-/* Mends copies into buffers of so many bytes and entries, while request k for memory is refused. Returns the number of requests. */
+/* Mends copies into buffers of the given numbers of bytes and entries, while request k for memory is refused. Returns the number of requests. */
 static long mend(const struct trial *t, const struct copies *it, size_t size, size_t count, long k, struct jri_mended *report) {
     size_t listed = count * sizeof(struct jri_choice);
     uint8_t *out = buffer(size), *bytes = buffer(listed + ALIGNED_MORE);
@@ -583,8 +583,8 @@ static long mend(const struct trial *t, const struct copies *it, size_t size, si
     if (status == t->status) {
         struct jri_report decoded;
         uint8_t *marks = buffer(t->header.intervals);
-        see(is_filled(out + report->size, size - report->size), t, "behind a mended file");
-        see(is_filled(bytes + found * sizeof *choices, listed - found * sizeof *choices), t, "behind the choices");
+        see(is_filled(out + report->size, size - report->size), t, "after a mended file");
+        see(is_filled(bytes + found * sizeof *choices, listed - found * sizeof *choices), t, "after the choices");
         for (size_t i = 0; i < found; i++)
             see(choices[i].mark == t->marks[i] && !choices[i].differs && (choices[i].mark != JRI_MARK_SOUND || !choices[i].copy), t, "a choice");
         see(jri_check(out, report->size, JRI_AS_IS, marks, t->header.intervals, &decoded) == t->status, t, "a mended file");
@@ -615,8 +615,8 @@ static void try_mend(const struct trial *t) {
     memcpy(it.files, t->file, t->length);
     memcpy(it.files + t->length, t->file, scan_at);
     struct jri_mended report;
-    see(jri_mend(it.files, it.length, it.sizes, 2, NULL, 0, NULL, 0, &report) == JRI_BUFFER_TOO_SMALL, t, "no room to mend");
-    see(report.intervals == t->header.intervals && report.damaged == t->report.damaged, t, "a report of mending without room");
+    see(jri_mend(it.files, it.length, it.sizes, 2, NULL, 0, NULL, 0, &report) == JRI_BUFFER_TOO_SMALL, t, "no space to mend");
+    see(report.intervals == t->header.intervals && report.damaged == t->report.damaged, t, "a report of mending without space");
     mend(t, &it, report.size, report.intervals, -1, &report);
     mend(t, &it, report.size + MORE, report.intervals + 3, -1, &report);
     mend(t, &it, report.size, report.intervals / 2, -1, &report);
@@ -646,7 +646,7 @@ static size_t lay(uint32_t layout, const uint8_t *from, uint32_t components, uin
     return layout >= JRI_RGBX32 ? 4 : 3;
 }
 
-/* Whether a canvas has the picture in a layout, and behind each line but the last what it had before. */
+/* Whether a canvas has the picture in a layout, and after each line but the last what it had before. */
 static int has_picture(const struct trial *t, const uint8_t *canvas, size_t stride, size_t size, uint32_t layout) {
     for (uint32_t y = 0; y < t->header.height; y++) {
         const uint8_t *line = canvas + y * stride, *from = t->pixels + y * line_of(t);
@@ -667,21 +667,21 @@ static void try_canvas(const struct trial *t) {
     for (uint32_t layout = JRI_PLAIN; layout <= JRI_BGRX32; layout++) {
         uint8_t pixel[4];
         size_t size = t->header.width * lay(layout, t->pixels, t->header.components, pixel), stride = size + 5;
-        size_t room = (t->header.height - 1) * stride + size;
-        uint8_t *canvas = buffer(room), *other = buffer(room);
+        size_t space = (t->header.height - 1) * stride + size;
+        uint8_t *canvas = buffer(space), *other = buffer(space);
         struct jri_report report;
-        see(jri_decode_canvas(t->file, t->length, t->resync, canvas, room - 1, stride, layout, NULL, 0, &report) == JRI_BUFFER_TOO_SMALL &&
-            is_filled(canvas, room), t, "a canvas without room");
-        see(jri_decode_canvas(t->file, t->length, t->resync, canvas, room, size - 1, layout, NULL, 0, &report) == JRI_NO_LAYOUT &&
-            is_filled(canvas, room), t, "a stride that is too short");
-        see(jri_decode_canvas(t->file, t->length, t->resync, canvas, room, stride, layout, NULL, 0, &report) == t->status &&
+        see(jri_decode_canvas(t->file, t->length, t->resync, canvas, space - 1, stride, layout, NULL, 0, &report) == JRI_BUFFER_TOO_SMALL &&
+            is_filled(canvas, space), t, "a canvas without space");
+        see(jri_decode_canvas(t->file, t->length, t->resync, canvas, space, size - 1, layout, NULL, 0, &report) == JRI_NO_LAYOUT &&
+            is_filled(canvas, space), t, "a stride that is too short");
+        see(jri_decode_canvas(t->file, t->length, t->resync, canvas, space, stride, layout, NULL, 0, &report) == t->status &&
             !memcmp(&report, &t->report, sizeof report) && has_picture(t, canvas, stride, size, layout), t, "a canvas");
-        see(jri_lay_out(t->pixels, t->header.pixels, t->header.width, t->header.components, other, room - 1, stride, layout) ==
-            JRI_BUFFER_TOO_SMALL && is_filled(other, room), t, "no room for lines");
-        see(jri_lay_out(t->pixels, t->header.pixels, t->header.width, t->header.components, other, room, stride, layout) ==
-            JRI_OK && !memcmp(canvas, other, room), t, "lines laid out");
-        release(canvas, room);
-        release(other, room);
+        see(jri_lay_out(t->pixels, t->header.pixels, t->header.width, t->header.components, other, space - 1, stride, layout) ==
+            JRI_BUFFER_TOO_SMALL && is_filled(other, space), t, "no space for lines");
+        see(jri_lay_out(t->pixels, t->header.pixels, t->header.width, t->header.components, other, space, stride, layout) ==
+            JRI_OK && !memcmp(canvas, other, space), t, "lines laid out");
+        release(canvas, space);
+        release(other, space);
     }
     struct jri_report report;
     see(jri_decode_canvas(t->file, t->length, t->resync, NULL, 0, 300000, 5, NULL, 0, &report) == JRI_NO_LAYOUT, t, "no layout");
@@ -690,7 +690,7 @@ static void try_canvas(const struct trial *t) {
 /* Tries the calls that decode or check a whole file. */
 static void try_image(const struct trial *t) {
     size_t size = t->header.pixels, count = t->header.intervals;
-    decode(t, size + MORE, count + MORE, t->status, -1, "more room");
+    decode(t, size + MORE, count + MORE, t->status, -1, "more space");
     decode(t, size, 0, t->status, -1, "no marks asked for");
     decode(t, size - 1, count, JRI_BUFFER_TOO_SMALL, -1, "a pixel's byte too few");
     if (count > 1)
@@ -741,7 +741,7 @@ static void try_null(void) {
     see(jri_refusal_text(20, 0, text, OF_TEXT) == 0, &none, "a number past the last");
     see(jri_refusal_text(3, 18446744073709551615u, text, OF_TEXT) == 46, &none, "a long text");
     see(!memcmp(text, "expected a marker at byte 18446744073709551615", 46), &none, "a long text's words");
-    see(jri_refusal_text(1, 0, text, 5) == 5 && !memcmp(text, "not ated a marker", 17), &none, "a text without room");
+    see(jri_refusal_text(1, 0, text, 5) == 5 && !memcmp(text, "not ated a marker", 17), &none, "a text without space");
     struct jri_damage_list list;
     see(jri_list_damage(NULL, 0, 0, 0, NULL, 0, &list) == JRI_REFUSED && list.refusal == 1, &none, "damage");
     struct jri_resynced resynced;
@@ -779,7 +779,7 @@ static void try_file(const char *name) {
     t.marks = buffer(count);
     t.status = jri_decode(t.file, t.length, JRI_AS_IS, t.pixels, size, t.marks, count, &t.report);
     see(t.status == JRI_SOUND || t.status == JRI_DAMAGED, &t, "is not decoded");
-    see(jri_decode(t.file, t.length, JRI_AS_IS, NULL, 0, NULL, 0, &t.report) == JRI_BUFFER_TOO_SMALL, &t, "no room at all");
+    see(jri_decode(t.file, t.length, JRI_AS_IS, NULL, 0, NULL, 0, &t.report) == JRI_BUFFER_TOO_SMALL, &t, "no space at all");
     jri_decode(t.file, t.length, JRI_AS_IS, t.pixels, size, t.marks, count, &t.report);
     try_image(&t);
     try_header(&t);

@@ -1,9 +1,9 @@
 /*
- * Feeds a file to gdk-pixbuf in parts, as a viewer does whose file arrives, and tells what it was told.
+ * Feeds a file to gdk-pixbuf in parts, as a viewer does whose file arrives, and prints what it was told.
  *
- *     feed FILE BYTES [LOADER] > PICTURE     parts of so many bytes; 0: the whole file by gdk_pixbuf_new_from_file
+ *     feed FILE BYTES [LOADER] > PICTURE     parts of BYTES bytes; 0: the whole file by gdk_pixbuf_new_from_file
  *     feed --time FILE BYTES                 the processor time in milliseconds, and no picture
- *     feed --size FILE WIDTH                 the loader and the size that gdk_pixbuf_get_file_info tells, and the size of the
+ *     feed --size FILE WIDTH                 the loader and the size that gdk_pixbuf_get_file_info returns, and the size of the
  *                                            picture that is asked for at that width
  *
  * LOADER names the loader; without it gdk-pixbuf chooses one by the file's first bytes. It writes the last picture as PPM on
@@ -11,9 +11,9 @@
  *
  *     loader      which loader took the file
  *     orientation the option of that name
- *     updates     how often lines were told
- *     untold      how many lines were not told, and `again` how many were told more than once
- *     changed     how many lines are another in the last picture than when they were told
+ *     updates     how often lines were reported
+ *     unreported      how many lines were not reported, and `again` how many were reported more than once
+ *     changed     how many lines are another in the last picture than when they were reported
  *     error       its domain, code and words; the exit status is 2 then
  */
 #include <gdk-pixbuf/gdk-pixbuf.h>
@@ -25,8 +25,8 @@
 struct seen {
     GdkPixbuf *pixbuf;
     guint updates;
-    guint *told;    /* how often each line was told */
-    guint8 *pixels; /* the lines as they were told */
+    guint *reported;    /* how often each line was reported */
+    guint8 *pixels; /* the lines as they were reported */
 };
 
 static gsize line_bytes(const GdkPixbuf *pixbuf) { return (gsize)gdk_pixbuf_get_width(pixbuf) * gdk_pixbuf_get_n_channels(pixbuf); }
@@ -41,7 +41,7 @@ static void on_prepared(GdkPixbufLoader *loader, struct seen *seen) {
         exit(2);
     }
     seen->pixbuf = g_object_ref(gdk_pixbuf_loader_get_pixbuf(loader));
-    seen->told = g_new0(guint, gdk_pixbuf_get_height(seen->pixbuf));
+    seen->reported = g_new0(guint, gdk_pixbuf_get_height(seen->pixbuf));
     seen->pixels = g_malloc(line_bytes(seen->pixbuf) * gdk_pixbuf_get_height(seen->pixbuf));
 }
 
@@ -53,19 +53,19 @@ static void on_updated(GdkPixbufLoader *loader, gint x, gint y, gint width, gint
     }
     seen->updates++;
     for (gint line = y; line < y + height; line++) {
-        seen->told[line]++;
+        seen->reported[line]++;
         memcpy(seen->pixels + line * line_bytes(seen->pixbuf), line_of(seen->pixbuf, line), line_bytes(seen->pixbuf));
     }
 }
 
 static void tell_lines(const struct seen *seen, const GdkPixbuf *last) {
-    guint untold = 0, again = 0, changed = 0;
+    guint unreported = 0, again = 0, changed = 0;
     for (gint line = 0; line < gdk_pixbuf_get_height(last); line++) {
-        untold += seen->told[line] == 0;
-        again += seen->told[line] > 1;
-        changed += seen->told[line] && memcmp(seen->pixels + line * line_bytes(last), line_of(last, line), line_bytes(last)) != 0;
+        unreported += seen->reported[line] == 0;
+        again += seen->reported[line] > 1;
+        changed += seen->reported[line] && memcmp(seen->pixels + line * line_bytes(last), line_of(last, line), line_bytes(last)) != 0;
     }
-    g_printerr("updates %u\nuntold %u\nagain %u\nchanged %u\n", seen->updates, untold, again, changed);
+    g_printerr("updates %u\nuntold %u\nagain %u\nchanged %u\n", seen->updates, unreported, again, changed);
 }
 
 /* Feeds the bytes; whether all went well. */
@@ -93,7 +93,7 @@ static GdkPixbuf *by_parts(const gchar *data, gsize length, gsize part, const ch
         tell_lines(&seen, last);
     g_object_unref(loader);
     g_clear_object(&seen.pixbuf);
-    g_free(seen.told);
+    g_free(seen.reported);
     g_free(seen.pixels);
     return last;
 }

@@ -1,7 +1,6 @@
 """The trials of the page itself: what it shows of files, read back from its canvas and its words."""
 
 import base64
-import json
 import os
 import re
 import subprocess
@@ -101,7 +100,7 @@ def compare(findings, kind, found, expected):
 
 def image_of(library, data):
     """Returns what the page's canvas has of a file at the end."""
-    header, (marks, report) = library.header(data), library.check(data)
+    header, (_, report) = library.header(data), library.check(data)
     damages = library.damages(data, 1 << 20)
     bar = f"Restart intervals: {report['sound']} sound, {report['damaged']} damaged, 0 not here yet"
     shape = [header["width"], header["height"]]

@@ -244,7 +244,7 @@ async function run() {
   for (const k of list.scalar) scalars.push(await outcome(files[k], scalar));
   const rest = { scalars, trap: await trap(files[list.trapped], list.trappedPixels), addresses: await addresses() };
   if (list.timed !== null) rest.times = await times(files[list.timed], list.repeats);
-  await fetch('told', { method: 'POST', body: JSON.stringify({ found, ...rest }) });
+  await fetch('findings', { method: 'POST', body: JSON.stringify({ found, ...rest }) });
   return 'done';
 }
 

@@ -37,8 +37,8 @@ class Handler(http.server.BaseHTTPRequestHandler):
 
     def do_POST(self):
         data = self.rfile.read(int(self.headers["Content-Length"]))
-        if urllib.parse.urlsplit(self.path).path == "/trial/told":
-            self.server.told = json.loads(data)
+        if urllib.parse.urlsplit(self.path).path == "/trial/findings":
+            self.server.findings = json.loads(data)
         else:
             self.server.received += len(data)
         self.send(b"", "text/plain")
@@ -85,14 +85,14 @@ def read(path):
 
 
 class Server(http.server.ThreadingHTTPServer):
-    """Serves on 127.0.0.1 while it is entered. `files` are those of the page's trials, `told` is what the trial found."""
+    """Serves on 127.0.0.1 while it is entered. `files` are those of the page's trials, `findings` is what the trial found."""
 
     daemon_threads = True
 
     def __init__(self, page, small, work):
         super().__init__(("127.0.0.1", 0), Handler)
         self.page, self.small, self.work_json, self.packed = page, small, work.json(), b"".join(work.files)
-        self.files, self.told, self.received, self.release = {}, None, 0, threading.Event()
+        self.files, self.findings, self.received, self.release = {}, None, 0, threading.Event()
 
     def address(self, path):
         return f"http://127.0.0.1:{self.server_port}/{path}"
