@@ -35,8 +35,8 @@ pub fn too_long_is_final()
     ensures { (bytes more : List ℕ) → RefusalOf bytes TooLong → RefusalOf (bytes ++ more) TooLong }
 {}
 
-/// States that the segments that the bytes so far have ended are those that more bytes are cut into, and that the last
-/// one's data begin its data there. If a marker has ended the scan, nothing is added (T.81, B.1.1.5).
+/// States that more bytes never change a segment that has ended, and only append to the last. If a marker has ended the
+/// scan, nothing is appended (T.81, B.1.1.5).
 pub fn cut_is_final()
     ensures { (n at : ℕ) (bytes more : List ℕ) (a : Cutting n at bytes) (b : Cutting n at (bytes ++ more)) → GrowsTo a.datas b.datas × (a.end ≢ EndOfFile → (b.datas ≡ a.datas) × (b.end ≡ a.end)) }
 {}

@@ -80,8 +80,7 @@ fn give(partial_image: &mut Option<PartialImage>, pixels: &mut [u8]) -> u32
     }
 }
 
-/// Returns the scan of a file of which all bytes have come: the one that has begun, otherwise that of the bytes that
-/// are kept, which it copies.
+/// Returns the scan of a file that has arrived whole: the scan in progress, or a new one from a copy of the bytes kept.
 fn begun(
     alloc: Global,
     kept: &[u8],

@@ -10,7 +10,7 @@ use jr_head::Head;
 #[repr(C)]
 #[derive(Clone, Copy, Debug, PartialEq, Eq)]
 pub struct RowPlace {
-    /// The offset in the file of the byte that has the next bit; before the scan's first byte, that one is meant.
+    /// The offset in the file of the byte that has the next bit. Smaller offsets mean the scan's first byte.
     pub at: u64,
     /// Number of bits of that byte that are used, 0 to 7.
     pub bit: u32,

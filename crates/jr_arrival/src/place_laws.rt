@@ -36,8 +36,7 @@ pub fn split_segment()
         → (rest : List ℕ) × (others : List (List ℕ)) × (datas ≡ (found ++ rest) ∷ others) × CutFrom n k (at + length raw) tail (rest ∷ others) end × (IsStop tail → rest ≡ []) }
 {}
 
-/// States that the top is a position of every file, in a part of it that begins within the header, or right after it, and
-/// ends after it.
+/// States that the top is a valid position in any part that contains the scan's start.
 pub fn top_is_place()
     ensures { (x : FilePart) (whole : List ℕ) (t : ScanValue) → IsScanOf whole t → x.from ≤ t.head.scan_at → t.head.scan_at ≤ x.from + length x.bytes → IsPlaceIn x whole t top }
 {}

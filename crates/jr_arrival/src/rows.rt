@@ -132,8 +132,8 @@ pub fn decode_rows(
 }
 
 /// Skips the next rows of MCUs starting at a position, at most `rows` and as many as are final, by reading their bits
-/// alone, and returns the position after them: one of each file that the bytes may be of which the given position is
-/// one. It allocates a window.
+/// alone, and returns the position after them: valid in every file for which the given position is. It allocates a
+/// window.
 pub fn skip_rows(
     alloc: Global,
     head: &Head,

@@ -1,4 +1,4 @@
-//! Who reads next.
+//! The right to read the scan, which one thread holds.
 
 ghost use Rattle.std.specs.Prelude.{◌≡◌, Some};
 ghost use Rattle.jr_scan.specs.Guesses.{AreGuessesOf};

@@ -54,7 +54,7 @@ impl<'a, 'b, R: Wait, G: Gate, S: OneScan> Caller<'a, 'b, R, G, S> {
         }
     }
 
-    /// Reads and paints until the row that is written next is painted, or others have what is left of it in work.
+    /// Reads and paints until the row that is written next is painted, or only other threads can finish it.
     fn help(&mut self)
         ensures { self.new ≡ self.old }
     {

@@ -175,7 +175,7 @@ impl<'a, S: OneScan> Crew<'a, S> {
         self.shared.put(rt, &self.part, Some(skipped), behind);
     }
 
-    /// Does what is to be done.
+    /// Performs a task.
     pub(crate) fn run<R: Wait, G: Gate>(
         &self,
         rt: &R,
@@ -191,7 +191,7 @@ impl<'a, S: OneScan> Crew<'a, S> {
         }
     }
 
-    /// Does what can be done at once, if there is something.
+    /// Performs one task if one is ready.
     fn do_ready<R: Wait, G: Gate>(&self, rt: &R, gate: &G, room: &mut PaintRoom<S>) {
         let task = self.shared.queue.lock(rt).task(&self.part);
         if let Some(task) = task {
@@ -199,9 +199,8 @@ impl<'a, S: OneScan> Crew<'a, S> {
         }
     }
 
-    /// Allocates what a helping thread works with, and row buffers if some are lacking. Before it
-    /// brings one it brings a buffer for speculative reads and makes one, if any are made, so that
-    /// the reader has them early.
+    /// Allocates what a helping thread works with, and row buffers if some are lacking. Before each
+    /// row buffer it performs two tasks, so that speculative reads begin early.
     pub(crate) fn prepare<R: Wait, G: Gate>(
         &self,
         rt: &R,

@@ -12,7 +12,7 @@ use std::alloc::Global;
 use std::collections::VecDeque;
 use std::mem::replace;
 
-/// A row that is begun, and what it is read on: so it needs nothing that a later row could take.
+/// A row in progress with its own buffer, so that it never waits for a later row.
 #[derive(Drop)]
 pub(crate) struct BegunRow<S: OneScan> {
     pub(crate) baton: Baton<S>,
@@ -99,7 +99,7 @@ impl<S: OneScan> RowWork<S> {
         self.next == row
     }
 
-    /// A row that is painted.
+    /// Takes this painted row, which must be there.
     pub(crate) fn take(&mut self, row: u32) -> Painted<S>
         requires { HasRow self.old.painted.items row }
         ensures { result.row ≡ row }

@@ -112,8 +112,7 @@ fn open_queue<S: OneScan>(
     Ok(queue)
 }
 
-/// Does what `write_scan_by` does, with a type for the part that is decoded, so that what the threads share under locks
-/// is known to be of it.
+/// `write_scan_by`, with the brand `S` of the scan (see `OneScan`).
 fn write_as<R: Threads + Wait + Sync, W: Write, G: Gate + Sync, S: OneScan + Send>(
     rt: &R,
     alloc: Global,

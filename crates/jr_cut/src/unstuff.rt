@@ -24,8 +24,8 @@ pub fn offset_in(bytes: &[u8], offset: u64) -> usize
     }
 }
 
-/// Bytes of a scan that are read one after the other. The data that they spell replace them from the start, since they
-/// are no longer.
+/// Bytes of a scan that are read one after the other. The decoded data overwrite the buffer's start; they are never
+/// longer than their code.
 #[derive(Drop)]
 pub struct Unstuffing {
     bytes: Vec<u8>,

@@ -63,8 +63,7 @@ impl<'s, 'a, R: Wait, S: OneScan> Help for Guessing<'s, 'a, R, S> {
     }
 }
 
-/// Does what `check_scan_by` does, with a type for the part, so that what the threads share under a lock is known to be
-/// of it.
+/// `check_scan_by`, with the brand `S` of the scan (see `OneScan`).
 fn check_as<R: Threads + Wait + Sync, S: OneScan + Send>(
     rt: &R,
     alloc: Global,

@@ -191,7 +191,13 @@ impl ScanPosition {
     }
 
     /// Returns the position between the last MCU that ends before an offset and the next one.
-    pub(crate) fn advanced(self, head: &Head, file: &[u8], to: usize, buffer: &mut Vec<u8>) -> ScanPosition
+    pub(crate) fn advanced(
+        self,
+        head: &Head,
+        file: &[u8],
+        to: usize,
+        buffer: &mut Vec<u8>,
+    ) -> ScanPosition
         requires within { to ≤ length file.now }
         requires short { length file.now ≤ MAX_FILE_BYTES }
         requires in_range { All IsInDcRange self.place.predictions }
@@ -237,7 +243,11 @@ impl ScanPosition {
             };
             position = next;
         }
-        let end = if position.is_after_image { to } else { position.at };
+        let end = if position.is_after_image {
+            to
+        } else {
+            position.at
+        };
         Reach {
             end,
             clean_end: clean_end.unwrap_or(end),

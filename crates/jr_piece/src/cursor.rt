@@ -20,7 +20,7 @@ use jr_scan::{Guesses, IntervalRef, McuReader, Place};
 pub struct Cursor {
     /// The interval.
     pub number: u32,
-    /// Number of its MCUs that are read, those after its longest prefix among them.
+    /// Number of its MCUs passed, whole or not.
     pub mcu: u32,
     /// Start of the next MCU; `None` if no further one is whole.
     pub place: Option<Place>,

@@ -109,7 +109,7 @@ impl StripReader {
         self.cursor.mcu
     }
 
-    /// Returns the bit at which the next MCU starts; if no further one follows it is of no use.
+    /// Returns the bit at which the next MCU starts; 0 if none follows.
     pub fn bit(&self) -> u64
         ensures { IfSome self.now.next (λ p. result ≡ p.bit) }
     {

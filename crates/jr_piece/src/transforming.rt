@@ -9,8 +9,8 @@ use jr_base::Coefficients;
 use jr_head::Head;
 use jr_idct::{transform_one, transform_two};
 
-/// Transforms an MCU, and the next one or a part of it: a block of the one and that of the other at its index are of
-/// one component, and are transformed side by side.
+/// Transforms an MCU, and the next one or a part of it. Blocks j of both share a component, and are transformed side by
+/// side.
 fn transform_mcus<U: UnitSink>(head: &Head, mcu: usize, blocks: &[Coefficients], units: &mut U)
     requires room { U.has_room head.now units.old }
     requires small { mcu + 1 < 2 ^ 64 }

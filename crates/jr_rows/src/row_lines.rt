@@ -16,12 +16,12 @@ use jr_piece::{UnitSink, transform_blocks};
 use std::alloc::Global;
 use std::marker::Model;
 
-/// Where the data units of one number in an MCU are in a row's lines.
+/// The position of data unit j of MCU 0 in a row's lines, and the step to the next MCU.
 #[derive(Clone, Copy)]
 pub struct UnitStart {
-    /// The group of the first row of samples of the one of the first MCU.
+    /// The group of the first row of samples of the unit in MCU 0.
     pub first: usize,
-    /// Number of groups from one MCU's to the next one's.
+    /// Number of groups from an MCU's unit to the next MCU's.
     pub step: usize,
 }
 

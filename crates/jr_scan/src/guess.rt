@@ -21,8 +21,8 @@ use jr_mcu::{Kept, Skipped, all_small, put_shifted, read_mcu, sums};
 use std::alloc::Global;
 use std::marker::Model;
 
-/// Returns the maximum number of starts of a speculative read of these bits. Each reads one MCU in vain, of 640 codes
-/// or fewer, so that all of them read fewer codes in vain than there are bits, but for some thousands.
+/// Returns the maximum number of starts of a speculative read of these bits. A failed start costs at most 640
+/// codes; this bounds their sum by the number of bits.
 fn most_starts(from: u64, to: u64) -> u64 {
     16 + to.saturating_sub(from) / 1024
 }
@@ -83,7 +83,7 @@ impl Guess {
     }
 
     /// Reads MCUs starting at a bit of an interval, over those that were read before, until one starts at bit `to` or
-    /// past it, or the buffer is full. If no MCU follows it continues at the next byte, but not for ever.
+    /// past it, or the buffer is full. If no MCU follows it retries at the next byte, at most `most_starts` times.
     pub fn read(&mut self, interval: &IntervalRef<'_>, from: u64, to: u64)
         ensures { IsGuessOf interval.now self.new }
     {

@@ -184,7 +184,7 @@ impl Looker {
         self.look_for_piece(i, decoding, sight, screen);
     }
 
-    /// Reports what can be seen at present. What is left out because allocation fails comes later.
+    /// Reports what can be seen at present. Items skipped for lack of memory are reported by a later call.
     pub(crate) fn look<S: Screen>(&mut self, decoding: &Decoding, screen: &mut S)
         ensures { Tells S.becomes decoding.now.scan self.old screen.old self.new screen.new }
     {

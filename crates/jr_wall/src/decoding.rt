@@ -100,7 +100,7 @@ impl Decoding {
         &self.scan
     }
 
-    /// Returns the whole scan, as what its workers share knows it.
+    /// Returns the scan as a part that has all intervals.
     fn part(&self) -> FirstIntervals<'_>
         ensures { result ≡ whole self.now.scan }
     {
@@ -328,8 +328,7 @@ impl Decoding {
     }
 }
 
-/// Does what `run_with` does, with a type for the scan, so that what the workers share under locks is known to be of
-/// it.
+/// `run_with`, with the brand `S` of the scan (see `OneScan`).
 fn run_as<
     R: Threads + Wait + Sync,
     G: Gate + Sync,
@@ -358,7 +357,7 @@ fn run_as<
     decoding.run_with(rt, seats, own, gate, &jobs, beside)
 }
 
-/// Does what `work_with` does, with a type for the scan.
+/// `work_with`, with the brand `S` of the scan.
 fn work_as<R: Wait, G: Gate, S: OneScan>(decoding: &Decoding, rt: &R, seat: &mut Seat, gate: &G)
     requires part { S.part ≡ Some (whole decoding.now.scan) }
     requires desk { seat.old.desk ≡ decoding.now.desk }

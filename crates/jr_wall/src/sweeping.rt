@@ -31,7 +31,7 @@ fn is_left(board: &Board, scan: &Scan, n: u32) -> bool
     true
 }
 
-/// Returns the board that the workers left, or a new one if it is not this scan's or is marked starting at n.
+/// Returns the board that the workers left, or an empty one if theirs is of another scan or has marks starting at n.
 pub(crate) fn usable(alloc: Global, board: Board, scan: &Arc<Scan>, n: u32) -> Result<Board, Memory>
     ensures scan { IfOk result (λ b. IsSameScan b.scan (arc_value scan.now)) }
     ensures blank { IfOk result (λ b. (i : ℕ) → n ≤ i → mark_at b i ≡ Blank) }

@@ -49,7 +49,7 @@ pub struct GuessQueue<S: OneScan> {
     at: (u32, u64),
     /// Start of the next speculative read.
     next: (u32, u64),
-    /// Number of bits of the reader's last step, if it ended in the interval in which it began, or was all of it.
+    /// Bits of the last step that lay in one interval.
     step_bits: u64,
 }
 
@@ -188,8 +188,8 @@ impl<S: OneScan> GuessQueue<S> {
         self.slots.iter().position(|slot| slot.is_free(number, bit))
     }
 
-    /// Returns the bits of the next speculative read: past those of the others, and past the reader's next step, which
-    /// it makes meanwhile; as many as the last step had, and up to half as many more if the interval ends there.
+    /// Returns the bits of the next speculative read: after all other reads and the reader's next step, as long as the
+    /// last step, and up to half as long again if the interval ends there.
     fn next_window(&self, part: &FirstIntervals<'_>) -> Option<Window> {
         let (number, bit) = self
             .next

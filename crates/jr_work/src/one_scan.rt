@@ -5,8 +5,8 @@ ghost use Rattle.jr_picture.specs.FirstIntervalsValue.{FirstIntervalsValue};
 
 use std::marker::Brand;
 
-/// The first intervals of a scan that a proof knows of, as a type: what lies under a lock is known by its type alone,
-/// so the type says of which scan it is, and how many of its intervals are decoded.
+/// A brand that names a scan and the number of its intervals that are decoded: a contract knows the contents of a lock
+/// only by type.
 pub trait OneScan {
     ghost part: { Option FirstIntervalsValue };
 }

@@ -13,7 +13,7 @@ pub enum Task<S: OneScan, W: Work<S>> {
     Begin(W::Begun, bool),
     /// Finishes a step that was skipped or read.
     Finish(W::Unfinished),
-    /// Does what serves all threads.
+    /// Makes a speculative read or a buffer, which all threads use.
     Assist(Assist<S, W>),
 }
 

@@ -293,7 +293,7 @@ fn with_counts<O: Write>(
     CheckReport { end, ..report }
 }
 
-/// Does what `check_all` does, with a type for the files, by which contracts know that what is under locks is about them.
+/// `check_all`, with the brand `S` of the files, by which contracts know the contents of locks.
 fn check_as<
     S: OneCheck + Send,
     R: Threads + Wait + Sync,

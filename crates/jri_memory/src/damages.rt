@@ -56,7 +56,7 @@ pub struct DamageReport {
 }
 
 impl DamageReport {
-    /// Returns a refusal.
+    /// Returns the report of a refusal.
     fn refused(refusal: Refusal) -> DamageReport
         ensures nothing { TellsNoDamage result }
         ensures number { result.refusal ≡ number_of refusal }

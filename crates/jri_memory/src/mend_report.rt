@@ -102,7 +102,7 @@ impl MendReport {
         }
     }
 
-    /// Returns a refusal of a copy.
+    /// Returns the report of a refused copy.
     pub(crate) fn refused(copy: u32, refusal: Refusal) -> MendReport
         ensures nothing { TellsNoMend result }
         ensures copy { result.copy ≡ copy }

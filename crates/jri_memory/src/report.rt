@@ -68,7 +68,7 @@ impl DecodeReport {
         }
     }
 
-    /// Returns a refusal.
+    /// Returns the report of a refusal.
     pub(crate) fn refused(refusal: Refusal) -> DecodeReport
         ensures no_picture { TellsNoPicture result }
         ensures number { result.refusal ≡ number_of refusal }

@@ -65,7 +65,7 @@ impl ResyncReport {
         }
     }
 
-    /// Returns a refusal.
+    /// Returns the report of a refusal.
     fn refused(refusal: Refusal) -> ResyncReport
         ensures nothing { TellsNoResync result }
         ensures number { result.refusal ≡ number_of refusal }

@@ -40,7 +40,7 @@ impl RowsReport {
         }
     }
 
-    /// Returns a refusal.
+    /// Returns the report of a refusal.
     pub(crate) fn refused(refusal: Refusal) -> RowsReport
         ensures no_rows { TellsNoRows result }
         ensures number { result.refusal ≡ number_of refusal }
