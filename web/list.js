@@ -86,7 +86,7 @@ export class List {
       const number = run.next;
       run.next += 1;
       const found = await this.#checkOne(engine, this.#entries[number]);
-      if (this.#run === run) this.#tell(number, found);
+      if (this.#run === run) this.#report(number, found);
     }
   }
 
@@ -100,7 +100,7 @@ export class List {
     return found;
   }
 
-  #tell(number, { state, line }) {
+  #report(number, { state, line }) {
     this.#counts[state] = (this.#counts[state] ?? 0) + 1;
     this.#checked += 1;
     const row = this.#rows[number];

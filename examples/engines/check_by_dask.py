@@ -1,11 +1,11 @@
 #!/usr/bin/env python3
 """Checks an archive by the workers of a dask.distributed cluster, each of which has jri_check and sees the files.
 
-    find /archive -name '*.jpg' -print0 | sort -z | check_by_dask.py tcp://one:8786 > told.txt
+    find /archive -name '*.jpg' -print0 | sort -z | check_by_dask.py tcp://one:8786 > report.txt
 
 Names come on standard input, each ended by a NUL byte, and lines go to standard output, in the order of the names: those of
 each chunk end with its counts. Names are read as chunks are done, so that a list of any length takes little memory. A chunk
-whose worker is lost goes to another, and a chunk is told of only when it is whole. A damaged file, or one that cannot be read,
+whose worker is lost goes to another, and a chunk is reported only when it is whole. A damaged file, or one that cannot be read,
 is an answer; want of memory is tried again.
 """
 
@@ -25,10 +25,10 @@ ANSWERS = (0, 1, 3, 5)
 def check(names):
     """The lines of jri_check for some names; runs in a worker."""
     listed = b"".join(name + b"\0" for name in names)
-    told = subprocess.run(COMMAND, input=listed, stdout=subprocess.PIPE, stderr=subprocess.PIPE)
-    if told.returncode not in ANSWERS:
-        raise RuntimeError(f"jri_check ended with {told.returncode}: {told.stderr.decode(errors='replace')}")
-    return told.stdout
+    done = subprocess.run(COMMAND, input=listed, stdout=subprocess.PIPE, stderr=subprocess.PIPE)
+    if done.returncode not in ANSWERS:
+        raise RuntimeError(f"jri_check ended with {done.returncode}: {done.stderr.decode(errors='replace')}")
+    return done.stdout
 
 
 def names(stream):

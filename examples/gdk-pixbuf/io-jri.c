@@ -2,7 +2,7 @@
  * A loader of JPEG files for gdk-pixbuf, by libjri.
  *
  * The bytes are kept as they arrive. Each time that about a row of MCUs more has come, the rows that are settled by now are decoded
- * straight into the pixbuf, each once, and told. A file that libjri doesn't decode since it is no baseline file, as a progressive
+ * straight into the pixbuf, each once, and reported. A file that libjri doesn't decode since it is no baseline file, as a progressive
  * one, goes on to the loader of gdk-pixbuf that is named "jpeg", with all bytes that came and those that follow, or at its end.
  */
 #define GDK_PIXBUF_ENABLE_BACKEND
@@ -26,11 +26,11 @@ enum stage { READS_HEADER, DECODES, IS_DONE, HANDED_OVER, HAS_FAILED };
 
 struct bytes {
     guint8 *data;
-    gsize length, room;
+    gsize length, capacity;
 };
 
 struct loading {
-    GdkPixbufModuleSizeFunc size; /* these three are NULL where nobody is told */
+    GdkPixbufModuleSizeFunc size; /* these three are NULL if no caller is told */
     GdkPixbufModulePreparedFunc prepared;
     GdkPixbufModuleUpdatedFunc updated;
     gpointer user;
@@ -63,16 +63,16 @@ static void await(struct loading *l, gsize bytes) {
     l->awaited = l->file.length + MAX(CLAMP(bytes, LEAST_AWAITED, MOST_AWAITED), header / PART_OF_HEADER);
 }
 
-/* Makes room for so many bytes more. */
+/* Makes space for `more` bytes. */
 static gboolean make_room(struct bytes *file, gsize more, GError **error) {
-    if (file->room - file->length >= more)
+    if (file->capacity - file->length >= more)
         return TRUE;
-    gsize room = MAX(2 * file->room, file->length + more);
-    guint8 *data = g_try_realloc(file->data, room);
+    gsize capacity = MAX(2 * file->capacity, file->length + more);
+    guint8 *data = g_try_realloc(file->data, capacity);
     if (!data)
         return fail_for_memory(error);
     file->data = data;
-    file->room = room;
+    file->capacity = capacity;
     return TRUE;
 }
 
@@ -113,7 +113,7 @@ static gboolean is_of_another_kind(guint32 refusal) {
 }
 
 /* Whether the other loader gets a file of another kind at its end alone. It can't wait for bytes of arithmetic data: by parts it
- * fails, or doesn't return. A progressive file's frame is told by detail C2, and all but these may be arithmetic. */
+ * fails, or doesn't return. A progressive file's frame is recognised by detail C2, and all but these may be arithmetic. */
 static gboolean is_handed_over_whole(const struct jri_header *header) {
     return header->refusal == 4 || (header->refusal == 5 && header->detail != 0xC2);
 }
@@ -141,7 +141,7 @@ static void update_other(GdkPixbufLoader *other, gint x, gint y, gint width, gin
         l->updated(l->pixbuf, x, y, width, height, l->user);
 }
 
-/* Gives all bytes that came to the other loader; where there is none the file is refused. A whole file gets an EOI behind its end:
+/* Gives all bytes that came to the other loader; where there is none the file is refused. A whole file gets an EOI after its end:
  * else the other loader fails on some that were cut off. */
 static gboolean hand_over(struct loading *l, guint32 more, GError **error) {
     if (more == JRI_COMPLETE && !append(&l->file, END_OF_IMAGE, sizeof END_OF_IMAGE, error))
@@ -176,12 +176,12 @@ static gboolean begin_picture(struct loading *l, guint32 more, GError **error) {
         g_set_error_literal(error, GDK_PIXBUF_ERROR, GDK_PIXBUF_ERROR_CORRUPT_IMAGE, "a width or height of 0 is wanted");
         return FALSE;
     }
-    gsize room = (gsize)CHANNELS * width * height;
-    guint8 *pixels = g_try_malloc(room);
+    gsize capacity = (gsize)CHANNELS * width * height;
+    guint8 *pixels = g_try_malloc(capacity);
     if (!pixels)
         return fail_for_memory(error);
     if (more == JRI_PARTIAL)
-        memset(pixels, GREY, room);
+        memset(pixels, GREY, capacity);
     l->pixbuf = gdk_pixbuf_new_from_data(pixels, GDK_COLORSPACE_RGB, FALSE, 8, width, height, CHANNELS * width, free_pixels, NULL);
     guint orientation = orientation_of(l->file.data, l->file.length);
     if (orientation) {
@@ -211,13 +211,13 @@ static gboolean read_header(struct loading *l, guint32 more, GError **error) {
     return TRUE;
 }
 
-/* Spreads so many bytes of grey to red, green and blue, in their own place: the last one first, since its three stand behind it. */
+/* Spreads `count` bytes of grey to red, green and blue in place, the last one first. */
 static void spread_grey(guint8 *pixels, gsize count) {
     for (gsize i = count; i-- > 0;)
         memset(pixels + CHANNELS * i, pixels[i], CHANNELS);
 }
 
-/* Takes in the rows that were decoded: they are told, and the next one awaited. */
+/* Takes in the rows that were decoded: they are reported, and the next one awaited. */
 static void take_rows(struct loading *l, guint8 *pixels, const struct jri_rows *rows) {
     if (l->header.components == 1)
         spread_grey(pixels, (gsize)l->header.width * rows->lines);
@@ -315,7 +315,7 @@ static gboolean read_all(struct bytes *file, FILE *stream, GError **error) {
     while (got) {
         if (!make_room(file, 65536, error))
             return FALSE;
-        got = fread(file->data + file->length, 1, file->room - file->length, stream);
+        got = fread(file->data + file->length, 1, file->capacity - file->length, stream);
         file->length += got;
     }
     if (ferror(stream))

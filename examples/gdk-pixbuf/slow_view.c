@@ -1,10 +1,10 @@
 /*
  * Shows a picture whose file arrives slowly, as GTK viewers show it: what comes goes to a GdkPixbufLoader, and its pixbuf is drawn.
  *
- *     slow_view [--screenshots FOLDER] FILE BYTES MILLISECONDS
+ *     slow_view [--screenshots DIRECTORY] FILE BYTES MILLISECONDS
  *
- * So many bytes come each so many milliseconds. With --screenshots it writes the window to third.png, two_thirds.png and end.png in
- * the folder, once that much of the file has come, and ends.
+ * BYTES bytes come each MILLISECONDS milliseconds. With --screenshots it writes the window to third.png, two_thirds.png and end.png in
+ * the directory, once that much of the file has come, and ends.
  */
 #include <gtk/gtk.h>
 #include <stdlib.h>
@@ -17,9 +17,9 @@ struct view {
     GdkPixbufLoader *loader;
     gchar *file;
     gsize length, at, step; /* how many bytes there are, have come, and come each time */
-    const char *folder;     /* of screenshots, or NULL */
-    guint shots, updates;   /* how many screenshots were taken, and how often lines were told */
-    gboolean is_drawn;      /* whether all that was told is in the image, */
+    const char *directory;     /* of screenshots, or NULL */
+    guint shots, updates;   /* how many screenshots were taken, and how often lines were reported */
+    gboolean is_drawn;      /* whether all that was reported is in the image, */
     gboolean is_painted;    /* and whether the image is on the screen */
     GtkWidget *window, *image, *label;
 };
@@ -50,10 +50,10 @@ static void on_painted(GdkFrameClock *clock, struct view *view) {
     view->is_painted = TRUE;
 }
 
-static void tell(struct view *view) {
+static void show_progress(struct view *view) {
     GdkPixbufFormat *format = gdk_pixbuf_loader_get_format(view->loader);
     gchar *name = format ? gdk_pixbuf_format_get_name(format) : g_strdup("that is not chosen yet");
-    gchar *text = g_strdup_printf("%u %% of the file has come; lines were told %u times, by the loader %s",
+    gchar *text = g_strdup_printf("%u %% of the file has come; lines were reported %u times, by the loader %s",
                                   (guint)(100 * view->at / view->length), view->updates, name);
     gtk_label_set_text(GTK_LABEL(view->label), text);
     g_free(text);
@@ -64,7 +64,7 @@ static void tell(struct view *view) {
 static void take_shot(struct view *view) {
     GdkWindow *window = gtk_widget_get_window(view->window);
     GdkPixbuf *shot = gdk_pixbuf_get_from_window(window, 0, 0, gdk_window_get_width(window), gdk_window_get_height(window));
-    gchar *path = g_build_filename(view->folder, SHOT_NAMES[view->shots++], NULL);
+    gchar *path = g_build_filename(view->directory, SHOT_NAMES[view->shots++], NULL);
     GError *error = NULL;
     if (!shot || !gdk_pixbuf_save(shot, path, "png", &error, NULL)) {
         g_printerr("slow_view: no screenshot: %s\n", error ? error->message : "the window has none");
@@ -90,18 +90,18 @@ static void feed(struct view *view) {
 
 /* A screenshot has what had come by the last tick: so what came then is painted before. */
 static gboolean on_tick(struct view *view) {
-    if (view->folder && !view->is_painted)
+    if (view->directory && !view->is_painted)
         return G_SOURCE_CONTINUE;
-    if (view->folder && view->at * SHOTS >= view->length * (view->shots + 1))
+    if (view->directory && view->at * SHOTS >= view->length * (view->shots + 1))
         take_shot(view);
     if (view->at == view->length) {
-        if (view->folder)
+        if (view->directory)
             gtk_main_quit();
         return G_SOURCE_REMOVE;
     }
     feed(view);
     draw(view);
-    tell(view);
+    show_progress(view);
     return G_SOURCE_CONTINUE;
 }
 
@@ -123,12 +123,12 @@ int main(int count, char **words) {
     struct view view = {.is_drawn = TRUE};
     gtk_init(&count, &words);
     if (count == 6 && g_strcmp0(words[1], "--screenshots") == 0) {
-        view.folder = words[2];
+        view.directory = words[2];
         words += 2;
         count -= 2;
     }
     if (count != 4 || !g_file_get_contents(words[1], &view.file, &view.length, NULL) || view.length == 0) {
-        g_printerr("slow_view [--screenshots FOLDER] FILE BYTES MILLISECONDS\n");
+        g_printerr("slow_view [--screenshots DIRECTORY] FILE BYTES MILLISECONDS\n");
         return 1;
     }
     view.step = MAX(strtoul(words[2], NULL, 10), 1);

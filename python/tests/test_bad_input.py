@@ -237,7 +237,7 @@ def test_refuses_what_has_no_bytes(source):
         jri.decode(source)
 
 
-def test_tells_of_a_path_that_is_not_there(tmp_path):
+def test_reports_a_path_that_is_not_there(tmp_path):
     with pytest.raises(FileNotFoundError):
         jri.decode(tmp_path / "none.jpg")
 

@@ -1,4 +1,4 @@
-"""Pictures beside those of djpeg, and by each kind of source."""
+"""Pictures compared with djpeg's, by each kind of source."""
 
 import concurrent.futures
 import io

@@ -72,9 +72,9 @@ def compiled(tmp_path, code):
 
 
 def test_a_library_that_is_not_there():
-    told = imported("/nowhere/libjri.so")
-    assert f"ImportError: cannot load /nowhere/libjri.so: install the package libjri0.{interface()}" in told
-    assert "tools/install" in told and "JRI_LIBRARY" in told
+    printed = imported("/nowhere/libjri.so")
+    assert f"ImportError: cannot load /nowhere/libjri.so: install the package libjri0.{interface()}" in printed
+    assert "tools/install" in printed and "JRI_LIBRARY" in printed
 
 
 def test_a_library_that_is_another_one():
@@ -88,8 +88,8 @@ def test_a_library_of_another_version(tmp_path):
 
 def test_a_library_without_a_call(tmp_path):
     path = compiled(tmp_path, f"unsigned jri_version(void) {{ return {interface()}; }}")
-    told = imported(path)
-    assert f"ImportError: {path} lacks a call: install" in told and "jri_" in told
+    printed = imported(path)
+    assert f"ImportError: {path} lacks a call: install" in printed and "jri_" in printed
 
 
 def test_a_library_in_the_modules_directory(tmp_path):

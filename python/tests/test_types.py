@@ -1,4 +1,4 @@
-"""The types that the module tells checkers of callers."""
+"""The types that checkers of callers see."""
 
 import os
 import subprocess
@@ -40,11 +40,11 @@ def test_the_module_has_types_throughout(tmp_path):
 def test_a_caller_sees_them(tmp_path):
     caller = tmp_path / "caller.py"
     caller.write_text(CALLER)
-    told = [line.split(": ", 1)[1] for line in checked(tmp_path, str(caller)).splitlines() if line.startswith(str(caller))]
-    assert "tuple[builtins.int, ...]" in told[0].lower()
-    assert "Union[Literal['sound'], Literal['damaged'], Literal['refused'], Literal['unsupported']]" in told[1]
-    assert '"builtins.int"' in told[2]
-    assert "Union[jri.Health, builtins.OSError]" in told[3]
-    assert all("numpy.ndarray[Any, numpy.dtype[" in line for line in told[4:6])
-    assert '"builtins.str"' in told[6] and '"builtins.int"' in told[7]
-    assert told[8].startswith('error: Argument 1 to "decode" has incompatible type "int"') and len(told) == 9
+    printed = [line.split(": ", 1)[1] for line in checked(tmp_path, str(caller)).splitlines() if line.startswith(str(caller))]
+    assert "tuple[builtins.int, ...]" in printed[0].lower()
+    assert "Union[Literal['sound'], Literal['damaged'], Literal['refused'], Literal['unsupported']]" in printed[1]
+    assert '"builtins.int"' in printed[2]
+    assert "Union[jri.Health, builtins.OSError]" in printed[3]
+    assert all("numpy.ndarray[Any, numpy.dtype[" in line for line in printed[4:6])
+    assert '"builtins.str"' in printed[6] and '"builtins.int"' in printed[7]
+    assert printed[8].startswith('error: Argument 1 to "decode" has incompatible type "int"') and len(printed) == 9

@@ -170,7 +170,7 @@ class Measure:
 
 @dataclass(frozen=True)
 class Report:
-    """What a decoding tells."""
+    """The report of a decoding."""
 
     intervals: int
     sound: int
@@ -199,7 +199,7 @@ class Health:
     report: Optional[Report]
     #: the number of the refusal, 1 to 18, as in jri.h; None where there is none
     refusal: Optional[int]
-    #: what the refusal tells beside its number: an offset or a marker's code
+    #: the refusal's detail: an offset or a marker's code
     detail: Optional[int]
 
     @property
@@ -307,17 +307,17 @@ def _raise(
 
 
 def _measured(file: _File) -> Measure:
-    told = ffi.new("struct jri_header *")
-    status = library.jri_read_header(file.data, len(file.data), COMPLETE, told)
-    return _measure(status, told, file.name)
+    filled = ffi.new("struct jri_header *")
+    status = library.jri_read_header(file.data, len(file.data), COMPLETE, filled)
+    return _measure(status, filled, file.name)
 
 
-def _measure(status: int, told: Any, name: Optional[str]) -> Measure:
+def _measure(status: int, filled: Any, name: Optional[str]) -> Measure:
     """Returns what a header says. Raises the error for a status without one, of a file of this name."""
     if status != OK:
-        size = (told.width, told.height) if told.width and told.height else None
-        _raise(status, told.refusal, told.detail, name, size)
-    return Measure(told.width, told.height, told.components, told.intervals)
+        size = (filled.width, filled.height) if filled.width and filled.height else None
+        _raise(status, filled.refusal, filled.detail, name, size)
+    return Measure(filled.width, filled.height, filled.components, filled.intervals)
 
 
 def _within(head: Measure, max_pixels: int, name: Optional[str]) -> None:
@@ -327,9 +327,9 @@ def _within(head: Measure, max_pixels: int, name: Optional[str]) -> None:
         raise ValueError(_with_name(name, text))
 
 
-def _reported(told: Any) -> Report:
-    at = told.at if told.ended in (2, 3, 4) else None
-    return Report(told.intervals, told.sound, told.damaged, _ENDS[told.ended], at)
+def _reported(filled: Any) -> Report:
+    at = filled.at if filled.ended in (2, 3, 4) else None
+    return Report(filled.intervals, filled.sound, filled.damaged, _ENDS[filled.ended], at)
 
 
 def _shape(head: Measure, layout: Optional[Layout]) -> Tuple[int, ...]:
@@ -359,13 +359,13 @@ def _canvas(pixels: Pixels) -> Tuple[Any, int, int]:
     return ffi.cast("uint8_t *", pixels.ctypes.data), (pixels.shape[0] - 1) * stride + line, stride
 
 
-def _decode(file: _File, resync: bool, pixels: Pixels, marks: Pixels, layout: Optional[Layout], told: Any) -> int:
+def _decode(file: _File, resync: bool, pixels: Pixels, marks: Pixels, layout: Optional[Layout], filled: Any) -> int:
     """Decodes a file, resynchronised if that is asked for, into an array that has its shape."""
     read = file.data, len(file.data), RESYNC if resync else AS_IS
     if layout is None:
-        return int(library.jri_decode(*read, _buffer(pixels), pixels.nbytes, _buffer(marks), marks.nbytes, told))
+        return int(library.jri_decode(*read, _buffer(pixels), pixels.nbytes, _buffer(marks), marks.nbytes, filled))
     number = LAYOUTS[layout][0]
-    return int(library.jri_decode_canvas(*read, *_canvas(pixels), number, _buffer(marks), marks.nbytes, told))
+    return int(library.jri_decode_canvas(*read, *_canvas(pixels), number, _buffer(marks), marks.nbytes, filled))
 
 
 def measure(source: Source) -> Measure:
@@ -395,11 +395,11 @@ def read(
     _within(head, max_pixels, file.name)
     pixels = _new(_shape(head, layout), file) if out is None else _accept(out, head, layout)
     marks = numpy.zeros(head.intervals, numpy.uint8)
-    told = ffi.new("struct jri_report *")
-    status = _decode(file, resync, pixels, marks, layout, told)
+    filled = ffi.new("struct jri_report *")
+    status = _decode(file, resync, pixels, marks, layout, filled)
     if status not in (SOUND, DAMAGED):
-        _raise(status, told.refusal, told.detail, file.name)
-    return Picture(pixels, marks, _reported(told))
+        _raise(status, filled.refusal, filled.detail, file.name)
+    return Picture(pixels, marks, _reported(filled))
 
 
 def decode(
@@ -430,14 +430,14 @@ def check(source: Source, *, resync: bool = False) -> Health:
 
 
 def _check(file: _File, resync: bool = False) -> Health:
-    told = ffi.new("struct jri_report *")
-    status = library.jri_check(file.data, len(file.data), RESYNC if resync else AS_IS, ffi.NULL, 0, told)
+    filled = ffi.new("struct jri_report *")
+    status = library.jri_check(file.data, len(file.data), RESYNC if resync else AS_IS, ffi.NULL, 0, filled)
     if status == NO_MEMORY:
         raise MemoryError("out of memory")
     if status in (REFUSED, TOO_LONG):
-        number = told.refusal or _TOO_LONG
-        return Health("unsupported" if unsupported_text(number, told.detail) else "refused", None, number, told.detail)
-    return Health("damaged" if status == DAMAGED else "sound", _reported(told), None, None)
+        number = filled.refusal or _TOO_LONG
+        return Health("unsupported" if unsupported_text(number, filled.detail) else "refused", None, number, filled.detail)
+    return Health("damaged" if status == DAMAGED else "sound", _reported(filled), None, None)
 
 
 def _checked(path: Path, resync: bool) -> Union[Health, OSError]:

@@ -67,16 +67,16 @@ def _new_bytes(size: int) -> numpy.ndarray[Any, numpy.dtype[numpy.uint8]]:
 
 def _resynced(file: _File) -> Tuple[Any, Any, Any]:
     """Returns a resynchronised file as an array, the report and its breaks."""
-    size, room = len(file.data) + 2 * _measured(file).intervals, _BREAKS
-    told = ffi.new("struct jri_resynced *")
+    size, capacity = len(file.data) + 2 * _measured(file).intervals, _BREAKS
+    filled = ffi.new("struct jri_resynced *")
     while True:
-        out, listed = _new_bytes(size), ffi.new("struct jri_break[]", room)
-        status = library.jri_resynchronise(file.data, len(file.data), _buffer(out), size, listed, room, told)
+        out, listed = _new_bytes(size), ffi.new("struct jri_break[]", capacity)
+        status = library.jri_resynchronise(file.data, len(file.data), _buffer(out), size, listed, capacity, filled)
         if status not in (OK, BUFFER_TOO_SMALL):
-            _raise(status, told.refusal, told.detail, file.name)
-        if status == OK and told.breaks <= room:
-            return out[: told.size], told, listed
-        size, room = max(size, told.size), max(room, told.breaks)
+            _raise(status, filled.refusal, filled.detail, file.name)
+        if status == OK and filled.breaks <= capacity:
+            return out[: filled.size], filled, listed
+        size, capacity = max(size, filled.size), max(capacity, filled.breaks)
 
 
 def _in_step(file: _File) -> _File:
@@ -91,9 +91,9 @@ def resync(source: Source) -> Resynced:
     step keeps the data of each interval. A source that can be written is copied first. A read-only one must not change
     during the call.
     """
-    out, told, listed = _resynced(_file(source))
-    breaks = tuple(Break(it.at, it.code, it.due, it.skipped) for it in listed[0 : told.breaks])
-    return Resynced(out.tobytes(), breaks, _ENDS[told.ended], told.at if told.ended in (2, 4) else None)
+    out, filled, listed = _resynced(_file(source))
+    breaks = tuple(Break(it.at, it.code, it.due, it.skipped) for it in listed[0 : filled.breaks])
+    return Resynced(out.tobytes(), breaks, _ENDS[filled.ended], filled.at if filled.ended in (2, 4) else None)
 
 
 def _named(sources: Iterable[Source]) -> List[_File]:
@@ -104,10 +104,10 @@ def _named(sources: Iterable[Source]) -> List[_File]:
 
 def _sizes(files: List[_File]) -> Tuple[int, int]:
     """Returns about the size of the mended file and the number of its intervals, by the first header."""
-    told = ffi.new("struct jri_header *")
+    filled = ffi.new("struct jri_header *")
     if files:
-        library.jri_read_header(files[0].data, len(files[0].data), COMPLETE, told)
-    return max((len(it.data) for it in files), default=0) + 2 * told.intervals, told.intervals
+        library.jri_read_header(files[0].data, len(files[0].data), COMPLETE, filled)
+    return max((len(it.data) for it in files), default=0) + 2 * filled.intervals, filled.intervals
 
 
 def mend(sources: Iterable[Source], *, resync: bool = True) -> Mended:
@@ -122,20 +122,20 @@ def mend(sources: Iterable[Source], *, resync: bool = True) -> Mended:
     files = [_in_step(it) if resync else it for it in _named(sources)]
     copies = b"".join(bytes(ffi.buffer(it.data)) for it in files)
     sizes = ffi.new("size_t[]", [len(it.data) for it in files])
-    size, room = _sizes(files)
-    told = ffi.new("struct jri_mended *")
+    size, capacity = _sizes(files)
+    filled = ffi.new("struct jri_mended *")
     while True:
-        out, choices = _new_bytes(size), numpy.zeros(room, _CHOICE)
+        out, choices = _new_bytes(size), numpy.zeros(capacity, _CHOICE)
         listed = ffi.from_buffer("struct jri_choice[]", choices, require_writable=True)
         status = library.jri_mend(
-            ffi.from_buffer("uint8_t[]", copies), len(copies), sizes, len(files), _buffer(out), size, listed, room, told
+            ffi.from_buffer("uint8_t[]", copies), len(copies), sizes, len(files), _buffer(out), size, listed, capacity, filled
         )
         if status == NO_COPIES:
             raise ValueError(f"from 1 to 64 copies are mended, not {len(files)}")
         if status == OTHER_HEADER:
-            raise ValueError(_with_name(files[told.copy].name, "its header is not that of the first copy"))
+            raise ValueError(_with_name(files[filled.copy].name, "its header is not that of the first copy"))
         if status not in (SOUND, DAMAGED, BUFFER_TOO_SMALL):
-            _raise(status, told.refusal, told.detail, files[told.copy].name if status == REFUSED else None)
-        if status != BUFFER_TOO_SMALL and told.intervals <= room:
-            return Mended(out[: told.size].tobytes(), choices, told.damaged)
-        size, room = max(size, told.size), max(room, told.intervals)
+            _raise(status, filled.refusal, filled.detail, files[filled.copy].name if status == REFUSED else None)
+        if status != BUFFER_TOO_SMALL and filled.intervals <= capacity:
+            return Mended(out[: filled.size].tobytes(), choices, filled.damaged)
+        size, capacity = max(size, filled.size), max(capacity, filled.intervals)

@@ -12,7 +12,7 @@ from PIL import Image, ImageFile, JpegImagePlugin
 
 import jri
 
-# What Pillow's plug-in has beside its own stubs, where a checker has these.
+# What Pillow's plug-in has in addition to its own stubs, where a checker has these.
 _plugin: Any = JpegImagePlugin
 _JpegImageFile: Any = JpegImagePlugin.JpegImageFile
 

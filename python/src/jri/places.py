@@ -69,14 +69,14 @@ class Part(NamedTuple):
 
 def _decoded(file: _File, more: int, place: Any, rows: int, head: Measure, pixels: Pixels) -> Optional[Part]:
     """Decodes the next rows of MCUs at a position, which moves, into the first lines of an array; None if there are none."""
-    told = ffi.new("struct jri_rows *")
+    filled = ffi.new("struct jri_rows *")
     data = file.data
-    status = library.jri_decode_rows(data, len(data), more, place, rows, _buffer(pixels), pixels.nbytes, told)
-    if status == NO_LINES or (status == OK and told.rows == 0):
+    status = library.jri_decode_rows(data, len(data), more, place, rows, _buffer(pixels), pixels.nbytes, filled)
+    if status == NO_LINES or (status == OK and filled.rows == 0):
         return None
     if status != OK:
-        _raise(status, told.refusal, told.detail, file.name)
-    return Part(told.first_line, pixels[: told.lines])
+        _raise(status, filled.refusal, filled.detail, file.name)
+    return Part(filled.first_line, pixels[: filled.lines])
 
 
 def _lines_for(count: int, head: Measure, file: _File) -> Pixels:
@@ -124,10 +124,10 @@ def _parts_of(file: _File, head: Measure, first: int, count: int) -> Iterator[Pa
 
 def _place_of_row(file: _File, row: int) -> Any:
     """Returns the position before a row of MCUs."""
-    place, told = ffi.new("struct jri_position *"), ffi.new("struct jri_rows *")
-    status = library.jri_skip_rows(file.data, len(file.data), COMPLETE, place, row, told) if row else OK
+    place, filled = ffi.new("struct jri_position *"), ffi.new("struct jri_rows *")
+    status = library.jri_skip_rows(file.data, len(file.data), COMPLETE, place, row, filled) if row else OK
     if status != OK:
-        _raise(status, told.refusal, told.detail, file.name)
+        _raise(status, filled.refusal, filled.detail, file.name)
     return place
 
 
@@ -250,11 +250,11 @@ class Stream:
 
     def _begun(self, file: _File, more: int) -> Optional[Measure]:
         """Returns what the header says; None if more bytes are wanted for it."""
-        told = ffi.new("struct jri_header *")
-        status = library.jri_read_header(file.data, len(file.data), more, told)
+        filled = ffi.new("struct jri_header *")
+        status = library.jri_read_header(file.data, len(file.data), more, filled)
         if status == NEED_MORE:
             return None
-        head = _measure(status, told, None)
+        head = _measure(status, filled, None)
         _within(head, self._max_pixels, None)
         if self._out is not None:
             _accept(self._out, head, self._layout)
@@ -351,12 +351,12 @@ def index(source: Source, rows: int = 8) -> Index:
     file = _file(source)
     head, row_lines = _measured(file), _lines_of_row(file)
     places = []
-    place, told = ffi.new("struct jri_position *"), ffi.new("struct jri_rows *")
+    place, filled = ffi.new("struct jri_position *"), ffi.new("struct jri_rows *")
     while place.row * row_lines < head.height:
         places.append(ffi.new("struct jri_position *", place[0]))
-        status = library.jri_skip_rows(file.data, len(file.data), COMPLETE, place, rows, told)
+        status = library.jri_skip_rows(file.data, len(file.data), COMPLETE, place, rows, filled)
         if status != OK:
-            _raise(status, told.refusal, told.detail, file.name)
+            _raise(status, filled.refusal, filled.detail, file.name)
     return Index(file, head, row_lines, places)
 
 
@@ -401,10 +401,10 @@ def _refuse_index(name: Optional[str], text: str) -> NoReturn:
 
 def _lines_of_row(file: _File) -> int:
     """Returns the number of lines of the first row of MCUs."""
-    told = ffi.new("struct jri_header *")
-    status = library.jri_read_header(file.data, len(file.data), COMPLETE, told)
-    head = _measure(status, told, file.name)
-    return min(int(told.mcu_height), head.height)
+    filled = ffi.new("struct jri_header *")
+    status = library.jri_read_header(file.data, len(file.data), COMPLETE, filled)
+    head = _measure(status, filled, file.name)
+    return min(int(filled.mcu_height), head.height)
 
 
 class Damage(NamedTuple):
@@ -435,16 +435,16 @@ _DAMAGES = 256
 
 
 def _damages(file: _File) -> Iterator[Damage]:
-    listed, told = ffi.new("struct jri_damage[]", _DAMAGES), ffi.new("struct jri_damage_list *")
+    listed, filled = ffi.new("struct jri_damage[]", _DAMAGES), ffi.new("struct jri_damage_list *")
     while True:
         status = library.jri_list_damage(
-            file.data, len(file.data), told.next, told.next_at, listed, _DAMAGES, told
+            file.data, len(file.data), filled.next, filled.next_at, listed, _DAMAGES, filled
         )
         if status == SOUND:
             return
         if status != DAMAGED:
-            _raise(status, told.refusal, told.detail, file.name)
-        for one in listed[0 : told.count]:
+            _raise(status, filled.refusal, filled.detail, file.name)
+        for one in listed[0 : filled.count]:
             span = (one.start, one.end) if one.start < one.end else None
             yield Damage(
                 one.interval, one.first_mcu, one.mcus, one.decodable, one.first_line, one.last_line, span
