@@ -18,7 +18,7 @@ use Rattle.jr_scan.specs.Mcus.{Front, LongestFront}
 use Rattle.jr_scan.specs.Run.{HasNoMcu, IsRun, RunRead, left_at, run_from, start_of_interval}
 use Rattle.jr_scan.proofs.LongestFronts.{longest_front}
 use Rattle.jr_scan.proofs.McuReaders.{front_of_run, run_of_front, stopped}
-use Rattle.jr_piece.proofs.ScanLaws.{one_run, runs_meet, shorter_front}
+use Rattle.jr_scan.proofs.ScanLaws.{one_run, runs_meet, shorter_front}
 use Rattle.jr_arrival.specs.declared.window.TheConstants.{MCU_BITS}
 use Rattle.jr_arrival.specs.LongerFile.{IsKnown, IsNeverWhole, MayGrow}
 use Rattle.jr_arrival.specs.More.{with_more}

@@ -2,12 +2,13 @@
 use Rattle.std.proofs.Common.{◌≡◌, ℕ, ◌+◌, ◌-◌, ◌*◌, ◌/◌, ◌%◌, ◌<◌, ◌≤◌, List, [], length, get_or, sym, ap, subst, ◌∙◌, arith}
 use Rattle.jr_head.specs.HeadValue.{HeadValue}
 use Rattle.jr_head.specs.Geometry.{IsLawful, blocks_of, mcus_across, mcus_down, vertical_max, vertical_of}
+use Rattle.jr_scan.specs.ScanValue.{ScanValue}
+use Rattle.jr_scan.proofs.ScanLaws.{one_decoding, one_front}
 use Rattle.jr_paint.specs.Lines.{line_of, next_lines_of}
 use Rattle.jr_paint.proofs.Factors.{sampled_at, scaled_below}
 use Rattle.jr_paint.proofs.PixelLaws.{flat_map-moved}
 use Rattle.jr_paint.proofs.Places.{below_div_ceil}
-use Rattle.jr_scan.specs.ScanValue.{ScanValue}
-use Rattle.jr_piece.proofs.ScanLaws.{one_decoding, one_front, outcome}
+use Rattle.jr_piece.proofs.EachOutcome.{outcome}
 use Rattle.jr_picture.specs.declared.mark.Mark.{Mark}
 use Rattle.jr_picture.specs.DecodedScan.{DecodedScan, marks_of}
 use Rattle.jr_picture.specs.Headline.{ShowsFirst}

@@ -8,17 +8,17 @@ use Rattle.std.proofs.Math.Nat.{mul-le-mul_right}
 use Rattle.jr_head.specs.HeadValue.{HeadValue}
 use Rattle.jr_head.specs.Geometry.{order_of, blocks_of, components_of, horizontal_of, vertical_of, horizontal_max, vertical_max, mcus_across, quantiser_of}
 use Rattle.jr_head.proofs.SamplingLaws.{length-order}
+use Rattle.jr_scan.specs.IntervalValue.{IntervalValue}
+use Rattle.jr_scan.specs.ScanValue.{ScanValue, interval_of}
+use Rattle.jr_scan.specs.Mcus.{Front}
+use Rattle.jr_scan.proofs.ScanLaws.{one_decoding, one_front, shorter_front}
 use Rattle.jr_paint.specs.Geometry.{samples_across, samples_down}
 use Rattle.jr_paint.specs.Lines.{line_of, next_lines_of}
 use Rattle.jr_paint.proofs.Factors.{sampled_at, scaled_below}
 use Rattle.jr_paint.proofs.PixelLaws.{flat_map-moved}
 use Rattle.jr_paint.proofs.Places.{mcu_inside}
 use Rattle.jr_idct.specs.Transform.{samples}
-use Rattle.jr_scan.specs.IntervalValue.{IntervalValue}
-use Rattle.jr_scan.specs.ScanValue.{ScanValue, interval_of}
 use Rattle.jr_mcu.specs.Mcus.{component, block_of}
-use Rattle.jr_scan.specs.Mcus.{Front}
-use Rattle.jr_piece.proofs.ScanLaws.{one_decoding, one_front, shorter_front}
 use Rattle.jr_picture.specs.declared.mark.Mark.{Mark}
 use Rattle.jr_picture.specs.declared.mark.Mark.TheVariants.{Blank, Sound, Damaged}
 use Rattle.jr_picture.specs.Headline.{interval_number, within_interval, spot_of, place_in, unit_number, decoded_sample, Holds, Shows, mark_in, ShowsFirst}

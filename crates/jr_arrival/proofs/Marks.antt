@@ -3,10 +3,10 @@ use Rattle.std.proofs.Common.{◌≡◌, ℕ, ◌+◌, ◌<◌, Bool, cond, leng
 use Rattle.jr_head.specs.Geometry.{mcus_down, mcus_of}
 use Rattle.jr_scan.specs.IntervalValue.{IntervalValue}
 use Rattle.jr_scan.specs.ScanValue.{ScanValue, interval_of, intervals_of}
-use Rattle.jr_piece.specs.Strips.{TellsSound}
+use Rattle.jr_scan.specs.Mcus.{TellsSound}
 use Rattle.jr_rows.specs.Rows.{CountsMarks, CountsRows, coded_before, intervals_before}
 use Rattle.jr_rows.specs.declared.marked.Marked.{Marked}
-use Rattle.jr_piece.proofs.CursorSteps.{outcome_tells}
+use Rattle.jr_piece.proofs.UnitReading.{outcome_tells}
 use Rattle.jr_rows.proofs.ReadRows.{counts_both, counts_one}
 use Rattle.jr_rows.proofs.Countings.{all_last, none_first}
 

@@ -9,15 +9,14 @@ use Rattle.jr_scan.specs.declared.place.Place.{Place}
 use Rattle.jr_scan.specs.IntervalValue.{IntervalValue}
 use Rattle.jr_scan.specs.PartialScan.{PartialScanValue}
 use Rattle.jr_scan.specs.Mcus.{HasLongestFront, LongestFront}
-use Rattle.jr_scan.specs.Run.{run_from}
+use Rattle.jr_scan.specs.Run.{run_from, FirstMcus}
 use Rattle.jr_scan.specs.ScanValue.{ScanValue, interval_of}
 use Rattle.jr_scan.proofs.McuReaders.{no_run}
+use Rattle.jr_scan.proofs.ScanLaws.{one_run, runs_meet, shorter_front}
+use Rattle.jr_scan.proofs.CursorRuns as runs
+use Rattle.jr_scan.specs.Cursors.{interval_start}
+use Rattle.jr_scan.specs.declared.cursor.Cursor.{Cursor}
 use Rattle.jr_piece.specs.Outcome.{unit_of}
-use Rattle.jr_piece.specs.Strips.{FirstMcus}
-use Rattle.jr_piece.proofs.ScanLaws.{one_run, runs_meet, shorter_front}
-use Rattle.jr_piece.proofs.StripRuns as runs
-use Rattle.jr_piece.specs.Cursors.{interval_start}
-use Rattle.jr_piece.specs.declared.cursor.Cursor.{Cursor}
 use Rattle.jr_rows.specs.Cursors.{mcus_to}
 use Rattle.jr_rows.specs.Rows.{CountsMarks}
 use Rattle.jr_rows.specs.declared.marked.Marked.{Marked}

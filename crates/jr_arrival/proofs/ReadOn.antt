@@ -14,13 +14,12 @@ use Rattle.jr_mcu.proofs.McuLaws.{no_blocks}
 use Rattle.jr_scan.specs.declared.place.Place.{Place}
 use Rattle.jr_scan.specs.declared.place.RunEnd.TheVariants.{AllRead}
 use Rattle.jr_scan.specs.IntervalValue.{IntervalValue}
-use Rattle.jr_scan.specs.Run.{HasNoMcu, IsRun, left_at, run_from, start_of_interval}
+use Rattle.jr_scan.specs.Run.{HasNoMcu, IsRun, left_at, run_from, start_of_interval, CanReadFrom, FirstMcus}
 use Rattle.jr_scan.specs.ScanValue.{ScanValue, interval_of, mcus_in}
 use Rattle.jr_scan.specs.Mcus.{Front}
 use Rattle.jr_scan.proofs.McuReaders.{front_of_run, no_run}
-use Rattle.jr_piece.specs.Strips.{CanReadFrom, FirstMcus}
-use Rattle.jr_piece.proofs.ScanLaws.{one_run, runs_meet, shorter_front}
-use Rattle.jr_piece.proofs.StripRuns as runs
+use Rattle.jr_scan.proofs.ScanLaws.{one_run, runs_meet, shorter_front}
+use Rattle.jr_scan.proofs.CursorRuns as runs
 use Rattle.jr_arrival.specs.More.{with_more}
 use Rattle.jr_arrival.proofs.MoreData.{run_is_final}
 use Rattle.jr_arrival.specs.Meaning.{GoesOnAt, HasNoFurtherMcu, ReadsAt, behind}

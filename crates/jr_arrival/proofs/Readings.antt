@@ -8,24 +8,24 @@ use Rattle.jr_head.specs.Geometry.{IsLawful, blocks_of, mcus_across, mcus_down, 
 use Rattle.jr_scan.specs.declared.place.Place.{Place}
 use Rattle.jr_scan.specs.PartialScan.{PartialScanValue, HasCome}
 use Rattle.jr_scan.specs.IntervalValue.{IntervalValue}
+use Rattle.jr_scan.specs.Mcus.{HasLongestFront, LongestFront, TellsSound}
+use Rattle.jr_scan.specs.Run.{run_from, start_of_interval, FirstMcus, IsNext}
+use Rattle.jr_scan.specs.ScanValue.{ScanValue, interval_of, intervals_of, mcus_in}
+use Rattle.jr_scan.proofs.ScanLaws.{one_run, runs_meet, shorter_front}
+use Rattle.jr_scan.proofs.CursorRuns as runs
+use Rattle.jr_scan.specs.Cursors.{IsPlaceAfter}
+use Rattle.jr_scan.specs.declared.cursor.Cursor.{Cursor}
+use Rattle.jr_scan.proofs.CursorSteps.{cut_short}
 use Rattle.jr_paint.specs.Lines.{next_lines_of}
 use Rattle.jr_paint.proofs.Places.{in_div_ceil}
-use Rattle.jr_scan.specs.Mcus.{HasLongestFront, LongestFront}
-use Rattle.jr_scan.specs.Run.{run_from, start_of_interval}
-use Rattle.jr_scan.specs.ScanValue.{ScanValue, interval_of, intervals_of, mcus_in}
-use Rattle.jr_piece.specs.Strips.{FirstMcus, IsNext, TellsSound}
-use Rattle.jr_piece.proofs.ScanLaws.{one_run, runs_meet, shorter_front}
-use Rattle.jr_piece.proofs.StripRuns as runs
 use Rattle.jr_picture.specs.DecodedScan.{DecodedScan}
 use Rattle.jr_picture.specs.Samples.{samples_of}
 use Rattle.jr_rows.specs.Bands.{samples_in}
-use Rattle.jr_piece.specs.Cursors.{IsPlaceAfter}
 use Rattle.jr_rows.specs.Cursors.{mcus_to}
 use Rattle.jr_rows.specs.Groups.{units_in}
 use Rattle.jr_rows.specs.Rows.{DecodesFirst, HasSampleRoom, ShowsFirstUnits, first_line, line_count}
 use Rattle.jr_rows.specs.RowLinesValue.{RowLinesValue}
 use Rattle.jr_rows.specs.RowsValue.{SampleRowValue}
-use Rattle.jr_piece.specs.declared.cursor.Cursor.{Cursor}
 use Rattle.jr_rows.proofs.ReadRows.{counts_none}
 use Rattle.jr_arrival.specs.More.{with_more}
 use Rattle.jr_arrival.proofs.LinesOfPictures.{row_of_board}
@@ -34,7 +34,6 @@ use Rattle.jr_arrival.specs.PartialRows.{AreFinalLines, GrowsInto, Begins, Parti
 use Rattle.jr_arrival.specs.PartialSources.{partial_source_of}
 use Rattle.jr_arrival.specs.Sources.{Walks}
 use Rattle.jr_arrival.specs.declared.partial_source.PartialSource.{PartialSource}
-use Rattle.jr_piece.proofs.CursorSteps.{cut_short}
 use Rattle.jr_arrival.specs.LongerFile.{IsOver}
 use Rattle.jr_arrival.specs.declared.window.TheConstants.{MCU_BITS}
 use Rattle.jr_arrival.proofs.Knowing.{HasLongRest, long_rest_stays, rest_left}

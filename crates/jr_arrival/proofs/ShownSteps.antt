@@ -8,13 +8,12 @@ use Rattle.jr_head.proofs.SamplingLaws.{length-order}
 use Rattle.jr_scan.specs.declared.place.Place.{Place}
 use Rattle.jr_scan.specs.declared.place.RunEnd.TheVariants.{AllRead}
 use Rattle.jr_scan.specs.IntervalValue.{IntervalValue}
-use Rattle.jr_scan.specs.Run.{IsRun, run_from}
+use Rattle.jr_scan.specs.Run.{IsRun, run_from, IsNext}
 use Rattle.jr_scan.specs.ScanValue.{ScanValue, interval_of}
+use Rattle.jr_scan.specs.declared.cursor.Cursor.{Cursor}
 use Rattle.jr_piece.specs.PieceValue.{PieceValue}
 use Rattle.jr_piece.specs.Outcome.{IsOutcome, unit_of}
-use Rattle.jr_piece.specs.Strips.{IsNext}
 use Rattle.jr_piece.specs.Units.{grey_unit, unit_in_piece}
-use Rattle.jr_piece.specs.declared.cursor.Cursor.{Cursor}
 use Rattle.jr_rows.specs.Cursors.{mcus_to}
 use Rattle.jr_rows.specs.Groups.{units_in}
 use Rattle.jr_piece.proofs.CodedUnits.{grey_codes, whole_codes}

@@ -6,12 +6,14 @@ use Rattle.std.proofs.lemmas.Bool.{cases_Bool}
 use Rattle.jr_mcu.specs.Block.{IsInDcRange}
 use Rattle.jr_scan.specs.declared.place.Place.{Place}
 use Rattle.jr_scan.specs.ScanValue.{ScanValue}
+use Rattle.jr_scan.specs.Run.{start_of_interval}
+use Rattle.jr_scan.proofs.CursorRuns.{at_start}
+use Rattle.jr_scan.specs.declared.cursor.Cursor.{Cursor}
 use Rattle.jr_arrival.specs.declared.file_source.FileSource.{FileSource}
 use Rattle.jr_arrival.specs.declared.window.Window.{Window}
 use Rattle.jr_head.specs.HeadValue.{HeadValue}
 use Rattle.jr_head.specs.Geometry.{blocks_of}
 use Rattle.jr_head.specs.Intervals.{intervals_of, mcus_in}
-use Rattle.jr_scan.specs.Run.{start_of_interval}
 use Rattle.jr_arrival.specs.declared.file_bytes.FileBytes.{FileBytes}
 use Rattle.jr_arrival.specs.declared.place.RowPlace.{RowPlace}
 use Rattle.jr_arrival.specs.Meaning.{HasBits, HasNoFurtherMcu, IsPlaceIn, MayBe, MeansAt, ReadsAt, offset_in}
@@ -21,9 +23,7 @@ use Rattle.jr_arrival.specs.FileSources.{IsFileSource, IsInside, IsOffset, IsRig
 use Rattle.jr_arrival.specs.Sources.{HasNoneLeft, Steps}
 use Rattle.jr_arrival.proofs.ReadOn.{nothing_whole}
 use Rattle.jr_arrival.proofs.ScanIntervals.{count_is}
-use Rattle.jr_piece.proofs.StripRuns.{at_start}
 use Rattle.jr_rows.specs.Cursors.{mcus_to}
-use Rattle.jr_piece.specs.declared.cursor.Cursor.{Cursor}
 use Rattle.jr_arrival.proofs.Steps.{moved, stuck_on}
 use Rattle.jr_arrival.proofs.Windows.{window_bits}
 

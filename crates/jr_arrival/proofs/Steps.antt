@@ -15,9 +15,8 @@ use Rattle.jr_scan.specs.declared.place.Place.{Place}
 use Rattle.jr_scan.specs.declared.place.RunEnd.TheVariants.{AllRead}
 use Rattle.jr_code.specs.Bits.{bits}
 use Rattle.jr_code.proofs.BitLemmas.{length-bits}
-use Rattle.jr_scan.specs.Run.{HasNoMcu, IsRun, left_at, run_from, start_of_interval}
+use Rattle.jr_scan.specs.Run.{HasNoMcu, IsRun, left_at, run_from, start_of_interval, IsNext}
 use Rattle.jr_scan.specs.ScanValue.{ScanValue, interval_of}
-use Rattle.jr_piece.specs.Strips.{IsNext}
 use Rattle.jr_cut.proofs.CutLaw.{ending_stop, marker_stop}
 use Rattle.jr_cut.proofs.Spellings.{one_stop}
 use Rattle.jr_arrival.specs.declared.file_source.FileSource.{FileSource}

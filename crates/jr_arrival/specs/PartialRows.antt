@@ -7,17 +7,16 @@ use Rattle.jr_scan.specs.declared.place.Place.{Place}
 use Rattle.jr_scan.specs.PartialScan.{PartialScanValue}
 use Rattle.jr_scan.specs.Mcus.{HasLongestFront, LongestFront}
 use Rattle.jr_scan.specs.ScanValue.{ScanValue, interval_of, intervals_of, mcus_in}
-use Rattle.jr_scan.specs.Run.{left_at}
-use Rattle.jr_piece.specs.Strips.{IsNext}
+use Rattle.jr_scan.specs.Run.{left_at, IsNext}
+use Rattle.jr_scan.specs.Cursors.{interval_start}
+use Rattle.jr_scan.specs.declared.cursor.Cursor.{Cursor}
 use Rattle.jr_paint.specs.Lines.{next_lines_of}
 use Rattle.jr_picture.specs.DecodedScan.{DecodedScan}
 use Rattle.jr_picture.specs.Samples.{samples_of}
-use Rattle.jr_piece.specs.Cursors.{interval_start}
 use Rattle.jr_rows.specs.Cursors.{mcus_to}
 use Rattle.jr_rows.specs.Groups.{units_in}
 use Rattle.jr_rows.specs.Rows.{CountsMarks, DecodesFirst, HasSampleRoom, ShowsFirstUnits, first_line, line_count}
 use Rattle.jr_rows.specs.RowsValue.{SampleRowValue}
-use Rattle.jr_piece.specs.declared.cursor.Cursor.{Cursor}
 use Rattle.jr_rows.specs.declared.marked.Marked.{Marked}
 use Rattle.jr_arrival.specs.declared.window.TheConstants.{MCU_BITS}
 use Rattle.jr_arrival.specs.LongerFile.{IsOver, MayGrow}

@@ -7,10 +7,9 @@ use Rattle.jr_scan.specs.declared.place.Place.{Place}
 use Rattle.jr_scan.specs.declared.place.RunEnd.TheVariants.{AllRead}
 use Rattle.jr_scan.specs.IntervalValue.{IntervalValue}
 use Rattle.jr_scan.specs.McuReader.{McuReaderValue, HasRead}
-use Rattle.jr_scan.specs.Run.{HasNoMcu, IsRun, run_from}
+use Rattle.jr_scan.specs.Run.{HasNoMcu, IsRun, run_from, CanReadFrom}
+use Rattle.jr_scan.specs.declared.cursor.Cursor.{Cursor}
 use Rattle.jr_piece.specs.Outcome.{unit_of}
-use Rattle.jr_piece.specs.Strips.{CanReadFrom}
-use Rattle.jr_piece.specs.declared.cursor.Cursor.{Cursor}
 use Rattle.jr_rows.specs.Groups.{units_in}
 
 -- the given number of MCUs after the first `done` have these data units, and the first ones are kept

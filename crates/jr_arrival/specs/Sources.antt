@@ -4,10 +4,10 @@ use Rattle.jr_head.specs.HeadValue.{HeadValue}
 use Rattle.jr_head.specs.Geometry.{mcus_across}
 use Rattle.jr_head.specs.Intervals.{intervals_of, mcus_in}
 use Rattle.jr_scan.specs.ScanValue.{ScanValue}
+use Rattle.jr_scan.specs.declared.cursor.Cursor.{Cursor}
 use Rattle.jr_rows.specs.Cursors.{mcus_to}
 use Rattle.jr_rows.specs.Groups.{units_in}
 use Rattle.jr_rows.specs.Rows.{ShowsFirstUnits}
-use Rattle.jr_piece.specs.declared.cursor.Cursor.{Cursor}
 use Rattle.jr_arrival.specs.Meaning.{HasNoFurtherMcu}
 
 -- what is known of a source

@@ -7,10 +7,10 @@ ghost use Rattle.jr_head.specs.Geometry.{mcus_across};
 ghost use Rattle.jr_head.specs.HeadValue.{HeadValue};
 ghost use Rattle.jr_head.specs.Intervals.{intervals_of, mcus_in};
 ghost use Rattle.jr_mcu.specs.Block.{IsInDcRange};
-ghost use Rattle.jr_rows.specs.Cursors.{mcus_to};
 ghost use Rattle.jr_scan.specs.Run.{HasNoMcu};
 ghost use Rattle.jr_scan.specs.ScanValue.{ScanValue};
 ghost use Rattle.jr_scan.specs.declared.place.Place.{Place};
+ghost use Rattle.jr_rows.specs.Cursors.{mcus_to};
 ghost use Rattle.jr_arrival.specs.FileSources.{BeginsNext, IsFileSource, IsInside, IsOpen, IsRightIn, IsWindow, begun, in_window, source_of, start_unless};
 ghost use Rattle.jr_arrival.specs.Meaning.{IsPlaceIn, MayBe};
 ghost use Rattle.jr_arrival.specs.Parts.{part_of};
@@ -26,8 +26,7 @@ use crate::window::Window;
 use jr_base::Memory;
 use jr_cut::{Stop, offset_in};
 use jr_head::Head;
-use jr_piece::Cursor;
-use jr_scan::{IntervalRef, Place};
+use jr_scan::{Cursor, IntervalRef, Place};
 use std::alloc::Global;
 
 /// A source of MCUs over a window of a file's bytes.

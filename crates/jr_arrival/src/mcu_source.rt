@@ -4,15 +4,14 @@ ghost use Rattle.std.specs.Prelude.{◌≡◌, ◌+◌, ◌<◌, ◌≤◌, ◌^
 ghost use Rattle.jr_head.specs.HeadValue.{HeadValue};
 ghost use Rattle.jr_head.specs.Geometry.{mcus_across, mcus_of};
 ghost use Rattle.jr_head.specs.Intervals.{intervals_of, mcus_in};
-ghost use Rattle.jr_piece.specs.Strips.{CanReadFrom};
+ghost use Rattle.jr_scan.specs.Run.{CanReadFrom};
 ghost use Rattle.jr_rows.specs.Cursors.{mcus_to};
 ghost use Rattle.jr_arrival.specs.RowMcus.{TakesWhole};
 ghost use Rattle.jr_arrival.specs.Sources.{HasNoneLeft, SourceValue, Steps, Walks};
 
 use crate::mcu_sink::McuSink;
 use jr_head::Head;
-use jr_piece::Cursor;
-use jr_scan::{IntervalRef, McuReader, Place};
+use jr_scan::{Cursor, IntervalRef, McuReader, Place};
 
 /// A source of the MCUs of a scan, one after the other, of which some may still be missing.
 pub(crate) trait McuSource {

@@ -11,9 +11,8 @@ use crate::row_walk::walk_row;
 use jr_base::Memory;
 use jr_head::Head;
 use jr_paint::bytes_to;
-use jr_piece::Cursor;
 use jr_rows::{Marked, SampleRow, lines_of, shape_of};
-use jr_scan::PartialScan;
+use jr_scan::{Cursor, PartialScan};
 use std::alloc::Global;
 use std::marker::Model;
 

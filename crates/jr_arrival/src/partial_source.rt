@@ -5,7 +5,7 @@ ghost use Rattle.jr_head.specs.Intervals.{mcus_in};
 ghost use Rattle.jr_scan.specs.PartialScan.{PartialScanValue};
 ghost use Rattle.jr_scan.specs.Run.{left_at};
 ghost use Rattle.jr_scan.specs.ScanValue.{ScanValue, interval_of};
-ghost use Rattle.jr_piece.specs.Strips.{TellsSound};
+ghost use Rattle.jr_scan.specs.Mcus.{TellsSound};
 ghost use Rattle.jr_rows.specs.Rows.{CountsMarks};
 ghost use Rattle.jr_arrival.specs.LongerFile.{IsOver};
 ghost use Rattle.jr_arrival.specs.PartialRows.{GrowsInto, IsFinal, IsPartialReading, ReadsTo};
@@ -15,9 +15,8 @@ use crate::mcu_sink::McuSink;
 use crate::mcu_source::{McuSource, take_whole};
 use crate::window::MCU_BITS;
 use jr_head::Head;
-use jr_piece::Cursor;
 use jr_rows::Marked;
-use jr_scan::{IntervalRef, PartialScan, Place, ScanEnd};
+use jr_scan::{Cursor, IntervalRef, PartialScan, Place, ScanEnd};
 
 /// Returns whether an interval is over: no more data of it can come.
 fn is_over(scan: &PartialScan, i: u32) -> bool

@@ -5,10 +5,10 @@ use Rattle.std.proofs.Math.Nat.{mul-le-mul_right}
 use Rattle.std.proofs.Math.Seq.{take-append_seam}
 use Rattle.jr_head.specs.HeadValue.{HeadValue}
 use Rattle.jr_head.specs.Geometry.{vertical_max}
-use Rattle.jr_paint.specs.Lines.{line_size}
 use Rattle.jr_scan.specs.ScanValue.{ScanValue}
+use Rattle.jr_scan.specs.FirstIntervalsValue.{FirstIntervalsValue}
+use Rattle.jr_paint.specs.Lines.{line_size}
 use Rattle.jr_crew.specs.RowBuffer.{HasRoom}
-use Rattle.jr_picture.specs.FirstIntervalsValue.{FirstIntervalsValue}
 use Rattle.jr_rows.specs.Rows.{ShowsLines, line_count}
 
 pub row_fits : (scan : ScanValue) (row : ℕ) (pixels : List ℕ) → 8 * vertical_max scan.head * line_size scan.head ≤ length pixels → line_count scan.head row * line_size scan.head ≤ length pixels

@@ -1,9 +1,9 @@
 -- What several threads know of the rows of MCUs that they decode together: by the part of a scan that is decoded.
 use Rattle.std.specs.Prelude.{◌≡◌, ℕ, ◌%◌, ◌<◌, List, length, slice_get, Option, Some, None}
 use Rattle.jr_head.specs.Geometry.{mcus_down}
+use Rattle.jr_scan.specs.FirstIntervalsValue.{FirstIntervalsValue}
 use Rattle.jr_work.specs.Guessing.{OfPart}
 use Rattle.jr_crew.specs.RowBufferValue.{PaintedValue}
-use Rattle.jr_picture.specs.FirstIntervalsValue.{FirstIntervalsValue}
 use Rattle.jr_rows.specs.Cursors.{AreGuessesIn}
 use Rattle.jr_rows.specs.Rows.{AreRowsOf}
 use Rattle.jr_rows.specs.declared.interval_guesses.IntervalGuesses.{IntervalGuesses}

@@ -1,8 +1,8 @@
 -- What is known of memory for a row of MCUs: by the part of a scan that is decoded.
 use Rattle.std.specs.Prelude.{ℕ, ◌*◌, ◌<◌, ◌≤◌, List, length, take, Option}
 use Rattle.jr_head.specs.Geometry.{mcus_down, vertical_max}
+use Rattle.jr_scan.specs.FirstIntervalsValue.{FirstIntervalsValue}
 use Rattle.jr_paint.specs.Lines.{line_room, line_size}
-use Rattle.jr_picture.specs.FirstIntervalsValue.{FirstIntervalsValue}
 use Rattle.jr_work.specs.Guessing.{OfPart}
 use Rattle.jr_crew.specs.RowBufferValue.{CodedRowValue, PaintedValue}
 use Rattle.jr_rows.specs.Rows.{AreRead, CountsRow, HasRowRoom, HasSampleRoom, ShowsLines, line_count}

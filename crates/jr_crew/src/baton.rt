@@ -7,9 +7,9 @@ ghost use Rattle.jr_rows.specs.Rows.{AreRowsOf};
 
 use crate::paint_room::PaintRoom;
 use crate::row_buffer::{CodedRow, Painted, RowBuffer};
-use jr_picture::{FirstIntervals, Gate};
+use jr_picture::Gate;
 use jr_rows::{IntervalGuesses, Rows, announce, intervals_of_row, shape_of};
-use jr_scan::Guesses;
+use jr_scan::{FirstIntervals, Guesses};
 use jr_work::OneScan;
 use std::alloc::Global;
 use std::marker::{Model, PhantomData};

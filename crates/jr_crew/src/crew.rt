@@ -10,8 +10,9 @@ use crate::paint_room::PaintRoom;
 use crate::row_buffer::{Painted, RowBuffer};
 use crate::row_work::{BegunRow, RowWork, UnfinishedRow};
 use jr_base::Memory;
-use jr_picture::{FirstIntervals, Gate};
+use jr_picture::Gate;
 use jr_rows::{intervals_of_row, room_for};
+use jr_scan::FirstIntervals;
 use jr_work::tuning::ROW_BUFFERS_OF_WORKER;
 use jr_work::{OneScan, SharedWork, Task, WorkQueue};
 use std::alloc::Global;
@@ -39,7 +40,7 @@ pub(crate) struct Crew<'a, S: OneScan> {
 
 impl<'a, S: OneScan> Model for Crew<'a, S> {
     ghost use Rattle.std.specs.Prelude.{◌≡◌, Some};
-    ghost use Rattle.jr_picture.specs.FirstIntervalsValue.{FirstIntervalsValue};
+    ghost use Rattle.jr_scan.specs.FirstIntervalsValue.{FirstIntervalsValue};
 
     ghost Value = { FirstIntervalsValue };
 

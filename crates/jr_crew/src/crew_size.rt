@@ -3,8 +3,8 @@
 ghost use Rattle.std.specs.Prelude.{◌≤◌};
 
 use jr_head::Head;
-use jr_picture::FirstIntervals;
 use jr_rows::{bytes_of_row, shape_of};
+use jr_scan::FirstIntervals;
 use jr_work::tuning::MAX_COUNTED;
 
 /// Size in bytes of the memory that workers may use for rows, however few data a scan has.

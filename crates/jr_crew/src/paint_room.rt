@@ -4,8 +4,8 @@ ghost use Rattle.std.specs.Prelude.{◌≡◌, Some};
 
 use jr_base::Memory;
 use jr_paint::line_room;
-use jr_picture::FirstIntervals;
 use jr_rows::SampleRow;
+use jr_scan::FirstIntervals;
 use jr_work::OneScan;
 use std::alloc::Global;
 use std::marker::{Model, PhantomData};

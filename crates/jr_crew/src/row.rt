@@ -10,9 +10,8 @@ ghost use Rattle.jr_rows.specs.Rows.{DecodesFirst, HasRowRoom, AreRead, ShowsLin
 
 use jr_base::{Coefficients, Memory};
 use jr_head::Head;
-use jr_picture::FirstIntervals;
 use jr_rows::{RowLines, coded_of_row, lines_of, paint_row, shape_of};
-use jr_scan::Scan;
+use jr_scan::{FirstIntervals, Scan};
 use std::alloc::Global;
 use std::marker::Model;
 

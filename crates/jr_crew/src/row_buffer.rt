@@ -9,8 +9,8 @@ ghost use Rattle.jr_rows.specs.Rows.{AreRowsOf, CountsRow, HasSampleRoom, ShowsL
 use crate::paint_room::PaintRoom;
 use crate::row::Row;
 use jr_base::Memory;
-use jr_picture::FirstIntervals;
 use jr_rows::{IntervalGuesses, Marked, Rows, SampleRow, bytes_of_row, lines_of, shape_of};
+use jr_scan::FirstIntervals;
 use jr_work::OneScan;
 use std::alloc::Global;
 use std::marker::{Model, PhantomData};

@@ -6,7 +6,7 @@ ghost use Rattle.jr_crew.specs.Crew.{HasRow};
 use crate::baton::Baton;
 use crate::row_buffer::{CodedRow, Painted, RowBuffer};
 use jr_base::Memory;
-use jr_picture::FirstIntervals;
+use jr_scan::FirstIntervals;
 use jr_work::{GuessQueue, OneScan, Work};
 use std::alloc::Global;
 use std::collections::VecDeque;

@@ -3,7 +3,7 @@
 ghost use Rattle.std.specs.Prelude.{◌≡◌, ◌<◌, ◌≤◌, Some, IfOk, OnOk, length, true, false};
 ghost use Rattle.jr_base.specs.Tally.{has_failed};
 ghost use Rattle.jr_base.specs.declared.limits.TheConstants.{MAX_WORKERS};
-ghost use Rattle.jr_picture.specs.Headline.{least};
+ghost use Rattle.jr_scan.specs.FirstIntervalsValue.{least};
 ghost use Rattle.jr_picture.specs.Writing.{WritesPicture, BeginsPicture};
 
 use crate::crew::Crew;
@@ -12,9 +12,9 @@ use crate::row_buffer::Painted;
 use crate::row_work::RowWork;
 use crate::sending::{Helping, Sending};
 use jr_base::{Memory, Tally};
-use jr_picture::{Counts, FirstIntervals, Gate, PictureError};
+use jr_picture::{Counts, Gate, PictureError};
 use jr_rows::{counts_of, intervals_of_row, shape_of, write_scan};
-use jr_scan::Scan;
+use jr_scan::{FirstIntervals, Scan};
 use jr_work::tuning::{
     MAX_COUNTED, MIN_MCUS_OF_BUFFER, MIN_READERS, MIN_READS, READS_OF_ROW_WORKER,
     ROW_BUFFERS_OF_WORKER,

@@ -1,17 +1,15 @@
 -- A cursor that skips the MCUs of an interval skips all whole ones, and ends where they do.
-use Rattle.std.proofs.Common.{◌≡◌, ℕ, ◌+◌, ◌<◌, ◌≤◌, ◌∙◌, inl, inr, Option, Some, None, List, refl, sym, subst, arith}
+use Rattle.std.proofs.Common.{◌≡◌, ℕ, ◌+◌, ◌≤◌, ◌∙◌, inl, inr, Option, Some, None, List, refl, sym, subst, arith}
 use Rattle.std.specs.Prelude.{ℤ}
 use Rattle.std.proofs.lemmas.Bool.{cases_lt}
 use Rattle.jr_scan.specs.declared.place.Place.{Place}
 use Rattle.jr_scan.specs.IntervalValue.{IntervalValue}
 use Rattle.jr_mcu.specs.Mcus.{no_predictions, Mcus}
 use Rattle.jr_scan.specs.Mcus.{Front, HasLongestFront, LongestFront}
-use Rattle.jr_scan.specs.Run.{left_at}
+use Rattle.jr_scan.specs.Run.{left_at, IsNext}
 use Rattle.jr_scan.proofs.McuReaders.{front_of_run}
-use Rattle.jr_piece.specs.Cursors.{IsPlaceAfter, IsReading, TakesMcus}
-use Rattle.jr_piece.specs.Strips.{IsNext}
-use Rattle.jr_piece.specs.StripValue.{ReadingValue}
-use Rattle.jr_piece.proofs.StripRuns.{whole}
+use Rattle.jr_scan.specs.Cursors.{IsPlaceAfter, IsReading, TakesMcus, ReadingValue}
+use Rattle.jr_scan.proofs.CursorRuns.{whole}
 use Rattle.jr_damage.specs.Fronts.{FrontTo}
 
 -- the position after the first MCUs of an interval

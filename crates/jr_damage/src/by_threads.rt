@@ -6,8 +6,7 @@ ghost use Rattle.jr_damage.specs.Verdicts.{IsVerdictOf};
 use crate::damage::step_of;
 use crate::shared_scan::SharedScan;
 use crate::verdict::{Verdict, check_by, check_scan};
-use jr_picture::FirstIntervals;
-use jr_scan::Scan;
+use jr_scan::{FirstIntervals, Scan};
 use jr_work::tuning::{
     MAX_COUNTED, MIN_READS_OF_CHECK, READS_OF_CHECKER, STEPS_OF_BUFFER, WAITING_READS_OF_CHECK,
 };

@@ -3,12 +3,11 @@
 ghost use Rattle.std.specs.Prelude.{◌<◌, length, IfSome, OnSome, IfNone};
 ghost use Rattle.jr_scan.specs.Mcus.{HasNoDecoding, HasDecoding, HasLongestFront};
 ghost use Rattle.jr_scan.specs.ScanValue.{interval_of};
-ghost use Rattle.jr_piece.specs.Cursors.{IsPlaceAfter};
+ghost use Rattle.jr_scan.specs.Cursors.{IsPlaceAfter};
 
 use crate::shared_scan::SharedScan;
 use jr_head::Head;
-use jr_piece::Cursor;
-use jr_scan::IntervalRef;
+use jr_scan::{Cursor, IntervalRef};
 use jr_work::OneScan;
 use jr_work::tuning::UNITS_OF_CHECK_STEP;
 use std::sync::Wait;

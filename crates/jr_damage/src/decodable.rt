@@ -6,8 +6,7 @@ ghost use Rattle.jr_damage.specs.Fronts.{IsDecodableEnd};
 
 use crate::offsets::offset_of;
 use crate::segments::CodedSpan;
-use jr_piece::Cursor;
-use jr_scan::IntervalRef;
+use jr_scan::{Cursor, IntervalRef};
 
 /// Returns the offset in the file of the byte in which the first MCU of an interval begins that cannot be decoded, or the end of
 /// its segment if no bit is left. The interval's segment is at `span`, and its first `mcus` MCUs are those that can be decoded.

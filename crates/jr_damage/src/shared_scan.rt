@@ -4,8 +4,7 @@ ghost use Rattle.std.specs.Prelude.{◌≡◌, Some};
 ghost use Rattle.jr_scan.specs.Guesses.{AreGuessesOf};
 ghost use Rattle.jr_scan.specs.ScanValue.{interval_of};
 
-use jr_picture::FirstIntervals;
-use jr_scan::{Guesses, Scan};
+use jr_scan::{FirstIntervals, Guesses, Scan};
 use jr_work::tuning::MAX_TASKS;
 use jr_work::{Assist, GuessQueue, OneScan, SharedWork, Task, Work, WorkQueue};
 use std::alloc::Global;

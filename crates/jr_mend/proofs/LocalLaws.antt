@@ -5,6 +5,9 @@ use Rattle.std.proofs.lemmas.Bool.Decides.{eqb_tells}
 use Rattle.std.proofs.lemmas.Nat.{div-add-mod', div-mul-add, mod_below}
 use Rattle.std.proofs.lemmas.Option.{get_or_from_slice_get, slice_get_within}
 use Rattle.std.proofs.Math.Nat.{div-div-eq-div-mul, mul-div-mul_right, mul-le-mul_right}
+use Rattle.jr_scan.proofs.ScanLaws.{one_decoding, one_front}
+use Rattle.jr_scan.specs.IntervalValue.{IntervalValue}
+use Rattle.jr_scan.specs.ScanValue.{ScanValue, interval_of}
 use Rattle.jr_damage.specs.Lines.{Touches}
 use Rattle.jr_head.specs.HeadValue.{HeadValue}
 use Rattle.jr_head.specs.Geometry.{horizontal_of, vertical_of, horizontal_max, vertical_max, mcus_across, mcus_down, mcus_of}
@@ -13,12 +16,9 @@ use Rattle.jr_paint.specs.Geometry.{spot_of}
 use Rattle.jr_paint.specs.Lines.{line_of}
 use Rattle.jr_paint.proofs.Factors.{sampled_at, scaled_below}
 use Rattle.jr_paint.proofs.Places.{in_div_ceil, mcu_inside}
-use Rattle.jr_piece.proofs.ScanLaws.{one_decoding, one_front}
 use Rattle.jr_picture.specs.declared.mark.Mark.{Mark}
 use Rattle.jr_picture.specs.Headline.{Holds, Shows, ShowsFirst, mark_in}
 use Rattle.jr_picture.proofs.Pictures.{line_same, same_mark, same_shown}
-use Rattle.jr_scan.specs.IntervalValue.{IntervalValue}
-use Rattle.jr_scan.specs.ScanValue.{ScanValue, interval_of}
 use Rattle.jr_mend.specs.declared.choice.Choice.{Choice}
 use Rattle.jr_mend.specs.Copies.{CopyValue}
 use Rattle.jr_mend.specs.Locality.{AreTwoImages, HasSameData, HasSameDataAt, IsTakenFrom}

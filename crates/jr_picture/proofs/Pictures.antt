@@ -7,17 +7,16 @@ use Rattle.jr_segments.specs.declared.kind.Kind.{Kind}
 use Rattle.jr_segments.specs.declared.kind.Kind.TheVariants.{Grey, Rgb, Ycc}
 use Rattle.jr_head.specs.HeadValue.{HeadValue}
 use Rattle.jr_head.specs.Geometry.{IsLawful, component_count, components_of, horizontal_of, vertical_of, horizontal_max, vertical_max}
+use Rattle.jr_scan.specs.IntervalValue.{IntervalValue}
+use Rattle.jr_scan.specs.ScanValue.{ScanValue}
+use Rattle.jr_scan.specs.ScanValue as scans
+use Rattle.jr_scan.specs.Mcus.{Front}
+use Rattle.jr_scan.proofs.ScanLaws.{OneDecoding, OneFront, one_decoding, one_front}
 use Rattle.jr_paint.specs.Colours.{colour_of}
 use Rattle.jr_paint.specs.Geometry.{samples_across, samples_down}
 use Rattle.jr_paint.specs.Text.{value_at, bytes_of, pixel_of, pixels_of, lines_of, header_of, text_of}
 use Rattle.jr_paint.proofs.Factors.{sampled_at, scaled_below}
 use Rattle.jr_paint.proofs.PixelLaws.{flat_map-moved}
-use Rattle.jr_scan.specs.IntervalValue.{IntervalValue}
-use Rattle.jr_scan.specs.ScanValue.{ScanValue}
-use Rattle.jr_scan.specs.ScanValue as scans
-use Rattle.jr_scan.specs.Mcus.{Front}
-use Rattle.jr_piece.proofs.Outcomes.{OneDecoding, OneFront}
-use Rattle.jr_piece.proofs.ScanLaws.{one_decoding, one_front}
 use Rattle.jr_picture.specs.declared.mark.Mark.{Mark}
 use Rattle.jr_picture.specs.declared.mark.Mark.TheVariants.{Blank, Sound, Damaged}
 use Rattle.jr_picture.specs.Headline.{interval_number, spot_of, unit_number, decoded_sample, Holds, Shows, IsPicture, AreFirst, HasOnePicture, mark_in}

@@ -1,5 +1,5 @@
 -- What an image of a scan shows, by the marks of its intervals. f is its samples by component, column and line.
-use Rattle.std.specs.Prelude.{◌≡◌, ◌≢◌, ℕ, ◌+◌, ◌*◌, ◌<◌, ◌≤◌, ◌==◌, Bool, true, false, List, length, count_by, ℤ, slice_index, slice_index_or, if◌then◌else◌, min, Option, Some, None}
+use Rattle.std.specs.Prelude.{◌≡◌, ◌≢◌, ℕ, ◌+◌, ◌*◌, ◌<◌, ◌≤◌, ◌==◌, Bool, true, false, List, length, count_by, ℤ, slice_index, slice_index_or, if◌then◌else◌}
 use Rattle.jr_segments.specs.declared.kind.Kind.{Kind}
 use Rattle.jr_segments.specs.declared.kind.Kind.TheVariants.{Grey, Rgb, Ycc}
 use Rattle.jr_head.specs.HeadValue.{HeadValue}
@@ -84,11 +84,6 @@ pub record AreCounts (marks : List Mark) (s d b : ℕ) : Type 0 where
   pub sound : s ≡ count_by is_sound marks
   pub damaged : d ≡ count_by is_damaged marks
   pub blank : s + d + b ≡ length marks
-
--- the number of intervals to decode: the first ones, or all
-abbrev pub least : Option ℕ → ℕ → ℕ
-least None n = n
-least (Some k) n = min k n
 
 -- the first n intervals are marked, and no other
 pub record AreFirst (n : ℕ) (marks : List Mark) : Type 0 where

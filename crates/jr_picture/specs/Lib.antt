@@ -4,4 +4,3 @@ pub mod Headline
 pub mod Exactness
 pub mod Status
 pub mod Writing
-pub mod FirstIntervalsValue

@@ -5,7 +5,6 @@
 
 mod blank;
 mod counts;
-mod first_intervals;
 mod gate;
 mod laws;
 mod mark;
@@ -15,7 +14,6 @@ mod status;
 
 pub use blank::blank_sample;
 pub use counts::Counts;
-pub use first_intervals::FirstIntervals;
 pub use gate::{Gate, OpenGate};
 pub use laws::{one_picture, sound_samples_are_faithful};
 pub use mark::Mark;

@@ -1,24 +1,26 @@
 -- The data units of the MCUs of an interval: those of its longest prefix, and those after the last whole MCU.
-use Rattle.std.proofs.Common.{◌≡◌, ℕ, ◌+◌, ◌*◌, ◌<◌, ◌≤◌, List, [], length, get_or, sym, ap, ◌∙◌, arith}
+use Rattle.std.proofs.Common.{◌≡◌, ℕ, ◌+◌, ◌*◌, ◌<◌, ◌≤◌, inl, inr, List, [], length, get_or, sym, ap, subst, ◌∙◌, arith}
 use Rattle.std.specs.Prelude.{ℤ}
-use Rattle.std.proofs.lemmas.List.{get_or-drop}
+use Rattle.std.proofs.lemmas.Bool.{cases_lt}
+use Rattle.std.proofs.lemmas.List.{get_or-drop, get_or_default, get_or_past}
 use Rattle.std.proofs.Math.Nat.{add-mul, mul-le-mul_right}
 use Rattle.jr_head.specs.Geometry.{IsLawful, order_of, quantiser_of}
 use Rattle.jr_idct.specs.Transform.{samples}
+use Rattle.jr_idct.proofs.Zeros.{grey}
 use Rattle.jr_mcu.specs.Mcus.{component}
 use Rattle.jr_scan.specs.declared.place.Place.{Place}
 use Rattle.jr_scan.specs.declared.place.RunEnd.TheVariants.{AllRead}
 use Rattle.jr_scan.specs.IntervalValue.{IntervalValue}
-use Rattle.jr_scan.specs.Mcus.{LongestFront}
-use Rattle.jr_scan.specs.Run.{IsRun, run_from}
+use Rattle.jr_scan.specs.Mcus.{AreBlocks, LongestFront, units_before}
+use Rattle.jr_scan.specs.Run.{FirstMcus, IsNext, IsRun, run_from}
+use Rattle.jr_scan.specs.Cursors.{AreBlocksFrom, zero_block}
+use Rattle.jr_scan.proofs.ScanLaws.{one_front, one_run, runs_meet, shorter_front}
+use Rattle.jr_scan.proofs.CursorRuns as runs
 use Rattle.jr_piece.specs.PieceValue.{PieceValue}
 use Rattle.jr_piece.specs.Outcome.{IsOutcome, unit_of}
-use Rattle.jr_piece.specs.Strips.{AreBlocks, FirstMcus, IsNext}
-use Rattle.jr_piece.specs.Units.{grey_unit, unit_in_piece}
-use Rattle.jr_piece.proofs.ScanLaws.{one_front, one_run, runs_meet, shorter_front}
-use Rattle.jr_piece.proofs.Strips.{component_on}
-use Rattle.jr_piece.proofs.StripRuns as runs
-use Rattle.jr_piece.proofs.UnitReading.{shown, behind}
+use Rattle.jr_piece.specs.Units.{CodesUnits, grey_unit, unit_in_piece}
+use Rattle.jr_piece.proofs.Strips.{Fronted, component_on, fronted}
+use Rattle.jr_piece.proofs.UnitReading.{behind, shown, zero_unit}
 
 -- those of whole MCUs
 pub blocks_code : (i : IntervalValue) (first n : ℕ) (ys : List (List ℤ)) → AreBlocks i first n ys → (o : PieceValue) → o.interval ≡ i → IsOutcome o
@@ -41,3 +43,19 @@ pub grey_codes : (i : IntervalValue) (front mcu : ℕ) (zs : List (List ℤ)) �
 grey_codes i front mcu zs le longest o same is k =
     let past : front * length (order_of i.head) ≤ mcu * length (order_of i.head) = mul-le-mul_right {m = front} {n = mcu} (length (order_of i.head)) le in
     behind one_front shorter_front i o same is front zs longest (mcu * length (order_of i.head) + k) (omega (arith, past))
+
+-- the blocks of an interval starting at an MCU have the samples of its data units
+pub read_codes : (i : IntervalValue) (first : ℕ) (us : List (List ℤ)) → AreBlocksFrom i first us → (o : PieceValue) → IsOutcome o → o.interval ≡ i → CodesUnits o (units_before i first) us
+read_codes i first us are o out same k lt =
+    let h = i.head in
+    let j = units_before i first + k in
+    let f : Fronted i o.front o.samples = subst (λ (v : IntervalValue). Fronted v o.front o.samples) same (fronted o out) in
+    let block : get_or us k [] ≡ get_or f.blocks j zero_block = are o.front f.blocks f.longest k lt in
+    ap (λ (v : IntervalValue). unit_of v.head us k) same ∙ elim (cases_lt j (length f.blocks)) [
+      | inl there ↦
+          ap (λ (z : List ℤ). samples z (quantiser_of h (component h k))) (block ∙ sym (get_or_default f.blocks j [] zero_block there))
+          ∙ ap (λ (c : ℕ). samples (get_or f.blocks j []) (quantiser_of h c)) (sym (component_on h first k))
+          ∙ sym (f.samples.each j there) ∙ get_or_default o.samples j [] grey_unit (omega (arith, there, f.samples.count))
+      | inr past ↦
+          zero_unit grey h us k (block ∙ get_or_past f.blocks j zero_block past) ∙ sym (get_or_past o.samples j grey_unit (omega (arith, past, f.samples.count)))
+    ]

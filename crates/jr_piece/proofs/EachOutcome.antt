@@ -4,9 +4,11 @@ use Rattle.std.specs.Prelude.{◌⊎◌, ℤ}
 use Rattle.std.proofs.lemmas.List.{append-nil}
 use Rattle.jr_head.specs.HeadValue.{HeadValue}
 use Rattle.jr_head.specs.Geometry.{quantiser_of}
+use Rattle.jr_code.proofs.CodeLemmas.{one_word}
 use Rattle.jr_scan.specs.IntervalValue.{IntervalValue}
 use Rattle.jr_mcu.specs.Mcus.{component}
 use Rattle.jr_scan.specs.Mcus.{Decodes, HasNoDecoding, LongestFront}
+use Rattle.jr_scan.proofs.LongestFronts as fronts
 use Rattle.jr_idct.specs.Transform.{samples}
 use Rattle.jr_piece.specs.Outcome.{AreSamples, HasOutcome}
 use Rattle.jr_piece.proofs.Outcomes.{no_samples, more_samples}
@@ -51,3 +53,7 @@ damaged i k zs none longest =
 
 pub each_outcome : HasFront → DecodesOrNot → (i : IntervalValue) → HasOutcome i
 each_outcome front decodes i = elim (decodes i) [ inl d ↦ sound i d.0 d.1 | inr none ↦ let f = front i in damaged i f.0 f.1 none f.2 ]
+
+-- each interval has an outcome
+pub outcome : (i : IntervalValue) → HasOutcome i
+outcome = each_outcome (fronts.longest_front one_word) (fronts.decoding_or_none one_word)

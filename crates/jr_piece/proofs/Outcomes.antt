@@ -68,13 +68,6 @@ outcome i zs units is_sound front e =
       damaged = λ f. record { undecodable = e.none f; blocks = zs; longest = e.longest; samples = e.samples };
     }
 
--- the laws of one decoding and of one prefix
-abbrev pub OneDecoding : Type 0
-OneDecoding = (i : IntervalValue) (zs ys : List (List ℤ)) → Decodes i zs → Decodes i ys → zs ≡ ys
-
-abbrev pub OneFront : Type 0
-OneFront = (i : IntervalValue) (k : ℕ) (zs ys : List (List ℤ)) → Front i k zs → Front i k ys → zs ≡ ys
-
 -- what a piece has in addition to its interval
 abbrev piece : IntervalValue → Bool → ℕ → List (List ℕ) → PieceValue
 piece i b k us = record { interval = i; is_sound = b; front = k; samples = us }

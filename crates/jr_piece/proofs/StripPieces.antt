@@ -9,10 +9,10 @@ use Rattle.std.proofs.lemmas.Option.{get_or_from_slice_get, slice_get_within}
 use Rattle.std.proofs.Math.Nat.{add-mul, mul-le-mul_right}
 use Rattle.jr_head.specs.Geometry.{order_of}
 use Rattle.jr_scan.specs.IntervalValue.{IntervalValue}
-use Rattle.jr_scan.specs.Mcus.{Front}
+use Rattle.jr_scan.specs.Mcus.{Front, TellsSound}
 use Rattle.jr_piece.specs.StripValue.{StripValue}
 use Rattle.jr_piece.specs.Outcome.{IsOutcome}
-use Rattle.jr_piece.specs.Strips.{AreInOrder, AreOf, Follows, IsStrip, IsStripAt, IsWhole, TellsEnd, TellsSound, joined, mcus_of_each, piece_of, shared_strips}
+use Rattle.jr_piece.specs.Strips.{AreInOrder, AreOf, Follows, IsStrip, IsStripAt, IsWhole, TellsEnd, joined, mcus_of_each, piece_of, shared_strips}
 use Rattle.jr_piece.specs.DataUnits.{AreEven, units_of_strips}
 use Rattle.jr_piece.proofs.Outcomes.{no_samples}
 

@@ -8,16 +8,14 @@ use Rattle.jr_head.specs.HeadValue.{HeadValue}
 use Rattle.jr_head.specs.Geometry.{order_of, quantiser_of}
 use Rattle.jr_scan.specs.IntervalValue.{IntervalValue}
 use Rattle.jr_mcu.specs.Mcus.{component}
-use Rattle.jr_scan.specs.Mcus.{Decodes, Front, LongestFront}
+use Rattle.jr_scan.specs.Mcus.{Decodes, Front, LongestFront, AreBlocks, TellsSound}
 use Rattle.jr_idct.specs.Transform.{samples}
+use Rattle.jr_scan.proofs.ScanLaws.{OneFront}
 use Rattle.jr_piece.specs.PieceValue.{PieceValue}
 use Rattle.jr_piece.specs.Outcome.{AreSamples, IsOutcome, unit_of}
 use Rattle.jr_piece.specs.StripValue.{StripValue}
-use Rattle.jr_piece.specs.Strips.{AreBlocks, Follows, IsStrip, IsWhole, ShowsStrip, TellsSound, joined, piece_of}
-use Rattle.jr_piece.proofs.Outcomes.{first_samples, same_samples, OneFront}
-
-abbrev pub ShorterFront : Type 0
-ShorterFront = (i : IntervalValue) (j k : ℕ) (zs : List (List ℤ)) → j ≤ k → Front i k zs → Front i j (take (j * length (order_of i.head)) zs)
+use Rattle.jr_piece.specs.Strips.{Follows, IsStrip, IsWhole, ShowsStrip, joined, piece_of}
+use Rattle.jr_piece.proofs.Outcomes.{first_samples, same_samples}
 
 -- after whole MCUs the components repeat from the first
 pub component_on : (h : HeadValue) (k n : ℕ) → component h (k * length (order_of h) + n) ≡ component h n
@@ -41,12 +39,6 @@ pub record Fronted (i : IntervalValue) (front : ℕ) (us : List (List ℕ)) : Ty
   pub blocks : List (List ℤ)
   pub longest : LongestFront i front blocks
   pub samples : AreSamples i.head blocks us
-
-pub whole_longest : (i : IntervalValue) (zs : List (List ℤ)) → Decodes i zs → LongestFront i i.mcus zs
-whole_longest i zs d = record {
-  front = record { at_most = omega arith; taken = d.taken; rest = d.padding; mcus = d.mcus; spelled = d.spelled };
-  longest = λ j ys f. f.at_most;
-}
 
 pub fronted : (p : PieceValue) → IsOutcome p → Fronted p.interval p.front p.samples
 fronted p o = go p.is_sound refl

@@ -7,13 +7,14 @@ use Rattle.jr_head.specs.HeadValue.{HeadValue}
 use Rattle.jr_head.specs.Geometry.{order_of, quantiser_of}
 use Rattle.jr_scan.specs.IntervalValue.{IntervalValue}
 use Rattle.jr_mcu.specs.Mcus.{component}
-use Rattle.jr_scan.specs.Mcus.{Decodes, HasNoDecoding, Front, LongestFront}
+use Rattle.jr_scan.specs.Mcus.{Decodes, HasNoDecoding, Front, LongestFront, TellsSound}
 use Rattle.jr_idct.specs.Transform.{samples}
+use Rattle.jr_scan.specs.Cursors.{zero_block}
+use Rattle.jr_scan.proofs.ScanLaws.{OneFront, ShorterFront}
 use Rattle.jr_piece.specs.PieceValue.{PieceValue}
 use Rattle.jr_piece.specs.Outcome.{IsOutcome, unit_of}
-use Rattle.jr_piece.specs.Units.{grey_unit, unit_in_piece, zero_block}
-use Rattle.jr_piece.proofs.Outcomes.{OneFront}
-use Rattle.jr_piece.proofs.Strips.{ShorterFront, Fronted, fronted}
+use Rattle.jr_piece.specs.Units.{grey_unit, unit_in_piece}
+use Rattle.jr_piece.proofs.Strips.{Fronted, fronted}
 
 -- what a piece contains at the data units of a prefix, and after the longest one
 module _ (one : OneFront) (shorter : ShorterFront) (i : IntervalValue) (p : PieceValue) (same : p.interval ≡ i) (o : IsOutcome p) (m : ℕ) (zs : List (List ℤ)) where
@@ -47,6 +48,11 @@ tells p i zs b same o sound damaged = go p.is_sound b refl refl
     go false false e f = e ∙ sym f
     go true false e f = let s = o.sound e in absurd (damaged f s.blocks (subst (λ (v : IntervalValue). Decodes v s.blocks) same s.decodes))
     go false true e f = absurd ((o.damaged e).undecodable zs (subst (λ (v : IntervalValue). Decodes v zs) (sym same) (sound f)))
+
+-- each piece of an interval says whether the interval has a decoding
+pub outcome_tells : (i : IntervalValue) (b : Bool) → TellsSound b i → (p : PieceValue) → IsOutcome p → p.interval ≡ i → p.is_sound ≡ b
+outcome_tells i true told p o e = tells p i told.0 true e o (λ t. told.1) (λ f. absurd cc)
+outcome_tells i false told p o e = tells p i [] false e o (λ t. absurd cc) (λ f. told)
 
 -- the samples of a block of zeros
 abbrev pub ZerosAreGrey : Type 0

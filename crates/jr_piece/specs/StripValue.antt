@@ -1,5 +1,5 @@
 -- What contracts see of a strip of an interval, coded, skipped or decoded, and of a reader of strips.
-use Rattle.std.specs.Prelude.{ℕ, List, Option, ℤ}
+use Rattle.std.specs.Prelude.{ℕ, List, ℤ}
 use Rattle.jr_scan.specs.declared.place.Place.{Place}
 use Rattle.jr_scan.specs.IntervalValue.{IntervalValue}
 
@@ -23,9 +23,3 @@ pub record StripValue : Type 0 where
   pub first : ℕ
   pub mcus : ℕ
   pub samples : List (List ℕ)
-
--- the number of MCUs read, and where the next one starts; no position if no whole MCU follows
-pub record ReadingValue : Type 0 where
-  pub interval : IntervalValue
-  pub first : ℕ
-  pub next : Option Place

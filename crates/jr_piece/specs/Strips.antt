@@ -1,31 +1,19 @@
 -- Strips: consecutive whole MCUs of an interval, as far as its bits contain them, whatever follows.
-use Rattle.std.specs.Prelude.{◌≡◌, ℕ, ◌+◌, ◌-◌, ◌*◌, ◌<◌, ◌≤◌, min, Bool, true, false, List, [], ◌∷◌, ◌++◌, map, length, take, drop, slice_get, Some, ℤ}
+use Rattle.std.specs.Prelude.{◌≡◌, ℕ, ◌+◌, ◌-◌, ◌*◌, ◌<◌, ◌≤◌, min, Bool, List, [], ◌∷◌, ◌++◌, map, length, take, drop, slice_get, Some, ℤ}
 use Rattle.std.specs.List.{All}
 use Rattle.std.specs.declared.sync.Arc.{Arc}
 use Rattle.std.specs.Arc.{arc_value}
 use Rattle.std.specs.declared.alloc.Global.{Global}
-use Rattle.jr_head.specs.Geometry.{order_of}
 use Rattle.jr_scan.specs.declared.place.Place.{Place}
 use Rattle.jr_scan.specs.declared.place.RunEnd.TheVariants.{AllRead}
 use Rattle.jr_scan.specs.IntervalValue.{IntervalValue}
-use Rattle.jr_mcu.specs.Block.{IsInDcRange}
-use Rattle.jr_scan.specs.Mcus.{HasDecoding, HasNoDecoding, Front, HasLongestFront}
-use Rattle.jr_scan.specs.Run.{RunOf, start_of_interval, run_from, HasNoMcu, IsRun}
+use Rattle.jr_scan.specs.Mcus.{AreBlocks, HasLongestFront, TellsSound, units_before}
+use Rattle.jr_scan.specs.Run.{CanReadFrom, IsRun, run_from}
 use Rattle.jr_piece.specs.PieceValue.{PieceValue}
 use Rattle.jr_piece.specs.Outcome.{AreSamples}
 use Rattle.jr_piece.specs.StripValue.{CodedStripValue, PlacedStripValue, StripValue}
 
--- the data units of the first k MCUs of an interval
-abbrev pub units_before : IntervalValue → ℕ → ℕ
-units_before i k = k * length (order_of i.head)
-
--- the interval's bits begin with the blocks of its first MCUs, and these are those starting at MCU `first`
-pub record AreBlocks (i : IntervalValue) (first mcus : ℕ) (ys : List (List ℤ)) : Type 0 where
-  pub all : List (List ℤ)
-  pub front : Front i (first + mcus) all
-  pub last : ys ≡ drop (units_before i first) all
-
--- a strip holds the samples of such blocks
+-- a strip holds the samples of the blocks of its MCUs
 pub record IsStrip (s : StripValue) : Type 0 where
   pub blocks : List (List ℤ)
   pub are : AreBlocks s.interval s.first s.mcus blocks
@@ -52,29 +40,9 @@ joined a b = record { interval = a.interval; first = a.first; mcus = a.mcus + b.
 abbrev pub IsWhole : StripValue → Type 0
 IsWhole s = (s.first ≡ 0) × HasLongestFront s.interval s.mcus
 
--- whether the interval has a decoding
-abbrev pub TellsSound : Bool → IntervalValue → Type 0
-TellsSound true i = HasDecoding i
-TellsSound false i = HasNoDecoding i
-
 -- the strip as a piece
 abbrev pub piece_of : Bool → StripValue → PieceValue
 piece_of is_sound s = record { interval = s.interval; is_sound = is_sound; front = s.mcus; samples = s.samples }
-
--- these are the blocks of the first n MCUs of a run; if they are fewer than allowed, no further one follows
-pub record FirstMcus (r : RunOf) (n : ℕ) (ys : List (List ℤ)) : Type 0 where
-  pub to : Place
-  pub run : IsRun (run_from r.interval r.from n) ys to AllRead
-  pub none : n < r.mcus → HasNoMcu r.interval to
-
--- a position from which blocks of an interval can be read
-abbrev pub CanReadFrom : IntervalValue → Place → Type 0
-CanReadFrom i p = (p.bit ≤ 8 * length i.bytes) × All IsInDcRange p.predictions
-
--- the first MCUs of an interval are these blocks, and the next one starts there
-pub record IsNext (i : IntervalValue) (first : ℕ) (zs : List (List ℤ)) (p : Place) : Type 0 where
-  pub run : IsRun (run_from i start_of_interval first) zs p AllRead
-  pub can : CanReadFrom i p
 
 -- the blocks of the strip's MCUs are those that follow its position
 pub record IsPlaced (s : PlacedStripValue) : Type 0 where

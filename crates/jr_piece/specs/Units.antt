@@ -1,11 +1,7 @@
 -- The data units of an interval in their order (T.81, A.2.3), those that its bits give and those that they don't.
-use Rattle.std.specs.Prelude.{◌≡◌, ℕ, ◌+◌, ◌<◌, List, length, replicate, ℤ, pos, slice_index_or}
+use Rattle.std.specs.Prelude.{◌≡◌, ℕ, ◌+◌, ◌<◌, List, length, replicate, ℤ, slice_index_or}
 use Rattle.jr_piece.specs.PieceValue.{PieceValue}
 use Rattle.jr_piece.specs.Outcome.{unit_of}
-
--- a block whose coefficients are all 0
-abbrev pub zero_block : List ℤ
-zero_block = replicate 64 (pos 0)
 
 -- a data unit that is shown instead of a missing one: its samples are those of a block of zeros (T.81, A.3.1)
 abbrev pub grey_unit : List ℕ

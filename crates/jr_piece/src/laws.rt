@@ -1,11 +1,14 @@
 //! What holds of every piece and of every strip.
 
-ghost use Rattle.std.specs.Prelude.{◌≡◌, Bool};
+ghost use Rattle.std.specs.Prelude.{◌≡◌, ℕ, ℤ, Bool, List};
+ghost use Rattle.jr_scan.specs.Cursors.{AreBlocksFrom};
 ghost use Rattle.jr_scan.specs.IntervalValue.{IntervalValue};
+ghost use Rattle.jr_scan.specs.Mcus.{TellsSound, units_before};
 ghost use Rattle.jr_piece.specs.PieceValue.{PieceValue};
 ghost use Rattle.jr_piece.specs.Outcome.{HasOutcome, IsOutcome};
+ghost use Rattle.jr_piece.specs.Units.{CodesUnits};
 ghost use Rattle.jr_piece.specs.StripValue.{StripValue};
-ghost use Rattle.jr_piece.specs.Strips.{Follows, IsStrip, IsWhole, ShowsStrip, TellsSound, joined, piece_of};
+ghost use Rattle.jr_piece.specs.Strips.{Follows, IsStrip, IsWhole, ShowsStrip, joined, piece_of};
 
 /// States that each interval has an outcome: its one decoding, or none and a longest decodable prefix.
 pub fn each_interval_has_an_outcome()
@@ -15,6 +18,13 @@ pub fn each_interval_has_an_outcome()
 /// States that T.81 gives one outcome for an interval: pieces of one interval are equal.
 pub fn one_outcome()
     ensures { (p q : PieceValue) → p.interval ≡ q.interval → IsOutcome p → IsOutcome q → p ≡ q }
+{}
+
+/// States that the blocks of an interval starting at an MCU have the samples of its data units, grey after its longest
+/// prefix.
+pub fn blocks_have_units()
+    ensures { (i : IntervalValue) (first : ℕ) (blocks : List (List ℤ)) (p : PieceValue)
+        → AreBlocksFrom i first blocks → IsOutcome p → p.interval ≡ i → CodesUnits p (units_before i first) blocks }
 {}
 
 /// States that a strip is final: whatever follows it, a piece of its interval, sound or damaged, shows at least the

@@ -2,7 +2,6 @@
 //! can be had strip by strip.
 #![tactic(auto)]
 
-mod cursor;
 mod data_units;
 mod decoded;
 mod laws;
@@ -14,9 +13,8 @@ mod strip_reader;
 mod transforming;
 mod unit_sink;
 
-pub use cursor::{Cursor, zero_from};
 pub use laws::{
-    each_interval_has_an_outcome, one_outcome, one_strip, strip_is_final, strips_meet,
+    blocks_have_units, each_interval_has_an_outcome, one_outcome, one_strip, strip_is_final, strips_meet,
     whole_strip_is_outcome,
 };
 pub use piece::{OrderError, Piece};

@@ -6,14 +6,13 @@ ghost use Rattle.jr_scan.specs.declared.place.RunEnd.TheVariants.{AllRead};
 ghost use Rattle.jr_scan.specs.Guesses.{AreGuessesOf};
 ghost use Rattle.jr_scan.specs.Mcus.{Decodes, Front, HasNoDecoding, HasLongestFront};
 ghost use Rattle.jr_scan.specs.Run.{start_of_interval, IsRun, run_from};
-ghost use Rattle.jr_piece.specs.Cursors.{IsPlaceAfter, TakesMcus};
+ghost use Rattle.jr_scan.specs.Cursors.{IsPlaceAfter, TakesMcus};
 
-use crate::cursor::Cursor;
 use crate::placed_strip::PlacedStrip;
 use crate::strip::CodedStrip;
 use jr_base::Coefficients;
 use jr_code::Memory;
-use jr_scan::{Guesses, Interval, Place};
+use jr_scan::{Cursor, Guesses, Interval, Place};
 use std::alloc::Global;
 use std::marker::Model;
 use std::sync::Arc;
@@ -65,8 +64,8 @@ pub struct StripReader {
 
 impl Model for StripReader {
     ghost use Rattle.std.specs.Arc.{arc_value};
-    ghost use Rattle.jr_piece.specs.StripValue.{ReadingValue};
-    ghost use Rattle.jr_piece.specs.Cursors.{IsReading};
+    ghost use Rattle.jr_scan.specs.Cursors.{ReadingValue};
+    ghost use Rattle.jr_scan.specs.Cursors.{IsReading};
 
     ghost Value = { ReadingValue };
 

@@ -10,11 +10,11 @@ use Rattle.std.proofs.lemmas.Option.{none-some}
 use Rattle.jr_head.specs.Geometry.{IsLawful}
 use Rattle.jr_scan.specs.IntervalValue.{IntervalValue}
 use Rattle.jr_scan.specs.ScanValue.{ScanValue, IsSameScan, interval_of}
+use Rattle.jr_scan.specs.FirstIntervalsValue.{least}
 use Rattle.jr_piece.specs.PieceValue.{PieceValue}
 use Rattle.jr_piece.specs.Outcome.{HasOutcome}
 use Rattle.jr_picture.specs.declared.mark.Mark.TheVariants.{Blank, Sound, Damaged}
 use Rattle.jr_picture.specs.DecodedScan.{DecodedScan, IsPieceOf, IsDecodedScan, piece_at, mark_of, marks_of, mark_at}
-use Rattle.jr_picture.specs.Headline.{least}
 use Rattle.jr_picture.specs.Headline.{AreCounts, ShowsFirst, is_sound, is_damaged}
 use Rattle.jr_picture.specs.Samples.{samples_of}
 use Rattle.jr_picture.proofs.DecodedPictures.{first_marked, picture, same_picture}

@@ -2,9 +2,9 @@
 use Rattle.std.proofs.Common.{◌≡◌, ℕ, ◌+◌, ◌*◌, ◌<◌, ◌≤◌, length, sym, ap, subst, ◌∙◌, arith}
 use Rattle.jr_head.specs.HeadValue.{HeadValue}
 use Rattle.jr_scan.specs.ScanValue.{ScanValue, interval_of, intervals_of, mcus_in}
-use Rattle.jr_piece.specs.Cursors.{interval_start}
-use Rattle.jr_piece.specs.declared.cursor.Cursor.{Cursor}
-use Rattle.jr_piece.proofs.StripRuns.{at_start}
+use Rattle.jr_scan.specs.Cursors.{interval_start}
+use Rattle.jr_scan.specs.declared.cursor.Cursor.{Cursor}
+use Rattle.jr_scan.proofs.CursorRuns.{at_start}
 use Rattle.jr_rows.specs.Cursors.{IsCursorOf, mcus_to}
 use Rattle.jr_rows.specs.Rows.{intervals_before, mcus_before}
 use Rattle.jr_rows.proofs.IntervalPlaces.{ends_before, of_first}

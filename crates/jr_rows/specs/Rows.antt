@@ -2,8 +2,9 @@
 use Rattle.std.specs.Prelude.{◌≡◌, ℕ, ◌+◌, ◌-◌, ◌*◌, ◌/◌, ◌%◌, ◌<◌, ◌≤◌, List, [], length, min, nat_le, take, count_by, if◌then◌else◌, slice_index_or, ℤ}
 use Rattle.jr_head.specs.HeadValue.{HeadValue}
 use Rattle.jr_head.specs.Geometry.{blocks_of, mcus_across, mcus_down, mcus_of, vertical_max}
-use Rattle.jr_paint.specs.Lines.{line_room, next_lines_of}
 use Rattle.jr_scan.specs.ScanValue.{ScanValue, intervals_of}
+use Rattle.jr_scan.specs.FirstIntervalsValue.{FirstIntervalsValue}
+use Rattle.jr_paint.specs.Lines.{line_room, next_lines_of}
 use Rattle.jr_piece.specs.Outcome.{unit_of}
 use Rattle.jr_picture.specs.DecodedScan.{DecodedScan, IsDecodedScan, marks_of}
 use Rattle.jr_picture.specs.Headline.{AreFirst, is_sound, is_damaged, interval_number}
@@ -12,7 +13,6 @@ use Rattle.jr_rows.specs.Bands.{ShowsMcus, unit_shown}
 use Rattle.jr_rows.specs.Groups.{units_in}
 use Rattle.jr_rows.specs.RowLines.{HasLines, mcus_at_once}
 use Rattle.jr_rows.specs.Cursors.{IsCursorOf, mcus_to}
-use Rattle.jr_picture.specs.FirstIntervalsValue.{FirstIntervalsValue}
 use Rattle.jr_rows.specs.RowsValue.{RowValue, SampleRowValue}
 use Rattle.jr_rows.specs.declared.marked.Marked.{Marked}
 use Rattle.jr_rows.specs.declared.rows.Rows.{Rows}

@@ -3,14 +3,14 @@ use Rattle.std.specs.Prelude.{◌≡◌, ℕ, List, Option, Result, IfOk, is_err
 use Rattle.jr_base.specs.declared.tally.Tally.{Tally}
 use Rattle.jr_base.specs.declared.writing.WriteFault.{WriteFault}
 use Rattle.jr_base.specs.Tally.{has_failed}
+use Rattle.jr_scan.specs.ScanValue.{ScanValue}
+use Rattle.jr_scan.specs.FirstIntervalsValue.{FirstIntervalsValue}
 use Rattle.jr_paint.specs.Text.{text_of}
 use Rattle.jr_paint.specs.Written.{IsSent}
-use Rattle.jr_scan.specs.ScanValue.{ScanValue}
 use Rattle.jr_picture.specs.declared.counts.Counts.{Counts}
 use Rattle.jr_picture.specs.DecodedScan.{DecodedScan, marks_of}
 use Rattle.jr_picture.specs.Headline.{AreCounts}
 use Rattle.jr_picture.specs.Samples.{samples_of}
-use Rattle.jr_picture.specs.FirstIntervalsValue.{FirstIntervalsValue}
 use Rattle.jr_rows.specs.Rows.{DecodesFirst, CountsRows}
 use Rattle.jr_rows.specs.declared.marked.Marked.{Marked}
 

@@ -12,9 +12,7 @@ use crate::mark_bytes::put_mark;
 use crate::marked::Marked;
 use crate::shape::units_to;
 use jr_base::Coefficients;
-use jr_picture::FirstIntervals;
-use jr_piece::Cursor;
-use jr_scan::{IntervalRef, Scan};
+use jr_scan::{Cursor, FirstIntervals, IntervalRef, Scan};
 
 /// Moves to the next interval if this one is read to its end. Returns the number of its MCUs that are left.
 fn ready(cursor: &mut Cursor, scan: &Scan) -> u32

@@ -13,8 +13,7 @@ use crate::{Marked, Rows, SampleRow, shape_of};
 use jr_base::Memory;
 use jr_head::Head;
 use jr_paint::bytes_to;
-use jr_picture::FirstIntervals;
-use jr_scan::Scan;
+use jr_scan::{FirstIntervals, Scan};
 use std::alloc::Global;
 
 /// Returns the row of MCUs that has line `first`, and the one after that of the last line before `end`.

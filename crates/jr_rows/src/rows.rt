@@ -15,8 +15,8 @@ use crate::marked::Marked;
 use crate::sample_row::SampleRow;
 use crate::shape::{coded_of_row, mcus_at_once, shape_of, units_to};
 use jr_base::Coefficients;
-use jr_picture::FirstIntervals;
-use jr_piece::{Cursor, transform_blocks};
+use jr_piece::transform_blocks;
+use jr_scan::{Cursor, FirstIntervals};
 
 /// The rows of MCUs of a scan starting at one of them. Each call takes the scan and the part of it that is decoded.
 #[derive(Clone, Copy)]

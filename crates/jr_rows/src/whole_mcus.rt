@@ -12,8 +12,8 @@ use crate::row_lines::RowLines;
 use crate::shape::{mcus_at_once, shape_of, units_to};
 use jr_base::Coefficients;
 use jr_head::Head;
-use jr_piece::{transform_blocks, zero_from};
-use jr_scan::McuReader;
+use jr_piece::transform_blocks;
+use jr_scan::{McuReader, zero_from};
 
 /// Reads the whole MCUs that follow into blocks, at most `most`. Returns their number.
 fn read_whole(

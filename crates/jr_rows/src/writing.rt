@@ -1,12 +1,12 @@
 //! A scan's image, decoded, painted and written in one pass, a row of MCUs after the other.
 
-ghost use Rattle.std.specs.Prelude.{◌≡◌, ◌≢◌, ℕ, ◌+◌, ◌*◌, ◌<◌, ◌≤◌, ◌^◌, min, length, take, is_err, true, false, IfOk, OnOk};
+ghost use Rattle.std.specs.Prelude.{◌≡◌, ◌+◌, ◌*◌, ◌<◌, ◌≤◌, ◌^◌, length, is_err, true, false, IfOk, OnOk};
 ghost use Rattle.jr_base.specs.Tally.{has_failed};
 ghost use Rattle.jr_head.specs.Geometry.{vertical_max};
+ghost use Rattle.jr_scan.specs.ScanValue.{intervals_of};
+ghost use Rattle.jr_scan.specs.FirstIntervalsValue.{least};
 ghost use Rattle.jr_paint.specs.Lines.{line_size};
 ghost use Rattle.jr_paint.specs.declared.header.TheConstants.{HEADER_ROOM};
-ghost use Rattle.jr_scan.specs.ScanValue.{intervals_of};
-ghost use Rattle.jr_picture.specs.Headline.{least};
 ghost use Rattle.jr_rows.specs.Rows.{CountsRows, HasSampleRoom};
 ghost use Rattle.jr_picture.specs.Writing.{WritesPicture, BeginsPicture};
 ghost use Rattle.jr_rows.specs.Stream.{SendsPicture, HasCounts};
@@ -17,8 +17,8 @@ use crate::{Marked, Rows, SampleRow, lines_of, room_for, shape_of};
 use jr_base::{Tally, WriteFault, write_all};
 use jr_head::Head;
 use jr_paint::{make_room, put_header};
-use jr_picture::{Counts, FirstIntervals, Gate, PictureError};
-use jr_scan::Scan;
+use jr_picture::{Counts, Gate, PictureError};
+use jr_scan::{FirstIntervals, Scan};
 use std::alloc::Global;
 use std::io::Write;
 use std::marker::Model;

@@ -10,3 +10,6 @@ pub mod Shifts
 pub mod KeptMcus
 pub mod TakingOver
 pub mod LongestFronts
+pub mod ScanLaws
+pub mod CursorRuns
+pub mod CursorSteps

@@ -121,3 +121,10 @@ decoding_of one i f = elim f.ends [
 
 pub decoding_or_none : OneWord → (i : IntervalValue) → ((zs : List (List ℤ)) × Decodes i zs) ⊎ HasNoDecoding i
 decoding_or_none one i = decoding_of one i (blocks_of one i)
+
+-- a decoding is the longest prefix
+pub whole_longest : (i : IntervalValue) (zs : List (List ℤ)) → Decodes i zs → LongestFront i i.mcus zs
+whole_longest i zs d = record {
+  front = record { at_most = omega arith; taken = d.taken; rest = d.padding; mcus = d.mcus; spelled = d.spelled };
+  longest = λ j ys f. f.at_most;
+}

@@ -2,9 +2,11 @@ pub mod IntervalValue
 pub mod FrontValue
 pub mod Mcus
 pub mod ScanValue
+pub mod FirstIntervalsValue
 pub mod PartialScan
 pub mod ImageEnd
 pub mod Run
 pub mod McuReader
+pub mod Cursors
 pub mod Guess
 pub mod Guesses

@@ -1,6 +1,7 @@
 -- What of its MCUs the bits of an interval hold (T.81, E.1.4 and F.2.1.3.1).
-use Rattle.std.specs.Prelude.{◌≡◌, ℕ, ◌<◌, ◌≤◌, Bool, List, ◌++◌, length, ℤ}
+use Rattle.std.specs.Prelude.{◌≡◌, ℕ, ◌+◌, ◌*◌, ◌<◌, ◌≤◌, Bool, true, false, List, ◌++◌, length, drop, ℤ}
 use Rattle.jr_code.specs.Bits.{bits}
+use Rattle.jr_head.specs.Geometry.{order_of}
 use Rattle.jr_mcu.specs.Mcus.{no_predictions, Mcus}
 use Rattle.jr_scan.specs.IntervalValue.{IntervalValue}
 
@@ -20,6 +21,11 @@ HasDecoding i = (zs : List (List ℤ)) × Decodes i zs
 abbrev pub HasNoDecoding : IntervalValue → Type 0
 HasNoDecoding i = (zs : List (List ℤ)) → Decodes i zs → ⊥
 
+-- whether the interval has a decoding
+abbrev pub TellsSound : Bool → IntervalValue → Type 0
+TellsSound true i = HasDecoding i
+TellsSound false i = HasNoDecoding i
+
 -- the interval's bits begin with those of its first k MCUs
 pub record Front (i : IntervalValue) (k : ℕ) (zs : List (List ℤ)) : Type 0 where
   pub at_most : k ≤ i.mcus
@@ -36,3 +42,13 @@ pub record LongestFront (i : IntervalValue) (k : ℕ) (zs : List (List ℤ)) : T
 -- the interval's bits begin with k whole MCUs, and with no more
 abbrev pub HasLongestFront : IntervalValue → ℕ → Type 0
 HasLongestFront i k = (zs : List (List ℤ)) × LongestFront i k zs
+
+-- the data units of the first k MCUs of an interval
+abbrev pub units_before : IntervalValue → ℕ → ℕ
+units_before i k = k * length (order_of i.head)
+
+-- the interval's bits begin with the blocks of its first MCUs, and these are those starting at MCU `first`
+pub record AreBlocks (i : IntervalValue) (first mcus : ℕ) (ys : List (List ℤ)) : Type 0 where
+  pub all : List (List ℤ)
+  pub front : Front i (first + mcus) all
+  pub last : ys ≡ drop (units_before i first) all

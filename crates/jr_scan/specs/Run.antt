@@ -1,10 +1,12 @@
 -- A run of MCUs: the whole MCUs starting at a position of an interval, at most a given number.
-use Rattle.std.specs.Prelude.{◌≡◌, ℕ, ◌+◌, ◌<◌, ◌≤◌, Bool, List, ◌++◌, length, drop, ℤ}
+use Rattle.std.specs.Prelude.{◌≡◌, ℕ, ◌+◌, ◌*◌, ◌<◌, ◌≤◌, Bool, List, ◌++◌, length, drop, ℤ}
+use Rattle.std.specs.List.{All}
 use Rattle.jr_code.specs.Bits.{bits}
 use Rattle.jr_scan.specs.declared.place.Place.{Place}
 use Rattle.jr_scan.specs.declared.place.RunEnd.{RunEnd}
 use Rattle.jr_scan.specs.declared.place.RunEnd.TheVariants.{AllRead, NoMcu}
 use Rattle.jr_scan.specs.IntervalValue.{IntervalValue}
+use Rattle.jr_mcu.specs.Block.{IsInDcRange}
 use Rattle.jr_mcu.specs.Mcus.{no_predictions, Mcus, predicted, BeginsNoMcu}
 
 -- a run of MCUs of an interval: where it starts, and the maximum number of its MCUs
@@ -62,3 +64,18 @@ pub record RunRead (r : RunOf) : Type 0 where
 -- the whole run of an interval has all its MCUs and these blocks, and leaves fewer than eight bits
 abbrev pub IsSoundRun : IntervalValue → List (List ℤ) → Type 0
 IsSoundRun i zs = (to : Place) × IsRun (whole_run i) zs to AllRead × (length (left_at i to) < 8)
+
+-- these are the blocks of the first n MCUs of a run; if they are fewer than allowed, no further one follows
+pub record FirstMcus (r : RunOf) (n : ℕ) (ys : List (List ℤ)) : Type 0 where
+  pub to : Place
+  pub run : IsRun (run_from r.interval r.from n) ys to AllRead
+  pub none : n < r.mcus → HasNoMcu r.interval to
+
+-- a position from which blocks of an interval can be read
+abbrev pub CanReadFrom : IntervalValue → Place → Type 0
+CanReadFrom i p = (p.bit ≤ 8 * length i.bytes) × All IsInDcRange p.predictions
+
+-- the first MCUs of an interval are these blocks, and the next one starts there
+pub record IsNext (i : IntervalValue) (first : ℕ) (zs : List (List ℤ)) (p : Place) : Type 0 where
+  pub run : IsRun (run_from i start_of_interval first) zs p AllRead
+  pub can : CanReadFrom i p

@@ -1,7 +1,9 @@
-//! The one scan of a JPEG file: its restart intervals, and the blocks that each of them codes.
+//! The one scan of a JPEG file: its restart intervals, the blocks that each of them codes, and positions in them.
 #![tactic(auto)]
 
+mod cursor;
 mod cut_scan;
+mod first_intervals;
 mod front;
 mod guess;
 mod guessed;
@@ -15,7 +17,9 @@ mod place;
 mod scan;
 mod taking_over;
 
+pub use cursor::{Cursor, zero_from};
 pub use cut_scan::CutScan;
+pub use first_intervals::FirstIntervals;
 pub use front::FrontBlocks;
 pub use guess::Guess;
 pub use guesses::Guesses;

@@ -12,12 +12,12 @@ use Rattle.jr_head.specs.Intervals.{interval_number, intervals_of, mcus_in}
 use Rattle.jr_head.proofs.SamplingLaws.{length-order}
 use Rattle.jr_scan.specs.IntervalValue.{IntervalValue}
 use Rattle.jr_scan.specs.ScanValue.{HasInterval, ScanValue, interval_of}
+use Rattle.jr_scan.proofs.ScanLaws.{one_decoding, one_front, shorter_front}
 use Rattle.jr_piece.specs.PieceValue.{PieceValue}
 use Rattle.jr_piece.specs.StripValue.{StripValue}
 use Rattle.jr_piece.specs.Strips.{IsStrip}
 use Rattle.jr_piece.specs.Units.{grey_unit}
 use Rattle.jr_piece.proofs.Outcomes.{one_outcome}
-use Rattle.jr_piece.proofs.ScanLaws.{one_decoding, one_front, shorter_front}
 use Rattle.jr_piece.proofs.Strips.{final}
 use Rattle.jr_picture.specs.DecodedScan.{IsPieceOf}
 use Rattle.jr_view.specs.ViewValue.{ViewValue}

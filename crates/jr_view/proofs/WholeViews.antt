@@ -13,15 +13,15 @@ use Rattle.jr_head.specs.HeadValue.{HeadValue}
 use Rattle.jr_head.specs.Geometry.{blocks_of, components_of, horizontal_max, horizontal_of, mcus_of, vertical_max, vertical_of}
 use Rattle.jr_head.specs.Geometry as heads
 use Rattle.jr_head.specs.Intervals.{interval_number, intervals_of, within_interval}
+use Rattle.jr_scan.specs.IntervalValue.{IntervalValue}
+use Rattle.jr_scan.specs.ScanValue.{ScanValue, interval_of}
 use Rattle.jr_paint.specs.Geometry.{place_in, samples_across, samples_down, spot_of}
 use Rattle.jr_paint.specs.Text.{text_of}
 use Rattle.jr_paint.proofs.Factors.{sampled_at}
 use Rattle.jr_paint.proofs.Places.{in_div_ceil, mcu_inside}
-use Rattle.jr_scan.specs.IntervalValue.{IntervalValue}
-use Rattle.jr_scan.specs.ScanValue.{ScanValue, interval_of}
 use Rattle.jr_piece.specs.PieceValue.{PieceValue}
 use Rattle.jr_piece.specs.Units.{grey_unit}
-use Rattle.jr_piece.proofs.ScanLaws.{outcome}
+use Rattle.jr_piece.proofs.EachOutcome.{outcome}
 use Rattle.jr_picture.specs.declared.mark.Mark.{Mark}
 use Rattle.jr_picture.specs.declared.mark.Mark.TheVariants.{Blank, Damaged, Sound}
 use Rattle.jr_picture.specs.DecodedScan.{DecodedScan, IsDecodedScan, IsPieceOf, mark_of, marks_of, piece_at}

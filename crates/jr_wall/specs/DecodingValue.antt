@@ -2,7 +2,7 @@
 use Rattle.std.specs.Prelude.{◌≡◌, ℕ, List, length, Option, None, slice_index_or}
 use Rattle.std.specs.Option.{IfSome}
 use Rattle.jr_scan.specs.ScanValue.{ScanValue}
-use Rattle.jr_picture.specs.FirstIntervalsValue.{FirstIntervalsValue}
+use Rattle.jr_scan.specs.FirstIntervalsValue.{FirstIntervalsValue}
 use Rattle.jr_cells.specs.Values.{DeskValue}
 use Rattle.jr_cells.specs.StripCellsValue.{StripCellsValue}
 

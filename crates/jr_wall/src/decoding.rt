@@ -1,6 +1,7 @@
 //! One decoding by several workers: what they share, and what is left to do when they have ended.
 
 ghost use Rattle.std.specs.Prelude.{◌≡◌, ◌<◌, ◌≤◌, ◌++◌, ℕ, List, length, map, true, All, Some, IfOk, IfSome};
+ghost use Rattle.jr_scan.specs.FirstIntervalsValue.{least};
 ghost use Rattle.jr_cells.specs.Values.{fresh};
 ghost use Rattle.std.specs.List.{range_with_len};
 ghost use Rattle.std.specs.Option.{option_copied};
@@ -9,7 +10,6 @@ ghost use Rattle.std.specs.Fn.{FnOnceReturnsAt};
 ghost use Rattle.jr_base.specs.declared.limits.TheConstants.{MAX_WORKERS};
 ghost use Rattle.jr_wall.specs.DecodingValue.{strips_at, whole};
 ghost use Rattle.jr_wall.specs.Decoded.{IsDecoded};
-ghost use Rattle.jr_picture.specs.Headline.{least};
 
 use crate::board::Board;
 use crate::jobs::Jobs;
@@ -18,9 +18,9 @@ use crate::sweeping::{sweep, usable};
 use crate::workers::{hang, make_piece};
 use jr_cells::{Cells, Desk, Seat, Sight, StripCells};
 use jr_code::Memory;
-use jr_picture::{FirstIntervals, Gate};
+use jr_picture::Gate;
 use jr_piece::Piece;
-use jr_scan::Scan;
+use jr_scan::{FirstIntervals, Scan};
 use jr_work::{Job, OneScan};
 use std::alloc::Global;
 use std::marker::{Brand, Model};

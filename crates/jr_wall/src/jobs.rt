@@ -3,7 +3,7 @@
 ghost use Rattle.std.specs.Prelude.{◌≡◌, ◌<◌, ◌≤◌, length, Some};
 
 use jr_cells::StripCells;
-use jr_picture::FirstIntervals;
+use jr_scan::FirstIntervals;
 use jr_work::{Job, OneScan};
 use std::alloc::Global;
 use std::sync::Arc;

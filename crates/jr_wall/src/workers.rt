@@ -3,8 +3,8 @@
 ghost use Rattle.std.specs.Prelude.{◌≡◌, ◌<◌, ◌≤◌, ℕ, ◌++◌, List, length, true, IfOk, IfSome};
 ghost use Rattle.std.specs.Arc.{arc_value};
 ghost use Rattle.jr_base.specs.declared.limits.TheConstants.{MAX_WORKERS};
+ghost use Rattle.jr_scan.specs.FirstIntervalsValue.{least};
 ghost use Rattle.jr_wall.specs.Decoded.{IsDecoded};
-ghost use Rattle.jr_picture.specs.Headline.{least};
 
 use crate::board::Board;
 use crate::decoding::Decoding;

@@ -4,7 +4,7 @@ ghost use Rattle.std.specs.Prelude.{◌≡◌, ◌≤◌, length, IfOk, OnOk, fa
 ghost use Rattle.std.specs.Arc.{arc_value};
 ghost use Rattle.jr_base.specs.declared.limits.TheConstants.{MAX_WORKERS};
 ghost use Rattle.jr_base.specs.Tally.{has_failed};
-ghost use Rattle.jr_picture.specs.Headline.{least};
+ghost use Rattle.jr_scan.specs.FirstIntervalsValue.{least};
 ghost use Rattle.jr_picture.specs.Writing.{WritesPicture, BeginsPicture};
 
 use crate::workers::decode_all;

@@ -10,11 +10,11 @@ use Rattle.std.proofs.lemmas.List.Elements.{All-append}
 use Rattle.std.proofs.lemmas.List.{map-append}
 use Rattle.jr_scan.specs.IntervalValue.{IntervalValue}
 use Rattle.jr_scan.specs.ScanValue.{HasInterval, interval_of}
-use Rattle.jr_picture.specs.FirstIntervalsValue.{FirstIntervalsValue}
+use Rattle.jr_scan.specs.FirstIntervalsValue.{FirstIntervalsValue}
+use Rattle.jr_scan.specs.Mcus.{Decodes, Front, HasNoDecoding, HasLongestFront}
 use Rattle.jr_work.specs.Sharing.{IsOneOf}
 use Rattle.jr_piece.specs.PieceValue.{PieceValue}
 use Rattle.jr_piece.specs.StripValue.{StripValue}
-use Rattle.jr_scan.specs.Mcus.{Decodes, Front, HasNoDecoding, HasLongestFront}
 use Rattle.jr_piece.specs.Strips.{AreOf, TellsEnd, shared_strips}
 
 -- one more strip of the interval is appended

@@ -3,7 +3,7 @@ use Rattle.std.specs.Prelude.{ℕ, Option, Some, None}
 use Rattle.jr_scan.specs.Guess.{GuessValue, IsGuessOf}
 use Rattle.jr_scan.specs.Guesses.{AreGuessesOf}
 use Rattle.jr_scan.specs.ScanValue.{interval_of}
-use Rattle.jr_picture.specs.FirstIntervalsValue.{FirstIntervalsValue}
+use Rattle.jr_scan.specs.FirstIntervalsValue.{FirstIntervalsValue}
 use Rattle.jr_scan.specs.declared.guesses.Guesses.{Guesses}
 
 -- of the part that a proof knows of this holds

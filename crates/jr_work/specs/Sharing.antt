@@ -7,7 +7,7 @@ use Rattle.std.specs.Arc.{arc_value}
 use Rattle.jr_scan.specs.Guesses.{AreGuessesOf}
 use Rattle.jr_scan.specs.IntervalValue.{IntervalValue}
 use Rattle.jr_scan.specs.ScanValue.{HasInterval}
-use Rattle.jr_picture.specs.FirstIntervalsValue.{FirstIntervalsValue}
+use Rattle.jr_scan.specs.FirstIntervalsValue.{FirstIntervalsValue}
 use Rattle.jr_work.specs.Guessing.{OfPart}
 use Rattle.jr_piece.specs.StripValue.{StripValue}
 use Rattle.jr_piece.specs.Strips.{TellsEnd}

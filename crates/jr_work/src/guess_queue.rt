@@ -1,9 +1,9 @@
 //! Speculative reads ahead of a reader of a scan, and buffers for them.
 
 ghost use Rattle.std.specs.Prelude.{◌≡◌, ◌*◌, ◌/◌, ◌<◌, Some, IfOk, length};
-ghost use Rattle.jr_work.specs.declared.tuning.TheConstants.{MIN_BITS_OF_READ};
 ghost use Rattle.jr_scan.specs.ScanValue.{interval_of};
 ghost use Rattle.jr_scan.specs.Guesses.{AreGuessesOf};
+ghost use Rattle.jr_work.specs.declared.tuning.TheConstants.{MIN_BITS_OF_READ};
 
 use crate::guess_slot::GuessSlot;
 use crate::guess_task::GuessTask;
@@ -12,8 +12,7 @@ use crate::scan_guess::{BufferSize, ScanGuess};
 use crate::tuning::MIN_BITS_OF_READ;
 use crate::window::{Window, bits_of};
 use jr_base::Memory;
-use jr_picture::FirstIntervals;
-use jr_scan::{Guesses, Scan};
+use jr_scan::{FirstIntervals, Guesses, Scan};
 use std::alloc::Global;
 
 /// Returns the number of speculative reads for which an interval's data have bits.

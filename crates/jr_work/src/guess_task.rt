@@ -5,7 +5,7 @@ ghost use Rattle.std.specs.Prelude.{◌≡◌, Some};
 use crate::one_scan::OneScan;
 use crate::scan_guess::ScanGuess;
 use crate::window::Window;
-use jr_picture::FirstIntervals;
+use jr_scan::FirstIntervals;
 
 /// The buffer of a speculative read that a thread makes outside of the lock, its bits, and its index in the queue.
 #[derive(Drop)]

@@ -12,9 +12,8 @@ use crate::tuning::{MAX_TASKS, MIN_READERS, MIN_READS, READS_OF_STRIP_WORKER, ST
 use crate::{BufferSize, GuessQueue, OneScan, SharedWork, Task, WorkQueue, windows_of};
 use jr_base::limits::MAX_WORKERS;
 use jr_code::Memory;
-use jr_picture::FirstIntervals;
 use jr_piece::{Piece, Strip};
-use jr_scan::Interval;
+use jr_scan::{FirstIntervals, Interval};
 use std::alloc::Global;
 use std::marker::Model;
 use std::sync::{Arc, Wait};

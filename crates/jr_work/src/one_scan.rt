@@ -1,7 +1,7 @@
 //! The part of a scan that is decoded, as a type.
 
 ghost use Rattle.std.specs.Prelude.{Option, None};
-ghost use Rattle.jr_picture.specs.FirstIntervalsValue.{FirstIntervalsValue};
+ghost use Rattle.jr_scan.specs.FirstIntervalsValue.{FirstIntervalsValue};
 
 use std::marker::Brand;
 

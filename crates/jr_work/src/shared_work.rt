@@ -7,7 +7,7 @@ use crate::scan_guess::ScanGuess;
 use crate::task::{Assist, Task};
 use crate::work::Work;
 use crate::work_queue::WorkQueue;
-use jr_picture::FirstIntervals;
+use jr_scan::FirstIntervals;
 use std::alloc::Global;
 use std::sync::{Condvar, Mutex, Wait};
 

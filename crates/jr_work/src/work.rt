@@ -4,7 +4,7 @@ ghost use Rattle.std.specs.Prelude.{◌≡◌, Some};
 
 use crate::guess_queue::GuessQueue;
 use crate::one_scan::OneScan;
-use jr_picture::FirstIntervals;
+use jr_scan::FirstIntervals;
 
 /// Work on a scan that threads share: one at a time reads it, a step after the other, and any of them finishes a step
 /// that was read. A step is a row of MCUs, or a strip of an interval.

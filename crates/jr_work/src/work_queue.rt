@@ -9,7 +9,7 @@ use crate::one_scan::OneScan;
 use crate::task::{Assist, Task};
 use crate::work::Work;
 use jr_base::Memory;
-use jr_picture::FirstIntervals;
+use jr_scan::FirstIntervals;
 use std::alloc::Global;
 use std::collections::VecDeque;
 use std::mem::replace;

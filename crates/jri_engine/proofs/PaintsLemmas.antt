@@ -4,8 +4,8 @@ use Rattle.jr_base.specs.declared.limits.TheConstants.{MAX_FILE_BYTES}
 use Rattle.jr_base.specs.declared.tally.Tally.{Tally}
 use Rattle.jr_base.specs.Tally.{has_failed, known_in}
 use Rattle.jr_scan.specs.ScanValue.{ScanValue}
+use Rattle.jr_scan.specs.FirstIntervalsValue.{least}
 use Rattle.jr_picture.specs.declared.counts.Counts.{Counts}
-use Rattle.jr_picture.specs.Headline.{least}
 use Rattle.jr_picture.specs.Writing.{BeginsPicture, WritesPicture}
 use Rattle.jr_picture.specs.declared.picture_error.PictureError.{PictureError}
 use Rattle.jr_picture.specs.declared.picture_error.PictureError.TheVariants.{Memory as Wanting, Write as Stopped}

@@ -1,5 +1,5 @@
 -- Each scan has an image, and so has each accepted file.
-use Rattle.std.proofs.Common.{◌≡◌, ℕ, ◌-◌, ◌<◌, ◌≤◌, refl, List, [], ◌++◌, length, drop, replicate, Option}
+use Rattle.std.proofs.Common.{ℕ, ◌-◌, ◌<◌, ◌≤◌, refl, List, length, drop, Option}
 use Rattle.std.specs.List.{All}
 use Rattle.std.proofs.lemmas.List.Elements.{All-drop}
 use Rattle.jr_head.specs.Geometry.{IsLawful}
@@ -8,9 +8,9 @@ use Rattle.jr_head.specs.Heads.{HeadOf}
 use Rattle.jr_cut.specs.Cut.{Cutting}
 use Rattle.jr_cut.proofs.EachCut.{each_scan_has_a_cut}
 use Rattle.jr_scan.specs.ScanValue.{ScanValue, intervals_of, scan_of_segments}
-use Rattle.jr_piece.proofs.ScanLaws.{outcome}
+use Rattle.jr_scan.specs.FirstIntervalsValue.{least}
+use Rattle.jr_piece.proofs.EachOutcome.{outcome}
 use Rattle.jr_picture.specs.DecodedScan.{marks_of}
-use Rattle.jr_picture.specs.Headline.{least}
 use Rattle.jr_picture.specs.Samples.{samples_of}
 use Rattle.jr_rows.proofs.FirstDecoded.{first_decoded, least_few, shows_first}
 use Rattle.jri_file.specs.Files.{HasPicture, HasPictureOf, IsScanOfFile}

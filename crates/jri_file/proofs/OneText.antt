@@ -2,12 +2,12 @@
 use Rattle.std.proofs.Common.{◌≡◌, ℕ, ◌-◌, ◌⊎◌, inl, inr, List, [], ◌++◌, length, drop, replicate, Option, sym, ap, subst, ◌∙◌}
 use Rattle.jr_head.specs.HeadValue.{HeadValue}
 use Rattle.jr_head.specs.Heads.{HeadOf, HasOneHead, HasOneFault}
+use Rattle.jr_scan.specs.ScanValue.{ScanValue, IsScanOf, intervals_of}
+use Rattle.jr_scan.specs.FirstIntervalsValue.{least}
 use Rattle.jr_paint.specs.Text.{text_of}
 use Rattle.jr_cut.specs.declared.scan_end.ScanEnd.{ScanEnd}
 use Rattle.jr_cut.specs.Cut.{Cutting, IsCut}
-use Rattle.jr_scan.specs.ScanValue.{ScanValue, IsScanOf, intervals_of}
 use Rattle.jr_picture.specs.declared.mark.Mark.{Mark}
-use Rattle.jr_picture.specs.Headline.{least}
 use Rattle.jr_picture.specs.Headline.{ShowsFirst, HasOnePicture}
 use Rattle.jri_file.specs.Files.{IsPictureOf}
 

@@ -8,8 +8,9 @@ use Rattle.jr_head.specs.Heads.{HeadOf, RefusalOf}
 use Rattle.jr_head.specs.HeadValue.{HeadValue}
 use Rattle.jr_head.specs.Geometry.{IsLawful}
 use Rattle.jr_scan.specs.ScanValue.{ScanValue, IsScanOf}
+use Rattle.jr_scan.specs.FirstIntervalsValue.{least}
 use Rattle.jr_picture.specs.declared.mark.Mark.{Mark}
-use Rattle.jr_picture.specs.Headline.{IsPicture, AreFirst, ShowsFirst, least}
+use Rattle.jr_picture.specs.Headline.{IsPicture, AreFirst, ShowsFirst}
 use Rattle.jr_picture.specs.declared.report.Fault.{Fault}
 use Rattle.jr_picture.specs.declared.report.Fault.TheVariants as fault
 

@@ -1,6 +1,6 @@
 //! From the bytes of a file to its image on a canvas of the caller's.
 
-ghost use Rattle.std.specs.Prelude.{◌≡◌, ◌≢◌, ◌+◌, ◌*◌, ◌<◌, ◌≤◌, ℕ, length, IfOk, IfErr, IfSome, None};
+ghost use Rattle.std.specs.Prelude.{◌≡◌, ◌≢◌, ◌+◌, ◌*◌, ◌<◌, ◌≤◌, length, IfOk, IfErr, IfSome, None};
 ghost use Rattle.jr_segments.specs.declared.refusal.Refusal.TheVariants as refusal;
 ghost use Rattle.jr_head.specs.Heads.{RefusalOf};
 ghost use Rattle.jr_head.specs.Geometry.{components_of, mcus_across, mcus_down, vertical_max};
@@ -22,9 +22,9 @@ use crate::report::DecodeReport;
 use crate::room::{asked_for, lacks_room};
 use jr_base::Memory;
 use jr_head::{Head, Kind, Refusal};
-use jr_picture::{Counts, FirstIntervals};
+use jr_picture::Counts;
 use jr_rows::{Marked, Rows, SampleRow, bytes_of_row, counts_of, lines_of, shape_of};
-use jr_scan::Scan;
+use jr_scan::{FirstIntervals, Scan};
 use jri_canvas::{CanvasLines, Pixels, have_places, lay_lines};
 use std::alloc::Global;
 

@@ -2,10 +2,9 @@ use Rattle.std.proofs.Common.{◌≡◌, ◌+◌, ◌-◌, ℕ, Option, Some, in
 use Rattle.jr_head.specs.Geometry.{IsLawful}
 use Rattle.jr_scan.specs.declared.place.Place.{Place}
 use Rattle.jr_scan.specs.declared.place.RunEnd.TheVariants.{AllRead}
-use Rattle.jr_scan.specs.Run.{HasNoMcu, IsRun, RunOf, run_from}
-use Rattle.jr_piece.specs.Strips.{CanReadFrom}
-use Rattle.jr_piece.specs.declared.cursor.Cursor.{Cursor}
-use Rattle.jr_piece.proofs.StripRuns.{passed_place}
+use Rattle.jr_scan.specs.Run.{HasNoMcu, IsRun, RunOf, run_from, CanReadFrom}
+use Rattle.jr_scan.specs.declared.cursor.Cursor.{Cursor}
+use Rattle.jr_scan.proofs.CursorRuns.{passed_place}
 use Rattle.jr_arrival.specs.RowMcus.{TakesWhole}
 use Rattle.jr_arrival.proofs.ReadOn.{nothing_read}
 use Rattle.jr_arrival.proofs.mcu_source.take_whole.Goals as goal

@@ -2,8 +2,8 @@ use Rattle.std.proofs.Common.{Option, sym, subst, ◌∙◌}
 use Rattle.jr_scan.specs.declared.place.Place.{Place}
 use Rattle.jr_scan.specs.IntervalValue.{IntervalValue}
 use Rattle.jr_scan.specs.ScanValue.{interval_of}
-use Rattle.jr_piece.specs.Strips.{TellsSound}
-use Rattle.jr_piece.specs.Cursors.{IsPlaceAfter}
+use Rattle.jr_scan.specs.Mcus.{TellsSound}
+use Rattle.jr_scan.specs.Cursors.{IsPlaceAfter}
 use Rattle.jr_arrival.specs.PartialRows.{ReadsTo}
 use Rattle.jr_arrival.proofs.Readings.{none_sound, reads_there}
 use Rattle.jr_arrival.proofs.partial_source.is_sound.Goals as goal

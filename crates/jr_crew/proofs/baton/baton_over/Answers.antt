@@ -1,7 +1,7 @@
 use Rattle.std.proofs.Common.{rules, arith, sym, subst, ap, ◌<◌, ◌∙◌, Option}
 use Rattle.jr_head.specs.Geometry.{mcus_down}
 use Rattle.jr_scan.specs.ScanValue.{ScanValue}
-use Rattle.jr_picture.specs.FirstIntervalsValue.{FirstIntervalsValue}
+use Rattle.jr_scan.specs.FirstIntervalsValue.{FirstIntervalsValue}
 use Rattle.jr_crew.specs.Crew.{HaveNext}
 use Rattle.jr_crew.proofs.baton.baton_over.Goals as goal
 

@@ -4,8 +4,8 @@ use Rattle.jr_base.specs.declared.tally.Tally.{Tally}
 use Rattle.jr_base.specs.declared.writing.WriteFault.{WriteFault}
 use Rattle.jr_head.specs.Geometry.{IsLawful}
 use Rattle.jr_scan.specs.ScanValue.{ScanValue}
-use Rattle.jr_piece.proofs.ScanLaws.{outcome}
-use Rattle.jr_picture.specs.FirstIntervalsValue.{FirstIntervalsValue}
+use Rattle.jr_scan.specs.FirstIntervalsValue.{FirstIntervalsValue}
+use Rattle.jr_piece.proofs.EachOutcome.{outcome}
 use Rattle.jr_rows.specs.declared.marked.Marked.{Marked}
 use Rattle.jr_rows.specs.Stream.{HasCounts, IsSentBy}
 use Rattle.jr_rows.proofs.Sendings.{painted_picture, begun_picture}

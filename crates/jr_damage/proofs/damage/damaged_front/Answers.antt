@@ -1,7 +1,7 @@
 use Rattle.std.proofs.Common.{sym, subst}
-use Rattle.jr_piece.specs.Cursors.{IsPlaceAfter}
-use Rattle.jr_piece.specs.declared.cursor.Cursor.{Cursor}
-use Rattle.jr_piece.proofs.StripRuns.{at_start}
+use Rattle.jr_scan.specs.Cursors.{IsPlaceAfter}
+use Rattle.jr_scan.specs.declared.cursor.Cursor.{Cursor}
+use Rattle.jr_scan.proofs.CursorRuns.{at_start}
 use Rattle.jr_damage.proofs.damage.damaged_front.Goals as goal
 
 pub take-whole-requires-clause-at : goal.take-whole-requires-clause-at

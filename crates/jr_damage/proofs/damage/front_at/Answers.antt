@@ -1,6 +1,6 @@
 use Rattle.std.proofs.Common.{◌<◌, Bool, subst, arith}
-use Rattle.jr_piece.specs.Strips.{TellsSound}
-use Rattle.jr_piece.proofs.CursorSteps.{cut_short}
+use Rattle.jr_scan.specs.Mcus.{TellsSound}
+use Rattle.jr_scan.proofs.CursorSteps.{cut_short}
 use Rattle.jr_damage.proofs.damage.front_at.Goals.{else-cursor-mcus-via-then-cursor-mcus+else-is_sound, else-cursor-mcus-via-else-cursor-mcus}
 use Rattle.jr_damage.proofs.damage.front_at.Goals as goal
 

@@ -3,9 +3,9 @@ use Rattle.jr_scan.specs.IntervalValue.{IntervalValue}
 use Rattle.jr_scan.specs.Mcus.{HasLongestFront}
 use Rattle.jr_scan.specs.Run.{start_of_interval}
 use Rattle.jr_scan.specs.ScanValue.{ScanValue, interval_of}
-use Rattle.jr_piece.specs.Cursors.{IsReading}
-use Rattle.jr_piece.specs.declared.cursor.Cursor.{Cursor}
-use Rattle.jr_piece.proofs.StripRuns.{at_start}
+use Rattle.jr_scan.specs.Cursors.{IsReading}
+use Rattle.jr_scan.specs.declared.cursor.Cursor.{Cursor}
+use Rattle.jr_scan.proofs.CursorRuns.{at_start}
 use Rattle.jr_damage.proofs.Skipping.{all_longest, reading, reads_on}
 use Rattle.jr_damage.proofs.damage.skip_all_by.Goals as goal
 

@@ -1,6 +1,6 @@
 use Rattle.std.specs.Prelude.{◌≤◌}
 use Rattle.jr_scan.specs.ScanValue.{interval_of}
-use Rattle.jr_piece.specs.Cursors.{IsReading}
+use Rattle.jr_scan.specs.Cursors.{IsReading}
 use Rattle.jr_damage.proofs.Skipping.{reading}
 use Rattle.jr_damage.proofs.damage.skip_all_by.Given as goal
 

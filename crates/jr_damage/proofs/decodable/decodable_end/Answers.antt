@@ -1,9 +1,9 @@
-use Rattle.std.proofs.Common.{◌≡◌, ◌+◌, ◌/◌, ◌*◌, ◌≤◌, ℕ, Some, length, sym, ap, subst, arith, rules}
+use Rattle.std.proofs.Common.{◌≡◌, ◌/◌, ◌≤◌, ℕ, Some, length, sym, ap, subst, arith, rules}
 use Rattle.jr_scan.specs.IntervalValue.{IntervalValue}
 use Rattle.jr_scan.specs.Run.{start_of_interval}
-use Rattle.jr_piece.specs.Cursors.{IsPlaceAfter, TakesMcus}
-use Rattle.jr_piece.specs.declared.cursor.Cursor.{Cursor}
-use Rattle.jr_piece.proofs.StripRuns.{at_start}
+use Rattle.jr_scan.specs.Cursors.{IsPlaceAfter, TakesMcus}
+use Rattle.jr_scan.specs.declared.cursor.Cursor.{Cursor}
+use Rattle.jr_scan.proofs.CursorRuns.{at_start}
 use Rattle.jr_damage.proofs.Skipping.{all_taken, cut_to, front_there, has_place, longest_there}
 use Rattle.jr_damage.proofs.decodable.decodable_end.Goals as goal
 

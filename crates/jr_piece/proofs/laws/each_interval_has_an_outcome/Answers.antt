@@ -1,4 +1,4 @@
-use Rattle.jr_piece.proofs.ScanLaws.{outcome}
+use Rattle.jr_piece.proofs.EachOutcome.{outcome}
 use Rattle.jr_piece.proofs.laws.each_interval_has_an_outcome.Goals as goal
 
 pub returns : goal.returns

@@ -1,5 +1,5 @@
+use Rattle.jr_scan.proofs.ScanLaws.{one_decoding, one_front}
 use Rattle.jr_piece.proofs.Outcomes as outcomes
-use Rattle.jr_piece.proofs.ScanLaws.{one_decoding, one_front}
 use Rattle.jr_piece.proofs.laws.one_outcome.Goals as goal
 
 pub returns : goal.returns

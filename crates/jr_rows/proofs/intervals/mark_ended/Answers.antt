@@ -3,13 +3,13 @@ use Rattle.std.specs.Prelude.{slice_index}
 use Rattle.jr_head.specs.Geometry.{mcus_of}
 use Rattle.jr_scan.specs.IntervalValue.{IntervalValue}
 use Rattle.jr_scan.specs.ScanValue.{intervals_of, interval_of, mcus_in}
+use Rattle.jr_scan.specs.Mcus.{TellsSound}
 use Rattle.jr_piece.specs.PieceValue.{PieceValue}
 use Rattle.jr_piece.specs.Outcome.{IsOutcome}
-use Rattle.jr_piece.specs.Strips.{TellsSound}
 use Rattle.jr_picture.specs.declared.mark.Mark.TheVariants.{Sound, Damaged}
 use Rattle.jr_rows.specs.MarkBytes.{PutsMarks, mark_byte}
 use Rattle.jr_rows.specs.Rows.{CountsMarks}
-use Rattle.jr_piece.proofs.CursorSteps.{outcome_tells}
+use Rattle.jr_piece.proofs.UnitReading.{outcome_tells}
 use Rattle.jr_rows.proofs.IntervalPlaces.{ends_before, ends_with}
 use Rattle.jr_rows.proofs.PutMarks.{puts_none, puts_one}
 use Rattle.jr_rows.proofs.ReadRows.{counts_none, counts_one}

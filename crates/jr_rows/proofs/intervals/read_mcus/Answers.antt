@@ -11,13 +11,14 @@ use Rattle.jr_mcu.specs.Mcus.{component}
 use Rattle.jr_scan.specs.Guesses.{AreGuessesOf}
 use Rattle.jr_scan.specs.IntervalValue.{IntervalValue}
 use Rattle.jr_scan.specs.ScanValue.{ScanValue, interval_of, intervals_of}
+use Rattle.jr_scan.specs.Mcus.{units_before}
+use Rattle.jr_scan.specs.Cursors.{AreBlocksFrom, IsPlaceAfter}
 use Rattle.jr_piece.specs.PieceValue.{PieceValue}
 use Rattle.jr_piece.specs.Outcome.{IsOutcome, unit_of}
-use Rattle.jr_piece.specs.Strips.{units_before}
 use Rattle.jr_piece.specs.Units.{CodesUnits}
+use Rattle.jr_piece.proofs.CodedUnits.{read_codes}
 use Rattle.jr_piece.proofs.Parts.{kept_before, put_there}
 use Rattle.jr_rows.specs.Bands.{unit_shown}
-use Rattle.jr_piece.specs.Cursors.{IsPlaceAfter}
 use Rattle.jr_rows.specs.Cursors.{IsCursorOf, mcus_to}
 use Rattle.jr_rows.specs.MarkBytes.{PutsMarks}
 use Rattle.jr_rows.specs.Rows.{CountsMarks, GivesBehind, GivesMcus, intervals_before}
@@ -124,7 +125,7 @@ intervals-preserved c =
     let inside : start ≤ length old = omega (arith, c.units_to-from.ensures.within, room) in
     let interval : c.fork.result ≡ interval_of t r.number = c.fork.ensures ∙ c.interval_ref-interval.ensures ∙ ap (λ (s : ScanValue). interval_of s r.number) c.scan-scan.ensures in
     let codes : (p : PieceValue) → IsOutcome p → p.interval ≡ interval_of t r.number → CodesUnits p (units_before (interval_of t r.number) r.mcu) sub =
-    subst (λ (i : IntervalValue). (p : PieceValue) → IsOutcome p → p.interval ≡ i → CodesUnits p (units_before i r.mcu) sub) interval c.read.ensures.blocks in
+    read_codes (interval_of t r.number) r.mcu sub (subst (λ (i : IntervalValue). AreBlocksFrom i r.mcu sub) interval c.read.ensures.blocks) in
     let part : (k : ℕ) → k < length sub → slice_index_or new (done * n + k) [] ≡ slice_index_or sub k [] =
     λ k here. ap (λ (m : ℕ). slice_index_or new (m + k) []) (sym start_is) ∙ put_there [] start size old sub inside k here in
     let kept : (k : ℕ) → k < done * n → slice_index_or new k [] ≡ slice_index_or old k [] = λ k l. kept_before [] start size old sub inside k (omega (arith, l, start_is)) in

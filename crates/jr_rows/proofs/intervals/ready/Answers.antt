@@ -1,7 +1,7 @@
 use Rattle.std.proofs.Common.{rules, arith, ap, zero-add, ◌∙◌, ◌≡◌, ℕ, ◌+◌, ◌-◌, ◌<◌, length}
 use Rattle.jr_head.specs.HeadValue.{HeadValue}
 use Rattle.jr_scan.specs.ScanValue.{intervals_of, mcus_in}
-use Rattle.jr_piece.specs.declared.cursor.Cursor.{Cursor}
+use Rattle.jr_scan.specs.declared.cursor.Cursor.{Cursor}
 use Rattle.jr_rows.proofs.IntervalPlaces.{next_there}
 use Rattle.jr_rows.proofs.RowCursors.{start_to, starts}
 use Rattle.jr_rows.proofs.intervals.ready.Goals as goal

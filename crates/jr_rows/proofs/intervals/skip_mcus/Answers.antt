@@ -2,7 +2,7 @@ use Rattle.std.proofs.Common.{arith, sym, subst, min, ◌≡◌, ℕ, ◌+◌, �
 use Rattle.std.specs.Option.{IfSome}
 use Rattle.jr_scan.specs.Guesses.{AreGuessesOf}
 use Rattle.jr_scan.specs.IntervalValue.{IntervalValue}
-use Rattle.jr_piece.specs.Cursors.{IsPlaceAfter}
+use Rattle.jr_scan.specs.Cursors.{IsPlaceAfter}
 use Rattle.jr_rows.specs.Cursors.{mcus_to}
 use Rattle.jr_rows.proofs.intervals.skip_mcus.Goals as goal
 

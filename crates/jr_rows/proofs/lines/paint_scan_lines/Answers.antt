@@ -2,7 +2,7 @@ use Rattle.std.proofs.Common.{arith, subst, ap, ◌∙◌, ◌≡◌, ℕ, ◌+�
 use Rattle.jr_head.specs.HeadValue.{HeadValue}
 use Rattle.jr_head.specs.Geometry.{IsLawful}
 use Rattle.jr_paint.specs.Lines.{line_size}
-use Rattle.jr_piece.proofs.ScanLaws.{outcome}
+use Rattle.jr_piece.proofs.EachOutcome.{outcome}
 use Rattle.jr_rows.specs.Rows.{HasSampleRoom}
 use Rattle.jr_rows.proofs.SomeLines.{painted_lines}
 use Rattle.jr_rows.proofs.lines.paint_scan_lines.Goals as goal

@@ -1,15 +1,15 @@
 use Rattle.std.proofs.Common.{arith, sym, subst, ap, ◌∙◌, ◌≡◌, ℕ, ◌-◌, ◌*◌, ◌<◌, length, le_of_eq}
 use Rattle.jr_head.specs.HeadValue.{HeadValue}
 use Rattle.jr_head.specs.Geometry.{IsLawful, mcus_down, mcus_of}
-use Rattle.jr_paint.specs.Lines.{line_size, next_lines_of}
 use Rattle.jr_scan.specs.ScanValue.{intervals_of}
+use Rattle.jr_paint.specs.Lines.{line_size, next_lines_of}
 use Rattle.jr_picture.specs.DecodedScan.{DecodedScan}
 use Rattle.jr_picture.specs.Samples.{samples_of}
 use Rattle.jr_rows.specs.MarkBytes.{PutsBetween}
 use Rattle.jr_rows.specs.Rows.{CountsRows, DecodesFirst, HasSampleRoom}
 use Rattle.jr_rows.specs.SomeLines.{CountsBetween, row_behind, row_with}
 use Rattle.jr_rows.specs.Stream.{HasCounts}
-use Rattle.jr_piece.proofs.ScanLaws.{outcome}
+use Rattle.jr_piece.proofs.EachOutcome.{outcome}
 use Rattle.jr_rows.proofs.WholePictures.{first_row, painted_whole}
 use Rattle.jr_rows.proofs.whole.paint_scan.Goals as goal
 

@@ -2,15 +2,14 @@ use Rattle.std.proofs.Common.{rules, arith, subst, sym, ap, ◌≡◌, ℕ, ◌*
 use Rattle.std.specs.Prelude.{is_err}
 use Rattle.jr_head.specs.HeadValue.{HeadValue}
 use Rattle.jr_head.specs.Geometry.{IsLawful, vertical_max}
+use Rattle.jr_scan.specs.FirstIntervalsValue.{least, FirstIntervalsValue}
+use Rattle.jr_scan.specs.ScanValue.{ScanValue, intervals_of}
 use Rattle.jr_paint.specs.Lines.{line_size}
-use Rattle.jr_picture.specs.Headline.{least}
 use Rattle.jr_rows.specs.Stream.{SendsPicture, HasCounts}
-use Rattle.jr_picture.specs.FirstIntervalsValue.{FirstIntervalsValue}
 use Rattle.jr_rows.specs.Rows.{CountsRows, HasSampleRoom}
 use Rattle.jr_rows.specs.RowsValue.{RowsValue}
-use Rattle.jr_scan.specs.ScanValue.{ScanValue, intervals_of}
 use Rattle.jr_rows.proofs.FirstDecoded.{least_few}
-use Rattle.jr_piece.proofs.ScanLaws.{outcome}
+use Rattle.jr_piece.proofs.EachOutcome.{outcome}
 use Rattle.jr_rows.proofs.Sendings.{painted_picture, begun_picture}
 use Rattle.jr_rows.proofs.writing.write_scan.Goals as goal
 

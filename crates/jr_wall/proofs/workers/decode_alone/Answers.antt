@@ -1,7 +1,7 @@
 use Rattle.std.proofs.Common.{◌≡◌, ◌≤◌, ◌∙◌, length, sym, ap, arith, rules}
 use Rattle.std.specs.Arc.{arc_value}
 use Rattle.jr_scan.specs.ScanValue.{ScanValue}
-use Rattle.jr_picture.specs.Headline.{least}
+use Rattle.jr_scan.specs.FirstIntervalsValue.{least}
 use Rattle.jr_wall.proofs.Sweeps.{all_blank, decoded_of, same_scan}
 use Rattle.jr_wall.proofs.workers.decode_alone.Goals as goal
 use Rattle.jr_wall.proofs.workers.decode_alone.Goals.{in-Some, in-None}

@@ -3,10 +3,11 @@ use Rattle.std.specs.Arc.{arc_value}
 use Rattle.jr_base.specs.Tally.{Writes, WritesBeginning}
 use Rattle.jr_head.specs.HeadValue.{HeadValue}
 use Rattle.jr_head.specs.Geometry.{IsLawful}
-use Rattle.jr_paint.specs.Text.{text_of}
 use Rattle.jr_scan.specs.ScanValue.{ScanValue}
+use Rattle.jr_scan.specs.FirstIntervalsValue.{least}
+use Rattle.jr_paint.specs.Text.{text_of}
 use Rattle.jr_picture.specs.DecodedScan.{DecodedScan, marks_of}
-use Rattle.jr_picture.specs.Headline.{IsPicture, ShowsFirst, least}
+use Rattle.jr_picture.specs.Headline.{IsPicture, ShowsFirst}
 use Rattle.jr_picture.specs.Samples.{samples_of}
 use Rattle.jr_picture.proofs.DecodedPictures.{same_picture}
 use Rattle.jr_wall.specs.Decoded.{IsDecoded}

@@ -1,11 +1,11 @@
 use Rattle.std.proofs.Common.{◌≡◌, ◌∙◌, false, Result, IfOk, OnOk, ap, refl, rules, subst, length}
 use Rattle.std.specs.Arc.{arc_value}
 use Rattle.jr_base.specs.Tally.{has_failed}
+use Rattle.jr_scan.specs.FirstIntervalsValue.{least}
+use Rattle.jr_scan.specs.ScanValue.{ScanValue}
 use Rattle.jr_picture.specs.declared.counts.Counts.{Counts}
-use Rattle.jr_picture.specs.Headline.{least}
 use Rattle.jr_picture.specs.Writing.{WritesPicture}
 use Rattle.jr_picture.specs.declared.picture_error.PictureError.{PictureError}
-use Rattle.jr_scan.specs.ScanValue.{ScanValue}
 use Rattle.jri_engine.proofs.PaintsLemmas.{Left, Wrote, left, scan_begins, scan_paints, wrote}
 use Rattle.jri_engine.proofs.engine.write_image.Goals as goal
 use Rattle.jri_engine.proofs.engine.write_image.Goals.{then-is_by_rows, else-is_by_rows+then-is_by_intervals, else-is_by_rows+else-is_by_intervals}

@@ -3,19 +3,19 @@ use Rattle.std.proofs.Math.Nat.{add-mul}
 use Rattle.std.proofs.lemmas.Grind.{div_ceil_times}
 use Rattle.jr_head.specs.HeadValue.{HeadValue}
 use Rattle.jr_head.specs.Geometry.{mcus_across, mcus_down, vertical_max}
+use Rattle.jr_scan.specs.FirstIntervalsValue.{FirstIntervalsValue}
+use Rattle.jr_scan.specs.ScanValue.{ScanValue, intervals_of}
 use Rattle.jr_paint.specs.Lines as paint
 use Rattle.jr_paint.proofs.Places.{below_div_ceil}
 use Rattle.jr_picture.specs.DecodedScan.{DecodedScan}
 use Rattle.jr_picture.specs.Samples.{samples_of}
 use Rattle.jr_rows.specs.Bands.{ShowsMcus}
-use Rattle.jr_picture.specs.FirstIntervalsValue.{FirstIntervalsValue}
 use Rattle.jr_rows.specs.Groups.{units_in}
 use Rattle.jr_rows.specs.MarkBytes.{HasMarkRoom, PutsBetween, PutsRow}
 use Rattle.jr_rows.specs.Rows.{CountsMcus, CountsRow, DecodesFirst, HasSampleRoom, coded_before, first_line, intervals_before, line_count}
 use Rattle.jr_rows.proofs.IntervalPlaces.{ends_few}
 use Rattle.jr_rows.proofs.PutMarks.{puts_both, puts_none}
 use Rattle.jr_rows.proofs.ReadRows.{counts_both, counts_none}
-use Rattle.jr_scan.specs.ScanValue.{ScanValue, intervals_of}
 use Rattle.jri_canvas.specs.Layouts.{StandOn, laid_line}
 use Rattle.jri_canvas.proofs.Canvases.{stand_both, stand_none}
 use Rattle.jri_memory.proofs.canvas.lay_rows.Goals as goal

@@ -1,7 +1,7 @@
 use Rattle.std.proofs.Common.{rules, arith, sym, subst, ◌≡◌, ◌<◌, ℕ, length}
 use Rattle.jr_head.specs.Geometry.{IsLawful, mcus_of}
 use Rattle.jr_scan.specs.ScanValue.{intervals_of}
-use Rattle.jr_piece.proofs.ScanLaws.{outcome}
+use Rattle.jr_piece.proofs.EachOutcome.{outcome}
 use Rattle.jr_picture.specs.DecodedScan.{marks_of}
 use Rattle.jr_picture.specs.Samples.{samples_of}
 use Rattle.jr_rows.specs.Rows.{CountsRows}

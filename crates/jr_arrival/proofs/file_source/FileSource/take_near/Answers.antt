@@ -1,8 +1,7 @@
 use Rattle.std.proofs.Common.{Some, sym, ap, subst, arith}
 use Rattle.jr_scan.specs.IntervalValue.{IntervalValue}
-use Rattle.jr_scan.specs.Run.{HasNoMcu}
-use Rattle.jr_piece.specs.Strips.{CanReadFrom}
-use Rattle.jr_piece.specs.declared.cursor.Cursor.{Cursor}
+use Rattle.jr_scan.specs.Run.{HasNoMcu, CanReadFrom}
+use Rattle.jr_scan.specs.declared.cursor.Cursor.{Cursor}
 use Rattle.jr_arrival.specs.declared.file_source.FileSource.{FileSource}
 use Rattle.jr_arrival.specs.FileSources.{IsInside}
 use Rattle.jr_arrival.proofs.ShownSteps.{walks_near}

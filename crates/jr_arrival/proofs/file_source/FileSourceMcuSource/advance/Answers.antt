@@ -1,6 +1,6 @@
 use Rattle.std.proofs.Common.{◌≡◌, ℕ, ◌+◌, ◌<◌, ap, sym, subst, ◌∙◌, arith, rules}
 use Rattle.jr_head.specs.Intervals.{mcus_in}
-use Rattle.jr_piece.specs.declared.cursor.Cursor.{Cursor}
+use Rattle.jr_scan.specs.declared.cursor.Cursor.{Cursor}
 use Rattle.jr_arrival.specs.declared.file_source.FileSource.{FileSource}
 use Rattle.jr_arrival.specs.FileSources.{Waits, source_of}
 use Rattle.jr_arrival.specs.Sources.{Steps}

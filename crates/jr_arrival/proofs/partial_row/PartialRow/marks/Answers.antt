@@ -1,8 +1,8 @@
 use Rattle.std.proofs.Common.{◌≡◌, ℕ, ◌<◌, length, refl, sym, subst, arith, rules}
 use Rattle.jr_scan.specs.ScanValue.{ScanValue, interval_of}
-use Rattle.jr_piece.specs.Strips.{TellsSound}
+use Rattle.jr_scan.specs.Mcus.{TellsSound}
+use Rattle.jr_scan.specs.declared.cursor.Cursor.{Cursor}
 use Rattle.jr_rows.specs.Rows.{CountsMarks}
-use Rattle.jr_piece.specs.declared.cursor.Cursor.{Cursor}
 use Rattle.jr_arrival.specs.PartialRows.{ReadsTo}
 use Rattle.jr_arrival.proofs.Marks.{counted}
 use Rattle.jr_arrival.proofs.Readings.{at_the_start, becomes_itself}

@@ -1,7 +1,7 @@
 use Rattle.std.proofs.Common.{◌≡◌, ◌<◌, ◌≤◌, inl, sym, ap, subst, arith}
 use Rattle.jr_head.specs.HeadValue.{HeadValue}
 use Rattle.jr_head.specs.Intervals.{mcus_in}
-use Rattle.jr_piece.specs.declared.cursor.Cursor.{Cursor}
+use Rattle.jr_scan.specs.declared.cursor.Cursor.{Cursor}
 use Rattle.jr_arrival.specs.PartialSources.{partial_source_of}
 use Rattle.jr_arrival.specs.Sources.{Steps}
 use Rattle.jr_arrival.proofs.PartialSteps.{begins, begins_some}

@@ -3,8 +3,8 @@ use Rattle.jr_head.specs.HeadValue.{HeadValue}
 use Rattle.jr_head.specs.Intervals.{intervals_of}
 use Rattle.jr_scan.specs.IntervalValue.{IntervalValue}
 use Rattle.jr_scan.specs.ScanValue.{interval_of}
-use Rattle.jr_piece.specs.Strips.{CanReadFrom}
-use Rattle.jr_piece.specs.declared.cursor.Cursor.{Cursor}
+use Rattle.jr_scan.specs.Run.{CanReadFrom}
+use Rattle.jr_scan.specs.declared.cursor.Cursor.{Cursor}
 use Rattle.jr_arrival.specs.PartialRows.{ReadsTo}
 use Rattle.jr_arrival.proofs.PartialSteps.{none_whole, walks_whole}
 use Rattle.jr_arrival.proofs.partial_source.PartialSourceMcuSource.take_some.Goals as goal

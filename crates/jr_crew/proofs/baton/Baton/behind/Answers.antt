@@ -1,5 +1,5 @@
 use Rattle.std.proofs.Common.{rules, arith, subst, Option}
-use Rattle.jr_picture.specs.FirstIntervalsValue.{FirstIntervalsValue}
+use Rattle.jr_scan.specs.FirstIntervalsValue.{FirstIntervalsValue}
 use Rattle.jr_crew.specs.Crew.{HaveNext}
 use Rattle.jr_crew.proofs.baton.Baton.behind.Goals as goal
 

@@ -1,6 +1,6 @@
 use Rattle.std.proofs.Common.{Option, sym, subst}
+use Rattle.jr_scan.specs.FirstIntervalsValue.{FirstIntervalsValue}
 use Rattle.jr_crew.specs.Crew.{HaveNext}
-use Rattle.jr_picture.specs.FirstIntervalsValue.{FirstIntervalsValue}
 use Rattle.jr_crew.proofs.baton.Baton.with_guesses.Goals as goal
 
 pub invariant_of-result : goal.invariant_of-result

@@ -1,5 +1,5 @@
 use Rattle.std.proofs.Common.{rules, subst, ◌≡◌, ℕ, ◌-◌, take, drop}
-use Rattle.jr_picture.specs.FirstIntervalsValue.{FirstIntervalsValue}
+use Rattle.jr_scan.specs.FirstIntervalsValue.{FirstIntervalsValue}
 use Rattle.jr_rows.specs.Rows.{CountsRow, ShowsLines}
 use Rattle.jr_crew.proofs.caller.CallerRowPainter.paint.Goals as goal
 

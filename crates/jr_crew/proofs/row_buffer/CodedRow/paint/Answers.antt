@@ -1,7 +1,7 @@
 use Rattle.std.proofs.Common.{rules, arith, sym, subst, ◌≡◌, ℕ, ◌*◌, ◌≤◌, Option, List, length}
 use Rattle.jr_head.specs.Geometry.{vertical_max}
+use Rattle.jr_scan.specs.FirstIntervalsValue.{FirstIntervalsValue}
 use Rattle.jr_paint.specs.Lines.{line_room, line_size}
-use Rattle.jr_picture.specs.FirstIntervalsValue.{FirstIntervalsValue}
 use Rattle.jr_rows.proofs.Lent.{all_back}
 use Rattle.jr_crew.specs.RowBuffer.{HasLineRoom, HasRoom, HasSamples, HasWork, IsPainted, IsRead}
 use Rattle.jr_crew.proofs.row_buffer.CodedRow.paint.Goals as goal

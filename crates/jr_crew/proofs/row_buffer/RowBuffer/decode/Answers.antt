@@ -1,8 +1,8 @@
 use Rattle.std.proofs.Common.{rules, arith, sym, subst, ◌≡◌, ℕ, ◌*◌, ◌≤◌, Option, List, length, take}
 use Rattle.std.specs.Option.{IfSome}
 use Rattle.jr_head.specs.Geometry.{vertical_max}
+use Rattle.jr_scan.specs.FirstIntervalsValue.{FirstIntervalsValue}
 use Rattle.jr_paint.specs.Lines.{line_size}
-use Rattle.jr_picture.specs.FirstIntervalsValue.{FirstIntervalsValue}
 use Rattle.jr_rows.specs.Rows.{CountsRow, ShowsLines, line_count}
 use Rattle.jr_rows.proofs.Lent.{all_back}
 use Rattle.jr_crew.specs.RowBuffer.{HasRoom, HasSamples, HasWork, IsPainted}

@@ -1,12 +1,12 @@
 use Rattle.std.proofs.Common.{◌≡◌, ◌*◌, ◌<◌, ℕ, List, length, sym, ap, subst, ◌∙◌, rules}
 use Rattle.std.proofs.Math.Nat.{mul-pos}
 use Rattle.jr_head.specs.Geometry.{order_of}
+use Rattle.jr_scan.proofs.ScanLaws.{one_front, shorter_front}
 use Rattle.jr_piece.specs.Outcome.{IsOutcome}
 use Rattle.jr_piece.specs.Strips.{shared_strips, mcus_of_each}
 use Rattle.jr_piece.specs.DataUnits.{AreEven, units_of_strips}
 use Rattle.jr_piece.proofs.StripPieces.{are_even, ordered, some_mcus, tell_outcome}
 use Rattle.jr_piece.proofs.Strips.{all_there, meet}
-use Rattle.jr_piece.proofs.ScanLaws.{one_front, shorter_front}
 use Rattle.jr_piece.proofs.piece.Piece.of_strips.Goals as goal
 
 pub of_strips-requires-clause-some : goal.of_strips-requires-clause-some

@@ -4,10 +4,10 @@ use Rattle.jr_head.specs.Geometry.{IsLawful}
 use Rattle.jr_scan.specs.declared.place.RunEnd.TheVariants.{AllRead}
 use Rattle.jr_scan.specs.IntervalValue.{IntervalValue}
 use Rattle.jr_scan.specs.Run.{RunOf, run_from, IsRun}
+use Rattle.jr_scan.proofs.CursorRuns.{all_read}
+use Rattle.jr_scan.proofs.ScanLaws.{one_run}
 use Rattle.jr_piece.specs.Outcome.{AreSamples}
 use Rattle.jr_piece.specs.Strips.{IsStrip}
-use Rattle.jr_piece.proofs.StripRuns.{all_read}
-use Rattle.jr_piece.proofs.ScanLaws.{one_run}
 use Rattle.jr_piece.proofs.placed_strip.PlacedStrip.decode_by.Goals as goal
 
 pub of-requires : goal.of-requires

@@ -2,10 +2,9 @@ use Rattle.std.proofs.Common.{◌<◌, Bool, List, ap, subst, ◌∙◌, arith}
 use Rattle.std.specs.Prelude.{ℤ}
 use Rattle.std.specs.Arc.{arc_value}
 use Rattle.jr_scan.specs.IntervalValue.{IntervalValue}
-use Rattle.jr_scan.specs.Mcus.{HasNoDecoding, Decodes, Front, HasDecoding, HasLongestFront}
-use Rattle.jr_piece.specs.StripValue.{ReadingValue}
-use Rattle.jr_piece.specs.Strips.{TellsSound}
-use Rattle.jr_piece.proofs.CursorSteps.{all_decode, cut_short}
+use Rattle.jr_scan.specs.Mcus.{HasNoDecoding, Decodes, Front, HasDecoding, HasLongestFront, TellsSound}
+use Rattle.jr_scan.specs.Cursors.{ReadingValue}
+use Rattle.jr_scan.proofs.CursorSteps.{all_decode, cut_short}
 use Rattle.jr_piece.proofs.strip_reader.StripReader.is_sound.Goals as goal
 
 abbrev Sound : ReadingValue → Type 0

@@ -2,8 +2,8 @@ use Rattle.std.proofs.Common.{◌≡◌, ℕ, sym, ap, subst, arith, rules}
 use Rattle.std.specs.Arc.{arc_value}
 use Rattle.jr_scan.specs.IntervalValue.{IntervalValue}
 use Rattle.jr_scan.specs.Mcus.{HasLongestFront}
+use Rattle.jr_scan.specs.Cursors.{IsPlaceAfter}
 use Rattle.jr_piece.specs.StripValue.{PlacedStripValue}
-use Rattle.jr_piece.specs.Cursors.{IsPlaceAfter}
 use Rattle.jr_piece.proofs.strip_reader.StripReader.skip_by.Goals as goal
 
 -- the longest prefix of the reader's interval

@@ -2,8 +2,8 @@ use Rattle.std.proofs.Common.{arith, subst, sym, ap, ℕ, ◌∙◌, ◌≡◌, 
 use Rattle.jr_head.specs.HeadValue.{HeadValue}
 use Rattle.jr_head.specs.Geometry.{mcus_across, mcus_of}
 use Rattle.jr_scan.specs.ScanValue.{ScanValue, intervals_of}
+use Rattle.jr_scan.specs.Cursors.{interval_start}
 use Rattle.jr_picture.specs.Headline.{interval_number, within_interval}
-use Rattle.jr_piece.specs.Cursors.{interval_start}
 use Rattle.jr_rows.specs.Cursors.{IsCursorOf, mcus_to}
 use Rattle.jr_rows.proofs.RowCursors.{start_to, starts}
 use Rattle.jr_rows.specs.Rows.{coded_before}

@@ -1,7 +1,7 @@
 use Rattle.std.proofs.Common.{rules, arith, ap, ◌∙◌, ◌≡◌, ◌*◌, ◌<◌, ◌≤◌, min, length}
 use Rattle.jr_head.specs.Geometry.{mcus_of}
 use Rattle.jr_scan.specs.ScanValue.{intervals_of}
-use Rattle.jr_piece.specs.Cursors.{interval_start}
+use Rattle.jr_scan.specs.Cursors.{interval_start}
 use Rattle.jr_rows.proofs.RowCursors.{start_to, starts}
 use Rattle.jr_rows.proofs.WholeRows.{row_there, row_at}
 use Rattle.jr_rows.proofs.rows.Rows.from.Goals as goal

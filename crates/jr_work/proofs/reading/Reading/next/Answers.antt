@@ -1,8 +1,8 @@
 use Rattle.std.proofs.Common.{rules, ◌≡◌, ◌<◌, sym, subst, ap}
 use Rattle.std.specs.Option.{IfNone}
 use Rattle.jr_scan.specs.Mcus.{HasLongestFront}
+use Rattle.jr_scan.specs.Cursors.{ReadingValue}
 use Rattle.jr_work.specs.Sharing.{IsOneOf}
-use Rattle.jr_piece.specs.StripValue.{ReadingValue}
 use Rattle.jr_piece.specs.Strips.{TellsEnd}
 use Rattle.jr_work.proofs.Gathering.{tells_end}
 use Rattle.jr_work.proofs.reading.Reading.next.Goals as goal

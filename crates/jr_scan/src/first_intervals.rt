@@ -1,10 +1,9 @@
 //! The part of a scan that is decoded: its first intervals, or all.
 
 ghost use Rattle.std.specs.Prelude.{◌≡◌, ◌≤◌, length};
-ghost use Rattle.jr_picture.specs.Headline.{least};
-ghost use Rattle.jr_picture.specs.FirstIntervalsValue.{FirstIntervalsValue};
+ghost use Rattle.jr_scan.specs.FirstIntervalsValue.{FirstIntervalsValue, least};
 
-use jr_scan::Scan;
+use crate::scan::Scan;
 use std::marker::Model;
 
 /// A scan, of which the first intervals are decoded; the others are blank.
@@ -16,7 +15,7 @@ pub struct FirstIntervals<'a> {
 
 impl<'a> Model for FirstIntervals<'a> {
     ghost use Rattle.std.specs.Prelude.{◌≤◌, length};
-    ghost use Rattle.jr_picture.specs.FirstIntervalsValue.{FirstIntervalsValue};
+    ghost use Rattle.jr_scan.specs.FirstIntervalsValue.{FirstIntervalsValue};
 
     ghost Value = { FirstIntervalsValue };
 

@@ -4,9 +4,9 @@ use Rattle.jr_head.specs.Geometry.{IsLawful, order_of}
 use Rattle.jr_scan.specs.declared.place.Place.{Place}
 use Rattle.jr_scan.specs.McuReader.{per_mcu}
 use Rattle.jr_scan.specs.Run.{RunOf}
-use Rattle.jr_piece.specs.Cursors.{TakesMcus}
-use Rattle.jr_piece.proofs.CursorSteps.{GoesOn, after, takes}
-use Rattle.jr_piece.proofs.cursor.Cursor.take.Goals as goal
+use Rattle.jr_scan.specs.Cursors.{TakesMcus}
+use Rattle.jr_scan.proofs.CursorSteps.{GoesOn, after, takes}
+use Rattle.jr_scan.proofs.cursor.Cursor.take.Goals as goal
 
 abbrev Taken : Type 0
 Taken = goal.After-self-2-1

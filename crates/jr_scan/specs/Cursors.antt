@@ -1,13 +1,11 @@
--- A cursor between two MCUs of an interval, and the whole MCUs that are taken from there.
-use Rattle.std.specs.Prelude.{◌≡◌, ℕ, ◌+◌, ◌<◌, ◌≤◌, List, ℤ, Option, Some, None}
+-- A cursor between two MCUs of an interval, and the MCUs that are taken or read from there.
+use Rattle.std.specs.Prelude.{◌≡◌, ℕ, ◌+◌, ◌<◌, ◌≤◌, List, [], length, replicate, ℤ, pos, slice_index_or, Option, Some, None}
 use Rattle.jr_scan.specs.declared.place.Place.{Place}
 use Rattle.jr_scan.specs.declared.place.RunEnd.TheVariants.{AllRead}
 use Rattle.jr_scan.specs.IntervalValue.{IntervalValue}
-use Rattle.jr_scan.specs.Mcus.{HasLongestFront, LongestFront}
-use Rattle.jr_scan.specs.Run.{IsRun, run_from, start_of_interval}
-use Rattle.jr_piece.specs.StripValue.{ReadingValue}
-use Rattle.jr_piece.specs.Strips.{AreBlocks, IsNext}
-use Rattle.jr_piece.specs.declared.cursor.Cursor.{Cursor}
+use Rattle.jr_scan.specs.Mcus.{AreBlocks, HasLongestFront, LongestFront, units_before}
+use Rattle.jr_scan.specs.Run.{IsNext, IsRun, run_from, start_of_interval}
+use Rattle.jr_scan.specs.declared.cursor.Cursor.{Cursor}
 
 -- the first `mcu` MCUs of an interval are before this position; if it is `None`, no further one is whole
 pub record IsPlaceAfter (i : IntervalValue) (mcu : ℕ) (place : Option Place) : Type 0 where
@@ -27,7 +25,21 @@ pub record TakesMcus (i : IntervalValue) (first : ℕ) (from : Place) (most n : 
   pub last : n < most → HasLongestFront i (first + n)
   pub none : next ≡ None → HasLongestFront i (first + n)
 
--- what a reader of strips keeps: all MCUs before its position are whole
+-- a block whose coefficients are all 0
+abbrev pub zero_block : List ℤ
+zero_block = replicate 64 (pos 0)
+
+-- these are the blocks of an interval starting at MCU `first`: those of its longest prefix, and zeros after it
+abbrev pub AreBlocksFrom : IntervalValue → ℕ → List (List ℤ) → Type 0
+AreBlocksFrom i first blocks = (front : ℕ) (zs : List (List ℤ)) → LongestFront i front zs → (k : ℕ) → k < length blocks → slice_index_or blocks k [] ≡ slice_index_or zs (units_before i first + k) zero_block
+
+-- an interval, the number of its MCUs that are read, and where the next one starts; no position if no whole MCU follows
+pub record ReadingValue : Type 0 where
+  pub interval : IntervalValue
+  pub first : ℕ
+  pub next : Option Place
+
+-- what a reader of whole MCUs alone keeps: all MCUs before its position are whole
 pub record IsReading (r : ReadingValue) : Type 0 where
   pub at : IsPlaceAfter r.interval r.first r.next
   pub longest : r.next ≡ None → HasLongestFront r.interval r.first

@@ -2,29 +2,20 @@
 use Rattle.std.proofs.Common.{◌≡◌, ℕ, ◌+◌, ◌-◌, ◌*◌, ◌<◌, ◌≤◌, min, Bool, true, false, inl, inr, Option, Some, None, List, [], length, length-append, get_or, take, refl, sym, ap, subst, ◌∙◌, arith}
 use Rattle.std.specs.Prelude.{ℤ}
 use Rattle.std.proofs.lemmas.Bool.{cases_lt}
-use Rattle.std.proofs.lemmas.List.{get_or-take}
+use Rattle.std.proofs.lemmas.List.{get_or-drop, get_or-take, get_or_default, get_or_past}
 use Rattle.std.proofs.Math.Nat.{add-mul, mul-le-mul_right}
-use Rattle.jr_head.specs.Geometry.{IsLawful, order_of, quantiser_of}
-use Rattle.jr_idct.specs.Transform.{samples}
-use Rattle.jr_idct.proofs.Zeros.{grey}
-use Rattle.jr_mcu.specs.Mcus.{component}
+use Rattle.jr_head.specs.Geometry.{IsLawful, order_of}
 use Rattle.jr_scan.specs.declared.place.Place.{Place}
 use Rattle.jr_scan.specs.declared.place.RunEnd.TheVariants.{AllRead}
 use Rattle.jr_scan.specs.IntervalValue.{IntervalValue}
-use Rattle.jr_scan.specs.Mcus.{Decodes, Front, HasDecoding, HasLongestFront, HasNoDecoding}
+use Rattle.jr_scan.specs.Mcus.{Decodes, Front, HasDecoding, HasLongestFront, HasNoDecoding, LongestFront, TellsSound, units_before}
 use Rattle.jr_scan.specs.McuReader.{HasEnded, HasRead, McuReaderValue}
-use Rattle.jr_scan.specs.Run.{IsRun, RunOf, left_at, run_from, start_of_interval, whole_run}
+use Rattle.jr_scan.specs.Run.{IsRun, RunOf, left_at, run_from, start_of_interval, whole_run, CanReadFrom, FirstMcus, IsNext}
 use Rattle.jr_scan.proofs.McuReaders.{left_is, no_room}
-use Rattle.jr_piece.specs.Cursors.{IsPlaceAfter, TakesMcus}
-use Rattle.jr_piece.specs.PieceValue.{PieceValue}
-use Rattle.jr_piece.specs.Outcome.{IsOutcome, unit_of}
-use Rattle.jr_piece.specs.Strips.{CanReadFrom, FirstMcus, IsNext, TellsSound, units_before}
-use Rattle.jr_piece.specs.Units.{CodesUnits, unit_in_piece, zero_block}
-use Rattle.jr_piece.proofs.CodedUnits.{blocks_code, grey_codes}
-use Rattle.jr_piece.proofs.ScanLaws as laws
-use Rattle.jr_piece.proofs.StripRuns as runs
-use Rattle.jr_piece.proofs.Strips.{whole_longest}
-use Rattle.jr_piece.proofs.UnitReading.{tells, zero_unit}
+use Rattle.jr_scan.specs.Cursors.{IsPlaceAfter, TakesMcus, zero_block}
+use Rattle.jr_scan.proofs.ScanLaws as laws
+use Rattle.jr_scan.proofs.CursorRuns as runs
+use Rattle.jr_scan.proofs.LongestFronts.{whole_longest}
 
 -- what a reader has taken of at most m MCUs starting at a position
 pub record GoesOn (i : IntervalValue) (p : Place) (m n : ℕ) (ys : List (List ℤ)) (r r' : McuReaderValue) : Type 0 where
@@ -94,31 +85,40 @@ module _ (i : IntervalValue) (first mcus n m : ℕ) (q : Option Place) (is : m �
   module _ (place : Option Place) (new us : List (List ℤ)) (nothing : place ≡ None → n ≡ 0) (long : length us ≡ mcus * length (order_of i.head))
       (some : (p : Place) → place ≡ Some p → (ys : List (List ℤ)) × TakesMcus i first p mcus n ys q × (true ≡ true → take (n * length (order_of i.head)) new ≡ ys))
       (kept : (k : ℕ) → k < n * length (order_of i.head) → get_or us k [] ≡ get_or new k []) (zeros : (k : ℕ) → n * length (order_of i.head) ≤ k → k < length us → get_or us k [] ≡ zero_block)
-      (o : PieceValue) (out : IsOutcome o) (e : o.interval ≡ i) where
+      (front : ℕ) (zs : List (List ℤ)) (longest : LongestFront i front zs) where
     abbrev per : ℕ
     per = length (order_of i.head)
 
-    whole : (k : ℕ) → k < n * per → unit_of i.head us k ≡ unit_in_piece o (first * per + k)
+    whole : (k : ℕ) → k < n * per → get_or us k [] ≡ get_or zs (first * per + k) zero_block
     whole k lt = go place refl
       where
-        go : (p : Option Place) → place ≡ p → unit_of i.head us k ≡ unit_in_piece o (first * per + k)
+        go : (p : Option Place) → place ≡ p → get_or us k [] ≡ get_or zs (first * per + k) zero_block
         go None none = let zero : n * per ≡ 0 * per = ap (λ (j : ℕ). j * per) (nothing none) in absurd (omega (arith, zero, lt))
         go (Some p) there =
             let t = some p there in
-            ap (λ (z : List ℤ). samples z (quantiser_of i.head (component i.head k))) (kept k lt ∙ sym (get_or-take (n * per) new k [] lt) ∙ ap (λ (l : List (List ℤ)). get_or l k []) (t.2 refl)) ∙ blocks_code i first n t.0 t.1.are o e out k lt
+            let are = t.1.are in
+            let j = first * per + k in
+            let far : first + n ≤ front = longest.longest (first + n) are.all are.front in
+            let most : (first + n) * per ≤ front * per = mul-le-mul_right per far in
+            let within : j < (first + n) * per = omega (arith, lt, add-mul first n per) in
+            let e : take ((first + n) * per) zs ≡ are.all = laws.one_front i (first + n) (take ((first + n) * per) zs) are.all (laws.shorter_front i (first + n) front zs far longest.front) are.front in
+            kept k lt ∙ sym (get_or-take (n * per) new k [] lt) ∙ ap (λ (l : List (List ℤ)). get_or l k []) (t.2 refl ∙ are.last) ∙ get_or-drop (first * per) are.all k []
+            ∙ ap (λ (l : List (List ℤ)). get_or l j []) (sym e) ∙ get_or-take ((first + n) * per) zs j [] within
+            ∙ get_or_default zs j [] zero_block (omega (arith, within, most, longest.front.mcus.0))
 
-    rest : (k : ℕ) → n * per ≤ k → k < length us → unit_of i.head us k ≡ unit_in_piece o (first * per + k)
+    rest : (k : ℕ) → n * per ≤ k → k < length us → get_or us k [] ≡ get_or zs (first * per + k) zero_block
     rest k ge lt =
         let less : n < mcus = elim (cases_lt n mcus) [
           | inl l ↦ l
           | inr all ↦ let past : mcus * per ≤ n * per = mul-le-mul_right {m = mcus} {n = n} per all in absurd (omega (arith, past, ge, lt, long))
         ] in
         let far = at.none (stuck less (omega (arith, is, few, less))) in
-        let there : first * per + k ≡ (first + n) * per + (k - n * per) = omega (arith, ge, add-mul first n per) in
-        zero_unit grey i.head us k (zeros k ge lt) ∙ grey_codes i far.0 (first + n) far.1 (omega (arith, far.2, is)) far.4 o e out (k - n * per) ∙ ap (unit_in_piece o) (sym there)
+        let le : front ≤ first + n = omega (arith, far.4.longest front zs longest.front, far.2, is) in
+        let past : front * per ≤ (first + n) * per = mul-le-mul_right {m = front} {n = first + n} per le in
+        zeros k ge lt ∙ sym (get_or_past zs (first * per + k) zero_block (omega (arith, past, ge, longest.front.mcus.0, add-mul first n per)))
 
-    pub codes : CodesUnits o (units_before i first) us
-    codes k lt = ap (λ (v : IntervalValue). unit_of v.head us k) e ∙ elim (cases_lt k (n * per)) [
+    pub reads : (k : ℕ) → k < length us → get_or us k [] ≡ get_or zs (units_before i first + k) zero_block
+    reads k lt = elim (cases_lt k (n * per)) [
       | inl l ↦ whole k l
       | inr g ↦ rest k g lt
     ]
@@ -153,8 +153,3 @@ module _ (i : IntervalValue) (lawful : IsLawful i.head) (mcu : ℕ) (place : Opt
   pub tells_there : (b : Bool) → (b ≡ true → 8 * length i.bytes - p.bit < 8) → (b ≡ false → 8 * length i.bytes - p.bit < 8 → ⊥) → TellsSound b i
   tells_there true few many = (blocks, sound_there (few refl))
   tells_there false few many = bits_there (many refl)
-
--- each piece of an interval says whether the interval has a decoding
-pub outcome_tells : (i : IntervalValue) (b : Bool) → TellsSound b i → (p : PieceValue) → IsOutcome p → p.interval ≡ i → p.is_sound ≡ b
-outcome_tells i true told p o e = tells p i told.0 true e o (λ t. told.1) (λ f. absurd cc)
-outcome_tells i false told p o e = tells p i [] false e o (λ t. absurd cc) (λ f. told)

@@ -3,17 +3,18 @@
 ghost use Rattle.std.specs.Prelude.{◌≡◌, ◌+◌, ◌*◌, ◌<◌, ◌≤◌, ℕ, ℤ, true, List, Some, None, [], length, slice_index_or, take, IfSome};
 ghost use Rattle.jr_head.specs.Geometry.{IsLawful, order_of};
 ghost use Rattle.jr_scan.specs.declared.place.Place.{Place};
+ghost use Rattle.jr_scan.specs.Cursors.{AreBlocksFrom, IsPlaceAfter, TakesMcus, interval_start, zero_block};
 ghost use Rattle.jr_scan.specs.Guesses.{AreGuessesOf};
 ghost use Rattle.jr_scan.specs.McuReader.{HasEnded, HasRead, per_mcu};
-ghost use Rattle.jr_piece.specs.Cursors.{IsPlaceAfter, TakesMcus, interval_start};
-ghost use Rattle.jr_piece.specs.Outcome.{IsOutcome};
-ghost use Rattle.jr_piece.specs.PieceValue.{PieceValue};
-ghost use Rattle.jr_piece.specs.Strips.{CanReadFrom, TellsSound, units_before};
-ghost use Rattle.jr_piece.specs.Units.{CodesUnits, zero_block};
+ghost use Rattle.jr_scan.specs.Mcus.{TellsSound};
+ghost use Rattle.jr_scan.specs.Run.{CanReadFrom};
 
+use crate::guesses::Guesses;
+use crate::interval_ref::IntervalRef;
+use crate::mcu_reader::McuReader;
+use crate::place::Place;
 use jr_base::Coefficients;
 use jr_mcu::{Kept, Skipped};
-use jr_scan::{Guesses, IntervalRef, McuReader, Place};
 
 /// A position between two MCUs of a scan.
 #[derive(Clone, Copy)]
@@ -126,8 +127,7 @@ impl Cursor {
     }
 
     /// Reads the coefficients of the next MCUs of the interval, as many as fit into the slice. Those of an MCU that is
-    /// not whole, and all after it, are zeros, whose samples are grey. The speculative reads change nothing of what is
-    /// read.
+    /// not whole, and all after it, are zeros. The speculative reads change nothing of what is read.
     pub fn read(
         &mut self,
         interval: IntervalRef<'_>,
@@ -142,8 +142,7 @@ impl Cursor {
         ensures at { IsPlaceAfter interval.entry self.new.mcu self.new.place }
         ensures number { self.new.number ≡ self.old.number }
         ensures mcu { self.new.mcu ≡ self.old.mcu + mcus }
-        ensures blocks { (p : PieceValue) → IsOutcome p → p.interval ≡ interval.entry
-            → CodesUnits p (units_before interval.entry self.old.mcu) blocks.new }
+        ensures blocks { AreBlocksFrom interval.entry self.old.mcu blocks.new }
     {
         let per_mcu = interval.head().order().len();
         self.mcu += mcus;

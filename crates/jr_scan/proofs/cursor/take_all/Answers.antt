@@ -2,7 +2,7 @@ use Rattle.std.proofs.Common.{inr, ◌≡◌, ℕ, ◌+◌, ◌*◌, ◌<◌, �
 use Rattle.std.proofs.Math.Nat.{mul-le-mul_right}
 use Rattle.jr_scan.specs.McuReader.{per_mcu}
 use Rattle.jr_scan.proofs.McuReaders.{read_on}
-use Rattle.jr_piece.proofs.cursor.take_all.Goals as goal
+use Rattle.jr_scan.proofs.cursor.take_all.Goals as goal
 
 -- the blocks of a further MCU have space if fewer are taken than there is space for
 one_more : (n mcus per long : ℕ) → n < mcus → mcus * per ≤ long → (n + 1) * per ≤ long

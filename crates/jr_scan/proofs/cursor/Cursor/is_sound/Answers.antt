@@ -1,8 +1,8 @@
 use Rattle.std.proofs.Common.{arith, subst, ap, ◌≡◌, ◌-◌, ◌*◌, ◌<◌, ℕ, false, true, nat_lt, List, length}
 use Rattle.jr_head.specs.Geometry.{IsLawful}
-use Rattle.jr_piece.specs.Strips.{TellsSound}
-use Rattle.jr_piece.proofs.CursorSteps.{cut_short, tells_there}
-use Rattle.jr_piece.proofs.cursor.Cursor.is_sound.Goals as goal
+use Rattle.jr_scan.specs.Mcus.{TellsSound}
+use Rattle.jr_scan.proofs.CursorSteps.{cut_short, tells_there}
+use Rattle.jr_scan.proofs.cursor.Cursor.is_sound.Goals as goal
 
 pub returns-in_default : goal.returns-in_default
 returns-in_default c = let far = c.requires.at.none c.in_default.is in cut_short c.args.interval.now far.0 far.3 (far.1, far.4)

@@ -1,6 +1,6 @@
 -- Runs of an interval that follow one another, and the prefixes that they are.
 use Rattle.std.proofs.Common.{◌≡◌, ℕ, zero, suc, ◌+◌, ◌-◌, ◌*◌, ◌<◌, ◌≤◌, min, inl, inr, Option, Some, None, List, [], ◌++◌, length, take, drop, refl, sym, ap, subst, ◌∙◌, arith}
-use Rattle.std.specs.Prelude.{◌↔◌, ℤ}
+use Rattle.std.specs.Prelude.{ℤ}
 use Rattle.std.specs.List.{All}
 use Rattle.std.proofs.lemmas.Bool.{cases_lt}
 use Rattle.std.proofs.Math.Seq.{drop-append_seam, take-append_seam}
@@ -10,15 +10,14 @@ use Rattle.jr_scan.specs.declared.place.RunEnd.{RunEnd}
 use Rattle.jr_scan.specs.declared.place.RunEnd.TheVariants.{AllRead, NoMcu}
 use Rattle.jr_mcu.specs.Block.{IsInDcRange}
 use Rattle.jr_scan.specs.IntervalValue.{IntervalValue}
-use Rattle.jr_scan.specs.Mcus.{Decodes, Front, LongestFront}
+use Rattle.jr_scan.specs.Mcus.{Front, LongestFront, AreBlocks}
 use Rattle.jr_mcu.specs.Mcus.{no_predictions}
-use Rattle.jr_scan.specs.Run.{RunOf, start_of_interval, run_from, HasNoMcu, IsRun, RunRead, IsSoundRun}
+use Rattle.jr_scan.specs.Run.{RunOf, start_of_interval, run_from, HasNoMcu, IsRun, RunRead, CanReadFrom, FirstMcus, IsNext}
 use Rattle.jr_scan.specs.McuReader.{McuReaderValue, HasRead, HasEnded}
 use Rattle.jr_mcu.proofs.McuLaws.{no_blocks}
 use Rattle.jr_scan.proofs.McuReaders.{front_of_run, run_of_front}
-use Rattle.jr_piece.specs.Cursors.{IsPlaceAfter, TakesMcus}
-use Rattle.jr_piece.specs.Strips.{AreBlocks, CanReadFrom, FirstMcus, IsNext}
-use Rattle.jr_piece.proofs.Strips.{ShorterFront}
+use Rattle.jr_scan.specs.Cursors.{IsPlaceAfter, TakesMcus}
+use Rattle.jr_scan.proofs.ScanLaws.{ShorterFront}
 
 -- a list begins with the slice that was written over its first elements
 pub written : (n : ℕ) (xs ys : List (List ℤ)) → length xs ≡ n → take n (xs ++ ys) ≡ xs
@@ -44,12 +43,6 @@ module _ (r r' : McuReaderValue) (j i : IntervalValue) (from : Place) (m n : ℕ
 
   pub passed_part : (n < m → HasEnded r') → FirstMcus (run_from i from m) n ys
   passed_part ended = record { to = r'.place; run = passed_place; none = λ lt. none_follows (ended lt) lt }
-
-abbrev pub OneRun : Type 0
-OneRun = (r : RunOf) (a b : RunRead r) → IsLawful r.interval.head → (a.blocks ≡ b.blocks) × (a.to ≡ b.to) × (a.end ≡ b.end)
-
-abbrev pub RunsMeet : Type 0
-RunsMeet = (i : IntervalValue) (p : Place) (k m : ℕ) (a : RunRead (run_from i p k)) (b : RunRead (run_from i a.to m)) → IsLawful i.head → a.end ≡ AllRead → IsRun (run_from i p (k + m)) (a.blocks ++ b.blocks) b.to b.end
 
 abbrev read : (r : RunOf) (zs : List (List ℤ)) (to : Place) (end : RunEnd) → IsRun r zs to end → RunRead r
 read r zs to end is = record { blocks = zs; to = to; end = end; is = is }
@@ -152,6 +145,3 @@ module _ (one : OneRun) (meet : RunsMeet) (shorter : ShorterFront) (i : Interval
     ];
     none = λ e. (zs ++ ys, longest (none e));
   }
-
-abbrev pub WholeRun : Type 0
-WholeRun = (i : IntervalValue) (zs : List (List ℤ)) → Decodes i zs ↔ IsSoundRun i zs

@@ -8,10 +8,10 @@ use Rattle.jr_scan.specs.Guesses.{AreGuessesOf}
 use Rattle.jr_scan.specs.McuReader.{HasEnded, HasRead, McuReaderValue, per_mcu}
 use Rattle.jr_scan.specs.Run.{RunOf}
 use Rattle.jr_scan.proofs.McuReaders.{read_on}
-use Rattle.jr_piece.specs.Cursors.{IsPlaceAfter, TakesMcus}
-use Rattle.jr_piece.proofs.CursorSteps.{GoesOn, after, codes, onward, takes}
-use Rattle.jr_piece.proofs.cursor.Cursor.read.Goals as goal
-use Rattle.jr_piece.proofs.cursor.Cursor.read.Goals.{in-Some-guesses, in-None}
+use Rattle.jr_scan.specs.Cursors.{IsPlaceAfter, TakesMcus}
+use Rattle.jr_scan.proofs.CursorSteps.{GoesOn, after, onward, reads, takes}
+use Rattle.jr_scan.proofs.cursor.Cursor.read.Goals as goal
+use Rattle.jr_scan.proofs.cursor.Cursor.read.Goals.{in-Some-guesses, in-None}
 
 abbrev Taken : Type 0
 Taken = goal.After-blocks-2-1
@@ -99,7 +99,7 @@ returns-clause-at c =
     subst (λ (k : ℕ). IsPlaceAfter c.args.interval k c.place_after-self.result) all far
 
 pub returns-clause-blocks : goal.returns-clause-blocks
-returns-clause-blocks c = λ o out e.
+returns-clause-blocks c = λ front zs longest.
     let n = c.match-guesses.whole in
     let new = c.match-guesses.blocks in
     let us = c.zero_from-2.new.blocks in
@@ -108,14 +108,14 @@ returns-clause-blocks c = λ o out e.
     let long : length us ≡ c.args.mcus * per = c.zero_from-2.auto.blocks ∙ c.match-guesses.auto.blocks ∙ c.requires.room in
     let next = c.requires.at.next c.in-Some.from c.in-Some.is in
     let q = c.place_after-self.ensures in
-    codes c.args.interval c.args.self.now.mcu c.args.mcus n (c.args.self.now.mcu + n) c.place_after-self.result refl (whole_at c) c.requires.few (done c).few (stuck c)
+    reads c.args.interval c.args.self.now.mcu c.args.mcus n (c.args.self.now.mcu + n) c.place_after-self.result refl (whole_at c) c.requires.few (done c).few (stuck c)
     c.args.self.now.place new us (λ none. let z = sym none ∙ c.in-Some.is in absurd cc) long
     (λ p there.
     let same : c.in-Some.from ≡ p = let two = sym c.in-Some.is ∙ there in cc in
     let took = takes c.args.interval (lawful c) c.args.self.now.mcu c.args.mcus n c.in-Some.from next.0 next.1 c.requires.few (done c).few (blocks c) c.at-reader.result c.match-guesses.reader (on c)
     c.place_after-self.result q.place q.can q.none c.args.mcus (omega (arith, c.requires.few)) in
     (blocks c, subst (λ x. TakesMcus c.args.interval c.args.self.now.mcu x c.args.mcus n (blocks c) c.place_after-self.result) same took, λ t. ap (λ (k : ℕ). take (n * k) new) (sym (per_is c))))
-    (λ k lt. c.zero_from-2.ensures.kept k (omega (arith, lt, first))) (λ k ge lt. c.zero_from-2.ensures.zeros k (omega (arith, ge, first)) lt) o out e
+    (λ k lt. c.zero_from-2.ensures.kept k (omega (arith, lt, first))) (λ k ge lt. c.zero_from-2.ensures.zeros k (omega (arith, ge, first)) lt) front zs longest
 
 pub returns-in_default-clause-at : goal.returns-in_default-clause-at
 returns-in_default-clause-at c =
@@ -125,12 +125,12 @@ returns-in_default-clause-at c =
     subst (λ (k : ℕ). IsPlaceAfter c.args.interval k c.args.self.now.place) all far
 
 pub returns-in_default-clause-blocks : goal.returns-in_default-clause-blocks
-returns-in_default-clause-blocks c = λ o out e.
+returns-in_default-clause-blocks c = λ front zs longest.
     let none = c.in_default.is in
     let us = c.zero_from.new.blocks in
-    codes c.args.interval c.args.self.now.mcu c.args.mcus 0 c.args.self.now.mcu c.args.self.now.place (omega arith) c.requires.at c.requires.few (omega arith) (λ lt more. none)
+    reads c.args.interval c.args.self.now.mcu c.args.mcus 0 c.args.self.now.mcu c.args.self.now.place (omega arith) c.requires.at c.requires.few (omega arith) (λ lt more. none)
     c.args.self.now.place us us (λ n. refl) (c.zero_from.auto.blocks ∙ c.requires.room) (λ p there. let z = sym none ∙ there in absurd cc)
-    (λ k lt. refl) (λ k ge lt. c.zero_from.ensures.zeros k (omega arith) lt) o out e
+    (λ k lt. refl) (λ k ge lt. c.zero_from.ensures.zeros k (omega arith) lt) front zs longest
 
 pub at-reader-requires-clause-within : goal.at-reader-requires-clause-within
 at-reader-requires-clause-within c = (c.requires.at.next c.in-Some.from c.in-Some.is).1.can.0

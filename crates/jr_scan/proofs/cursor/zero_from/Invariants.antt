@@ -1,6 +1,6 @@
 use Rattle.std.proofs.Common.{◌≡◌, ℕ, ◌<◌, ◌≤◌, [], get_or}
-use Rattle.jr_piece.specs.Units.{zero_block}
-use Rattle.jr_piece.proofs.cursor.zero_from.Given as goal
+use Rattle.jr_scan.specs.Cursors.{zero_block}
+use Rattle.jr_scan.proofs.cursor.zero_from.Given as goal
 
 abbrev pub invariant-loop-k : goal.invariant-loop-k
 invariant-loop-k l = record {
