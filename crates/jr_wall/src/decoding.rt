@@ -12,6 +12,7 @@ ghost use Rattle.jr_wall.specs.DecodingValue.{strips_at, whole};
 ghost use Rattle.jr_wall.specs.Decoded.{IsDecoded};
 
 use crate::board::Board;
+use crate::job::Job;
 use crate::jobs::Jobs;
 use crate::strips::{hang_strip, open_strips};
 use crate::sweeping::{sweep, usable};
@@ -21,7 +22,7 @@ use jr_code::Memory;
 use jr_picture::Gate;
 use jr_piece::Piece;
 use jr_scan::{FirstIntervals, Scan};
-use jr_work::{Job, OneScan};
+use jr_work::OneScan;
 use std::alloc::Global;
 use std::marker::{Brand, Model};
 use std::sync::{Arc, Mutex, Wait};

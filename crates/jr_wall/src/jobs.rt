@@ -2,9 +2,10 @@
 
 ghost use Rattle.std.specs.Prelude.{◌≡◌, ◌<◌, ◌≤◌, length, Some};
 
+use crate::job::Job;
 use jr_cells::StripCells;
 use jr_scan::FirstIntervals;
-use jr_work::{Job, OneScan};
+use jr_work::OneScan;
 use std::alloc::Global;
 use std::sync::Arc;
 

@@ -6,13 +6,18 @@
 
 mod board;
 mod decoding;
+mod gathered;
 mod glimpse;
 mod headline;
+mod job;
 mod jobs;
 mod laws;
 mod painting;
+mod reading;
+mod strip_work;
 mod strips;
 mod sweeping;
+mod waiting_strip;
 mod workers;
 mod writing;
 
@@ -20,6 +25,7 @@ pub use board::{Board, Unposted};
 pub use decoding::Decoding;
 pub use glimpse::{Glimpse, glance};
 pub use headline::same_scan_has_the_picture;
+pub use job::Job;
 pub use jr_cells::{Cells, Desk, Drawn, Seat, Sight, StripCells, StripSight};
 pub use jr_picture::{Counts, Gate, Mark, OpenGate, blank_sample, one_picture};
 pub use jr_piece::{

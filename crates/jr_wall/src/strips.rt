@@ -1,14 +1,13 @@
 //! The cells of the strips of long intervals.
 
 ghost use Rattle.std.specs.Prelude.{◌≡◌, ◌<◌, ◌≤◌, length, IfOk, IfSome};
-ghost use Rattle.std.specs.Arc.{arc_value};
 ghost use Rattle.jr_wall.specs.DecodingValue.{AreNumbered};
 
+use crate::reading::strip_mcus;
 use jr_cells::{StripCells, StripSight};
 use jr_code::Memory;
 use jr_piece::Strip;
 use jr_scan::Scan;
-use jr_work::strip_mcus;
 use std::alloc::Global;
 use std::sync::Arc;
 

@@ -1,2 +1,1 @@
 pub mod Guessing
-pub mod Sharing

@@ -83,7 +83,7 @@ impl<S: OneScan> GuessQueue<S> {
     }
 
     /// Returns a queue of no speculative reads.
-    pub(crate) fn none(alloc: Global) -> GuessQueue<S>
+    pub fn none(alloc: Global) -> GuessQueue<S>
         ensures { result.at ≡ (0, 0) }
     {
         let start = (0, 0);

@@ -4,22 +4,22 @@ ghost use Rattle.std.specs.Prelude.{◌≡◌, ◌<◌, IfOk, IfSome, IfNone};
 ghost use Rattle.std.specs.Arc.{arc_value};
 ghost use Rattle.jr_scan.specs.Mcus.{HasLongestFront};
 ghost use Rattle.jr_scan.specs.Guesses.{AreGuessesOf};
-ghost use Rattle.jr_work.specs.Sharing.{IsOneOf, IsNextOf, interval_of_strip, HasItsGuesses};
+ghost use Rattle.jr_wall.specs.Sharing.{IsOneOf, IsNextOf, interval_of_strip, HasItsGuesses};
 
-use crate::OneScan;
-use crate::tuning::{MAX_UNITS_OF_STRIP, MIN_MCUS_OF_STRIP, MIN_STRIPS};
 use crate::waiting_strip::WaitingStrip;
 use jr_base::Coefficients;
 use jr_code::Memory;
 use jr_piece::StripReader;
 use jr_scan::{Guesses, Interval};
+use jr_work::OneScan;
+use jr_work::tuning::{MAX_UNITS_OF_STRIP, MIN_MCUS_OF_STRIP, MIN_STRIPS};
 use std::alloc::Global;
 use std::marker::{Model, PhantomData};
 use std::mem::replace;
 use std::sync::Arc;
 
 /// Returns the number of MCUs of each strip of a shared interval but the last.
-pub fn strip_mcus(interval: &Interval) -> u32
+pub(crate) fn strip_mcus(interval: &Interval) -> u32
     ensures { 0 < result }
 {
     let units = interval.head().order().len() as u32;
@@ -85,7 +85,7 @@ impl<S: OneScan> Model for Reading<S> {
     ghost use Rattle.std.specs.Prelude.{◌<◌};
     ghost use Rattle.jr_scan.specs.Guesses.{AreGuessesOf};
     ghost use Rattle.jr_scan.specs.IntervalValue.{IntervalValue};
-    ghost use Rattle.jr_work.specs.Sharing.{IsOneOf};
+    ghost use Rattle.jr_wall.specs.Sharing.{IsOneOf};
 
     ghost Value = { IntervalValue };
 

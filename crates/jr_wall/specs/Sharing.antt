@@ -11,11 +11,11 @@ use Rattle.jr_scan.specs.FirstIntervalsValue.{FirstIntervalsValue}
 use Rattle.jr_work.specs.Guessing.{OfPart}
 use Rattle.jr_piece.specs.StripValue.{StripValue}
 use Rattle.jr_piece.specs.Strips.{TellsEnd}
-use Rattle.jr_work.specs.declared.reading.End.{End}
-use Rattle.jr_work.specs.declared.reading.Next.{Next}
-use Rattle.jr_work.specs.declared.reading.Next.TheVariants.{Strip, End as Ended}
-use Rattle.jr_work.specs.declared.waiting_strip.WaitingStrip.{WaitingStrip}
-use Rattle.jr_work.specs.declared.waiting_strip.WaitingStrip.TheVariants.{Coded, Placed}
+use Rattle.jr_wall.specs.declared.reading.End.{End}
+use Rattle.jr_wall.specs.declared.reading.Next.{Next}
+use Rattle.jr_wall.specs.declared.reading.Next.TheVariants.{Strip, End as Ended}
+use Rattle.jr_wall.specs.declared.waiting_strip.WaitingStrip.{WaitingStrip}
+use Rattle.jr_wall.specs.declared.waiting_strip.WaitingStrip.TheVariants.{Coded, Placed}
 
 -- the interval is one of the scan's, if there is one
 abbrev pub IsOneOf : Option FirstIntervalsValue → IntervalValue → Type 0

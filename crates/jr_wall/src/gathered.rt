@@ -1,17 +1,17 @@
 //! The strips of a shared interval, kept until all are there.
 
-ghost use Rattle.std.specs.Prelude.{◌≡◌, IfOk, IfSome};
+ghost use Rattle.std.specs.Prelude.{◌≡◌, IfSome};
 ghost use Rattle.std.specs.List.{All};
 ghost use Rattle.std.specs.Arc.{arc_value};
 ghost use Rattle.jr_scan.specs.IntervalValue.{IntervalValue};
-ghost use Rattle.jr_work.specs.Sharing.{IsOneOf, IsEmptyOrOf, IsEndOf};
+ghost use Rattle.jr_wall.specs.Sharing.{IsOneOf, IsEmptyOrOf, IsEndOf};
 ghost use Rattle.jr_piece.specs.Strips.{AreOf, TellsEnd, shared_strips};
 
-use crate::OneScan;
 use crate::reading::{End, strip_mcus};
 use jr_code::Memory;
 use jr_piece::Strip;
 use jr_scan::Interval;
+use jr_work::OneScan;
 use std::alloc::Global;
 use std::marker::{Model, PhantomData};
 use std::sync::Arc;
@@ -33,7 +33,7 @@ impl<S: OneScan> Model for Gathered<S> {
     ghost use Rattle.std.specs.List.{All};
     ghost use Rattle.std.specs.Arc.{arc_value};
     ghost use Rattle.jr_scan.specs.IntervalValue.{IntervalValue};
-    ghost use Rattle.jr_work.specs.Sharing.{IsOneOf, IsEmptyOrOf};
+    ghost use Rattle.jr_wall.specs.Sharing.{IsOneOf, IsEmptyOrOf};
     ghost use Rattle.jr_piece.specs.Strips.{TellsEnd};
 
     ghost Value = { IntervalValue };

@@ -2,9 +2,9 @@ use Rattle.std.proofs.Common.{rules, subst}
 use Rattle.std.specs.List.{All}
 use Rattle.std.specs.Arc.{arc_value}
 use Rattle.jr_scan.specs.IntervalValue.{IntervalValue}
-use Rattle.jr_work.specs.Sharing.{IsEmptyOrOf}
+use Rattle.jr_wall.specs.Sharing.{IsEmptyOrOf}
 use Rattle.jr_piece.specs.Strips.{AreOf, shared_strips}
-use Rattle.jr_work.proofs.gathered.Gathered.take.Goals as goal
+use Rattle.jr_wall.proofs.gathered.Gathered.take.Goals as goal
 
 pub returns-clause-strips : goal.returns-clause-strips
 returns-clause-strips g c =

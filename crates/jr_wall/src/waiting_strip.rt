@@ -1,7 +1,7 @@
 //! A strip of a shared interval that waits for a free worker.
 
 ghost use Rattle.std.specs.Prelude.{◌≡◌, IfOk};
-ghost use Rattle.jr_work.specs.Sharing.{interval_of_strip, HasItsGuesses};
+ghost use Rattle.jr_wall.specs.Sharing.{interval_of_strip, HasItsGuesses};
 
 use jr_base::Coefficients;
 use jr_code::Memory;

@@ -2,10 +2,10 @@ use Rattle.std.proofs.Common.{rules, ◌≡◌, ◌<◌, sym, subst, ap}
 use Rattle.std.specs.Option.{IfNone}
 use Rattle.jr_scan.specs.Mcus.{HasLongestFront}
 use Rattle.jr_scan.specs.Cursors.{ReadingValue}
-use Rattle.jr_work.specs.Sharing.{IsOneOf}
+use Rattle.jr_wall.specs.Sharing.{IsOneOf}
 use Rattle.jr_piece.specs.Strips.{TellsEnd}
-use Rattle.jr_work.proofs.Gathering.{tells_end}
-use Rattle.jr_work.proofs.reading.Reading.next.Goals as goal
+use Rattle.jr_wall.proofs.Gathering.{tells_end}
+use Rattle.jr_wall.proofs.reading.Reading.next.Goals as goal
 
 pub returns : goal.returns
 returns g c =

@@ -1,9 +1,9 @@
 use Rattle.std.proofs.Common.{rules, ◌≡◌, [], ◌∷◌, ◌++◌, None, slice_index_or, sym, subst}
 use Rattle.std.specs.Arc.{arc_value}
-use Rattle.jr_work.specs.Sharing.{IsEmptyOrOf}
+use Rattle.jr_wall.specs.Sharing.{IsEmptyOrOf}
 use Rattle.jr_piece.specs.Strips.{AreOf, shared_strips}
-use Rattle.jr_work.proofs.Gathering.{one_more_of}
-use Rattle.jr_work.proofs.gathered.all_of.Goals as goal
+use Rattle.jr_wall.proofs.Gathering.{one_more_of}
+use Rattle.jr_wall.proofs.gathered.all_of.Goals as goal
 
 pub loop-place-preserved : goal.loop-place-preserved
 loop-place-preserved c = λ i all.

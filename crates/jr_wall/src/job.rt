@@ -3,17 +3,19 @@
 ghost use Rattle.std.specs.Prelude.{◌≡◌, ◌<◌, Some, IfOk, IfSome, length};
 ghost use Rattle.jr_scan.specs.ScanValue.{interval_of};
 ghost use Rattle.std.specs.Arc.{arc_value};
-ghost use Rattle.jr_work.specs.Sharing.{IsOneOf};
+ghost use Rattle.jr_wall.specs.Sharing.{IsOneOf};
 
 use crate::gathered::Gathered;
 use crate::reading::{Next, Reading, strip_mcus};
 use crate::strip_work::{ScanStrip, StripWork};
-use crate::tuning::{MAX_TASKS, MIN_READERS, MIN_READS, READS_OF_STRIP_WORKER, STEPS_OF_BUFFER};
-use crate::{BufferSize, GuessQueue, OneScan, SharedWork, Task, WorkQueue, windows_of};
 use jr_base::limits::MAX_WORKERS;
 use jr_code::Memory;
 use jr_piece::{Piece, Strip};
 use jr_scan::{FirstIntervals, Interval};
+use jr_work::tuning::{
+    MAX_TASKS, MIN_READERS, MIN_READS, READS_OF_STRIP_WORKER, STEPS_OF_BUFFER,
+};
+use jr_work::{BufferSize, GuessQueue, OneScan, SharedWork, Task, WorkQueue, windows_of};
 use std::alloc::Global;
 use std::marker::Model;
 use std::sync::{Arc, Wait};
@@ -31,7 +33,7 @@ pub struct Job<S: OneScan> {
 impl<S: OneScan> Model for Job<S> {
     ghost use Rattle.std.specs.Arc.{arc_value};
     ghost use Rattle.jr_scan.specs.IntervalValue.{IntervalValue};
-    ghost use Rattle.jr_work.specs.Sharing.{IsOneOf};
+    ghost use Rattle.jr_wall.specs.Sharing.{IsOneOf};
 
     ghost Value = { IntervalValue };
 

@@ -1,9 +1,9 @@
 use Rattle.std.proofs.Common.{rules, sym, subst}
 use Rattle.jr_scan.specs.Guesses.{AreGuessesOf}
 use Rattle.jr_scan.specs.IntervalValue.{IntervalValue}
-use Rattle.jr_work.specs.Sharing.{IsOneOf}
-use Rattle.jr_work.proofs.Gathering.{its_interval}
-use Rattle.jr_work.proofs.strip_work.StripWorkWork.begin.Goals as goal
+use Rattle.jr_wall.specs.Sharing.{IsOneOf}
+use Rattle.jr_wall.proofs.Gathering.{its_interval}
+use Rattle.jr_wall.proofs.strip_work.StripWorkWork.begin.Goals as goal
 
 pub guide-requires : goal.guide-requires
 guide-requires g c =

@@ -3,8 +3,8 @@ use Rattle.std.specs.Arc.{arc_value}
 use Rattle.jr_scan.specs.IntervalValue.{IntervalValue}
 use Rattle.jr_scan.specs.ScanValue.{ScanValue, interval_of}
 use Rattle.jr_piece.specs.Strips.{AreOf, TellsEnd, shared_strips}
-use Rattle.jr_work.proofs.Gathering.{its_interval, piece_of, taken}
-use Rattle.jr_work.proofs.job.Job.piece.Goals as goal
+use Rattle.jr_wall.proofs.Gathering.{its_interval, piece_of, taken}
+use Rattle.jr_wall.proofs.job.Job.piece.Goals as goal
 
 pub interval-requires : goal.interval-requires
 interval-requires g c =

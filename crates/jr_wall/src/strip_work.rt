@@ -2,16 +2,16 @@
 
 ghost use Rattle.std.specs.Prelude.{◌≡◌, IfOk, Some};
 ghost use Rattle.std.specs.Arc.{arc_value};
-ghost use Rattle.jr_work.specs.Sharing.{IsOneOf, interval_of_strip, HasItsGuesses};
+ghost use Rattle.jr_wall.specs.Sharing.{IsOneOf, interval_of_strip, HasItsGuesses};
 
 use crate::gathered::Gathered;
 use crate::reading::Reading;
 use crate::waiting_strip::WaitingStrip;
-use crate::{GuessQueue, OneScan, Work};
 use jr_base::Coefficients;
 use jr_code::Memory;
 use jr_piece::Strip;
 use jr_scan::{FirstIntervals, Guesses};
+use jr_work::{GuessQueue, OneScan, Work};
 use std::alloc::Global;
 use std::marker::{Model, PhantomData};
 use std::sync::Arc;
@@ -25,7 +25,7 @@ pub(crate) struct ScanStrip<S: OneScan> {
 
 impl<S: OneScan> Model for ScanStrip<S> {
     ghost use Rattle.jr_scan.specs.IntervalValue.{IntervalValue};
-    ghost use Rattle.jr_work.specs.Sharing.{IsOneOf, interval_of_strip, HasItsGuesses};
+    ghost use Rattle.jr_wall.specs.Sharing.{IsOneOf, interval_of_strip, HasItsGuesses};
 
     ghost Value = { IntervalValue };
 

@@ -6,9 +6,9 @@ use Rattle.std.specs.declared.sync.Arc.{Arc}
 use Rattle.std.proofs.lemmas.List.{length_push}
 use Rattle.std.proofs.lemmas.List.Elements.{All-push, All-set}
 use Rattle.jr_piece.specs.StripValue.{StripValue}
-use Rattle.jr_work.specs.Sharing.{IsEmptyOrOf}
-use Rattle.jr_work.proofs.gathered.put.Goals as goal
-use Rattle.jr_work.proofs.gathered.put.Goals.{else-loop-test, then-loop-test+in_ok-push+else-counter-place}
+use Rattle.jr_wall.specs.Sharing.{IsEmptyOrOf}
+use Rattle.jr_wall.proofs.gathered.put.Goals as goal
+use Rattle.jr_wall.proofs.gathered.put.Goals.{else-loop-test, then-loop-test+in_ok-push+else-counter-place}
 
 pub loop-preserved : goal.loop-preserved
 loop-preserved c = (

@@ -12,7 +12,7 @@ use Rattle.jr_scan.specs.IntervalValue.{IntervalValue}
 use Rattle.jr_scan.specs.ScanValue.{HasInterval, interval_of}
 use Rattle.jr_scan.specs.FirstIntervalsValue.{FirstIntervalsValue}
 use Rattle.jr_scan.specs.Mcus.{Decodes, Front, HasNoDecoding, HasLongestFront}
-use Rattle.jr_work.specs.Sharing.{IsOneOf}
+use Rattle.jr_wall.specs.Sharing.{IsOneOf}
 use Rattle.jr_piece.specs.PieceValue.{PieceValue}
 use Rattle.jr_piece.specs.StripValue.{StripValue}
 use Rattle.jr_piece.specs.Strips.{AreOf, TellsEnd, shared_strips}
