@@ -27,9 +27,7 @@ pub mod ShownSteps
 pub mod Spelled
 pub mod Standing
 pub mod Steps
-pub mod Stops
 pub mod TestsStay
 pub mod Threes
-pub mod Unstuffed
 pub mod Waiting
 pub mod Windows

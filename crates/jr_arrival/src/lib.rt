@@ -32,7 +32,6 @@ mod place_laws;
 mod row_walk;
 mod rows;
 mod same_lines;
-mod unstuffing;
 mod window;
 
 pub use file_bytes::FileBytes;

@@ -5,15 +5,14 @@ ghost use Rattle.jr_base.specs.declared.marker.TheConstants.{PREFIX};
 ghost use Rattle.jr_cut.specs.Cut.{IsRaw, IsStop};
 ghost use Rattle.jr_cut.specs.PartialSegments.{IsStopOf};
 ghost use Rattle.jr_head.specs.Intervals.{intervals_of};
+ghost use Rattle.jr_cut.specs.declared.scan_end.ScanEnd.TheVariants.{EndOfFile};
 ghost use Rattle.jr_arrival.specs.FileSources.{IsOffset, IsWindow, to_read, trimmed};
 ghost use Rattle.jr_arrival.specs.Meaning.{HasBits};
-ghost use Rattle.jr_cut.specs.declared.scan_end.ScanEnd.TheVariants.{EndOfFile};
 
 use crate::file_bytes::FileBytes;
-use crate::unstuffing::unstuff_some;
 use jr_base::Memory;
 use jr_base::marker::fill_count;
-use jr_cut::{ScanEnd, Stop, segment_length, spelled_length, stop_at};
+use jr_cut::{ScanEnd, Stop, segment_length, spelled_length, stop_at, unstuff_some};
 use jr_head::Head;
 use std::alloc::Global;
 

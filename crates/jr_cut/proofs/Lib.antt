@@ -11,3 +11,5 @@ pub mod Splits
 pub mod Following
 pub mod Buffers
 pub mod ImageEnds
+pub mod Stops
+pub mod NextSegments

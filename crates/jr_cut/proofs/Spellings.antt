@@ -2,7 +2,7 @@
 use Rattle.std.proofs.Common.{◌≡◌, ℕ, ◌≤◌, List, [], ◌∷◌, ◌++◌, length, map, take, drop, refl, sym, ap, subst, ◌∙◌, inl, inr, append_assoc, length-append, arith}
 use Rattle.std.specs.List.{flat_map, AllByRecursion}
 use Rattle.std.proofs.lemmas.Bool.{cases_lt}
-use Rattle.std.proofs.lemmas.List.{append-nil, map-append, length-map, take-append-drop}
+use Rattle.std.proofs.lemmas.List.{append-nil, map-append, length-map, take-append-drop, take-take}
 use Rattle.jr_cut.specs.Cut.{Spelling, IsSpelling, spelling, byte_spelled, IsRaw, IsStop}
 use Rattle.jr_cut.specs.Cut.Spelling.{Plain, Stuffed}
 use Rattle.jr_cut.proofs.CutLaw.{same_spelling, not_stop}
@@ -110,3 +110,13 @@ pub all_read : (raw bytes found : List ℕ) (read : ℕ) → IsRaw raw bytes →
 all_read raw bytes found read is some stop =
     let same = one_stop (take read raw) found raw bytes (drop read raw) [] some is (take-append-drop read raw ∙ sym (append-nil raw)) stop no_stop in
     subst (IsRaw raw) same.0 is
+
+-- some of the first bytes spell what they spell alone
+pub spelled_first : (raw found : List ℕ) (end read : ℕ) → read ≤ end → IsRaw (take read (take end raw)) found → IsRaw (take read raw) found
+spelled_first raw found end read few is = subst (λ (x : List ℕ). IsRaw x found) (take-take read end raw few) is
+
+-- data up to a stop is at least as long as what any other bytes spell
+pub some_found : (raw found front : List ℕ) (end read n : ℕ) → n ≤ end → IsRaw (take n raw) front → IsRaw (take read (take end raw)) found → IsStop (drop read (take end raw)) → length front ≤ length found
+some_found raw found front end read n few is spelled stop =
+    let first = take end raw in
+    up_to_stop (take read first) found (take n first) front (drop read first) (drop n first) spelled (subst (λ (x : List ℕ). IsRaw x front) (sym (take-take n end raw few)) is) (take-append-drop read first ∙ sym (take-append-drop n first)) stop

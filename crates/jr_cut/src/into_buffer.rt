@@ -1,6 +1,6 @@
 //! The data that bytes of a scan spell, in a buffer of their own (T.81, B.1.1.5 and F.1.2.3).
 
-ghost use Rattle.std.specs.Prelude.{◌≡◌, ◌≢◌, ◌<◌, ◌≤◌, ◌+◌, ℕ, List, length, take, drop, slice_index};
+ghost use Rattle.std.specs.Prelude.{◌≡◌, ◌≢◌, ◌<◌, ◌≤◌, ◌+◌, ℕ, List, length, take, drop, slice_index, true, false};
 ghost use Rattle.std.specs.Vec.{vec_capacity};
 ghost use Rattle.jr_base.specs.declared.marker.TheConstants.{PREFIX};
 ghost use Rattle.jr_cut.specs.Cut.{IsRaw, IsStop};
@@ -13,6 +13,13 @@ use jr_base::marker::{PREFIX, fill_count};
 pub struct Spelled {
     pub read: usize,
     pub found: usize,
+}
+
+/// Number of bytes of data that the first bytes of a segment spell, and whether the data end with them.
+#[derive(Clone, Copy)]
+pub struct Part {
+    pub found: usize,
+    pub ends: bool,
 }
 
 /// Copies the plain bytes at the start of `raw` to that of `buffer`, as many as fit, and returns their number.
@@ -52,6 +59,39 @@ pub fn unstuff_into(raw: &[u8], buffer: &mut [u8]) -> Spelled
         buffer[found] = PREFIX;
         found += 1;
         read = next + 1;
+    }
+}
+
+/// Returns whether data that end within the first `most` bytes of `raw` are known to end there in all of it. They are
+/// not if these bytes end with fill bytes and are not all.
+fn ends_within(raw: &[u8], read: usize, most: usize) -> bool
+    requires read { read ≤ most }
+    requires most { most ≤ length raw.now }
+    requires stop { IsStop (drop read (take most raw.now)) }
+    ensures ends { result ≡ true → IsStop (drop read raw.now) }
+    ensures all { most ≡ length raw.now → result ≡ true }
+{
+    let fill = fill_count(&raw[read..most]);
+    most == raw.len() || read + fill < most
+}
+
+/// Writes the data that the first `most` bytes of `raw` spell into the first bytes of `room`, up to a marker or the end,
+/// or until that is full.
+pub fn unstuff_some(raw: &[u8], most: usize, room: &mut [u8]) -> Part
+    ensures fits { result.found ≤ length room.old }
+    ensures long { length room.new ≡ length room.old }
+    ensures spells { (read : ℕ) × (read ≤ length raw.now) × IsRaw (take read raw.now) (take result.found room.new) × (result.ends ≡ true → IsStop (drop read raw.now)) }
+    ensures whole { length raw.now ≤ most → result.ends ≡ false → result.found ≡ length room.old }
+    ensures some { (n : ℕ) (front : List ℕ) → n ≤ most → n ≤ length raw.now → IsRaw (take n raw.now) front → length front ≤ length room.old → length front ≤ result.found }
+{
+    let end = most.min(raw.len());
+    let Spelled { read, found } = unstuff_into(&raw[..end], room);
+    if found == room.len() {
+        return Part { found, ends: false };
+    }
+    Part {
+        found,
+        ends: ends_within(raw, read, end),
     }
 }
 

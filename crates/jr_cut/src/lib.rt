@@ -3,6 +3,7 @@
 
 mod breaks;
 mod coded_segments;
+mod file_segments;
 mod front;
 mod into_buffer;
 mod laws;
@@ -15,8 +16,9 @@ mod unstuff;
 
 pub use breaks::Break;
 pub use coded_segments::{CodedSegments, SegmentsToEnd, cut, cut_to_end};
+pub use file_segments::{CodedSpan, Segment, segment_at, unstuff_at};
 pub use front::{segment_length, spelled_length};
-pub use into_buffer::{Spelled, unstuff_into, unstuff_segment};
+pub use into_buffer::{Part, Spelled, unstuff_into, unstuff_segment, unstuff_some};
 pub use laws::{each_scan_has_a_cut, one_cut};
 pub use partial_cut::PartialCut;
 pub use scan_end::ScanEnd;

@@ -5,7 +5,7 @@ use Rattle.std.proofs.lemmas.List.{append-nil, drop-drop, drop-take, length-take
 use Rattle.std.proofs.Math.Seq.{drop-append_seam, take-append_seam}
 use Rattle.jr_cut.specs.Cut.{IsRaw, IsStop}
 use Rattle.jr_cut.proofs.Spellings.{further, up_to_stop}
-use Rattle.jr_damage.specs.declared.segments.CodedSpan.{CodedSpan}
+use Rattle.jr_cut.specs.declared.file_segments.CodedSpan.{CodedSpan}
 use Rattle.jr_damage.specs.Offsets.{BeginsByte}
 
 -- if the first n bytes of `raw` spell `found`, at most k bytes, and fewer only up to a stop, they spell the first k bytes of all its data

@@ -1,6 +1,6 @@
 mod Rows
 mod Skipping
-pub mod NextSegments
+pub mod FirstSegments
 mod Verdicts
 pub mod FoundBytes
 pub mod Doubts

@@ -2,12 +2,12 @@
 use Rattle.std.specs.Prelude.{◌≡◌, ℕ, ◌+◌, ◌*◌, ◌/◌, ◌<◌, List, length, take, drop, ℤ, pos, unsigned_abs, slice_index_or}
 use Rattle.jr_head.specs.HeadValue.{HeadValue}
 use Rattle.jr_head.specs.Geometry.{order_of, quantiser_of}
+use Rattle.jr_cut.specs.declared.file_segments.CodedSpan.{CodedSpan}
 use Rattle.jr_mcu.specs.Mcus.{block_of}
 use Rattle.jr_scan.specs.IntervalValue.{IntervalValue}
 use Rattle.jr_scan.specs.Mcus.{LongestFront}
 use Rattle.jr_damage.specs.declared.doubtful.DoubtfulMcu.{DoubtfulMcu}
 use Rattle.jr_damage.specs.declared.doubtful.McuBits.{McuBits}
-use Rattle.jr_damage.specs.declared.segments.CodedSpan.{CodedSpan}
 use Rattle.jr_damage.specs.Lines.{first_mcu_of}
 use Rattle.jr_damage.specs.Fronts.{FrontTo}
 use Rattle.jr_damage.specs.Offsets.{BeginsByte}

@@ -1,8 +1,8 @@
 -- Where in an interval's bits, and in its file, the MCUs end that can be decoded.
 use Rattle.std.specs.Prelude.{◌≡◌, ℕ, ◌/◌, List, length, ℤ}
+use Rattle.jr_cut.specs.declared.file_segments.CodedSpan.{CodedSpan}
 use Rattle.jr_scan.specs.IntervalValue.{IntervalValue}
 use Rattle.jr_scan.specs.Mcus.{Front, LongestFront}
-use Rattle.jr_damage.specs.declared.segments.CodedSpan.{CodedSpan}
 use Rattle.jr_damage.specs.Offsets.{BeginsByte}
 
 -- an interval's first k whole MCUs have these blocks, and the bits before that one

@@ -1,10 +1,10 @@
 -- What is reported of a damaged interval.
 use Rattle.std.specs.Prelude.{◌≡◌, ◌<◌, ◌≤◌, Option, Some, None}
+use Rattle.jr_cut.specs.declared.file_segments.CodedSpan.{CodedSpan}
 use Rattle.jr_scan.specs.IntervalValue.{IntervalValue}
 use Rattle.jr_scan.specs.Mcus.{HasNoDecoding, HasLongestFront}
 use Rattle.jr_scan.specs.ScanValue.{mcus_in}
 use Rattle.jr_damage.specs.declared.map.DamagedInterval.{DamagedInterval}
-use Rattle.jr_damage.specs.declared.segments.CodedSpan.{CodedSpan}
 use Rattle.jr_damage.specs.Lines.{first_mcu_of, AreLinesOf}
 
 -- the bytes of a segment, or none if it has none

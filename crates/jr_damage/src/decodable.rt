@@ -1,11 +1,11 @@
 //! Up to where in its file a damaged interval can be decoded.
 
+ghost use Rattle.jr_cut.specs.Coded.{IsSpelledAt};
 ghost use Rattle.jr_scan.specs.Mcus.{HasLongestFront};
-ghost use Rattle.jr_damage.specs.Coded.{IsSpelledAt};
 ghost use Rattle.jr_damage.specs.Fronts.{IsDecodableEnd};
 
 use crate::offsets::offset_of;
-use crate::segments::CodedSpan;
+use jr_cut::CodedSpan;
 use jr_scan::{Cursor, IntervalRef};
 
 /// Returns the offset in the file of the byte in which the first MCU of an interval begins that cannot be decoded, or the end of

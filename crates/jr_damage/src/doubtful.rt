@@ -2,14 +2,14 @@
 
 ghost use Rattle.std.specs.Prelude.{◌≡◌, ◌↔◌, ◌<◌, ◌≤◌, ◌*◌, length, IsTrue, IfSome, IfNone};
 ghost use Rattle.jr_head.specs.Geometry.{order_of};
+ghost use Rattle.jr_cut.specs.Coded.{IsSpelledAt};
 ghost use Rattle.jr_scan.specs.ScanValue.{intervals_of, mcus_in};
-ghost use Rattle.jr_damage.specs.Coded.{IsSpelledAt};
 ghost use Rattle.jr_damage.specs.Doubtful.{HasDoubtful, HasNoDoubtful, IsDoubtOf, IsDoubtful, IsDoubtfulMcu, IsFirstDoubtful};
 
 use crate::lines::mcus_of;
 use crate::offsets::offset_of;
-use crate::segments::CodedSpan;
 use jr_base::{Coefficients, Quantisers};
+use jr_cut::CodedSpan;
 use jr_head::Head;
 use jr_scan::{IntervalRef, MAX_UNITS, McuReader};
 use std::array;

@@ -10,7 +10,6 @@ mod laws;
 mod lines;
 mod map;
 mod offsets;
-mod segments;
 mod shared_scan;
 mod verdict;
 
@@ -21,5 +20,4 @@ pub use doubtful::{DoubtfulMcu, first_doubtful, is_doubtful_mcu};
 pub use laws::one_count;
 pub use lines::{Lines, McuRange, lines_of, mcus_of};
 pub use map::{DamagedInterval, damaged_interval};
-pub use segments::{CodedSpan, Segment, segment_at, unstuff_at};
 pub use verdict::{Verdict, check_scan};

@@ -7,7 +7,7 @@ ghost use Rattle.jr_damage.specs.Map.{AreBytesOf, IsDamageOf};
 
 use crate::damage::damaged_front;
 use crate::lines::{Lines, McuRange, lines_of, mcus_of};
-use crate::segments::CodedSpan;
+use jr_cut::CodedSpan;
 use jr_scan::IntervalRef;
 
 /// An interval that has no decoding.

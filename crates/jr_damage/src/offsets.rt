@@ -4,8 +4,7 @@ ghost use Rattle.std.specs.Prelude.{◌≤◌, List, ℕ, length, slice_range};
 ghost use Rattle.jr_cut.specs.Cut.{IsRaw};
 ghost use Rattle.jr_damage.specs.Offsets.{BeginsByte};
 
-use crate::segments::CodedSpan;
-use jr_cut::spelled_length;
+use jr_cut::{CodedSpan, spelled_length};
 
 /// Returns the offset in the file at which byte `k` of a segment's data begins; the segment's end if it has `k` bytes.
 pub(crate) fn offset_of(file: &[u8], span: CodedSpan, k: usize) -> usize

@@ -7,8 +7,8 @@ use Rattle.std.specs.List.{All, Contains}
 use Rattle.std.proofs.lemmas.List.Elements.{All-append, All-cons, All-contains, All-nil, All-push, All-weaker, Contains-append_left, Contains-append_right, Contains-push, Contains-push_cases}
 use Rattle.jr_cut.proofs.Spellings.{same_found}
 use Rattle.jr_cut.specs.Cut.{IsRaw}
+use Rattle.jr_cut.specs.declared.file_segments.CodedSpan.{CodedSpan}
 use Rattle.jr_damage.specs.Coded.{IsSegmentOf}
-use Rattle.jr_damage.specs.declared.segments.CodedSpan.{CodedSpan}
 use Rattle.jr_scan.specs.IntervalValue.{IntervalValue}
 use Rattle.jr_scan.specs.Mcus.{HasDecoding, HasNoDecoding, HasLongestFront}
 use Rattle.jr_mend.specs.declared.choice.Choice.{Choice}

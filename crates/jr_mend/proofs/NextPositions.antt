@@ -4,8 +4,8 @@ use Rattle.std.proofs.lemmas.Bool.{cases_lt}
 use Rattle.std.proofs.lemmas.List.{get_or_default}
 use Rattle.std.proofs.Math.ListN.{get_or-append}
 use Rattle.std.proofs.Math.Seq.{get_or-append_seam}
+use Rattle.jr_cut.specs.declared.file_segments.Segment.{Segment}
 use Rattle.jr_damage.specs.Coded.{IsNextAt, IsSegmentOf}
-use Rattle.jr_damage.specs.declared.segments.Segment.{Segment}
 use Rattle.jr_scan.specs.ScanValue.{ScanValue}
 use Rattle.jr_mend.specs.Copies.{AreSegmentsOf, CopyValue, HasSpace}
 

@@ -2,11 +2,11 @@
 use Rattle.std.specs.Prelude.{◌≡◌, ◌≢◌, ℕ, ◌<◌, List, length, map, slice_index_or}
 use Rattle.std.specs.List.{All}
 use Rattle.jr_head.specs.HeadValue.{HeadValue}
+use Rattle.jr_cut.specs.declared.file_segments.Segment.{Segment}
 use Rattle.jr_scan.specs.IntervalValue.{IntervalValue}
 use Rattle.jr_scan.specs.ScanValue.{ScanValue, interval_of, scan_of_segments}
 use Rattle.jr_damage.proofs.EachFile.{cutting_of}
 use Rattle.jr_damage.specs.Coded.{IsNextAt, IsSegmentOf}
-use Rattle.jr_damage.specs.declared.segments.Segment.{Segment}
 
 -- the bytes of a copy, and its scan
 pub record CopyValue : Type 0 where

@@ -4,9 +4,9 @@ use Rattle.std.specs.List.{AllZip}
 use Rattle.jr_base.specs.declared.limits.TheConstants.{MAX_FILE_BYTES}
 use Rattle.jr_cut.specs.declared.scan_end.ScanEnd.TheVariants.{EndOfImage}
 use Rattle.jr_cut.specs.Cut.{IsRaw}
+use Rattle.jr_cut.specs.declared.file_segments.CodedSpan.{CodedSpan}
 use Rattle.jr_damage.specs.Coded.{IsSegmentOf}
 use Rattle.jr_damage.specs.Verdicts.{IsFileScan}
-use Rattle.jr_damage.specs.declared.segments.CodedSpan.{CodedSpan}
 use Rattle.jr_scan.specs.ScanValue.{ScanValue, interval_of, intervals_of}
 use Rattle.jr_mend.specs.declared.choice.Choice.{Choice}
 use Rattle.jr_mend.specs.declared.mending.MendError.{MendError}

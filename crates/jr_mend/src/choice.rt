@@ -2,7 +2,8 @@
 
 ghost use Rattle.std.specs.Prelude.{◌≡◌, ◌↔◌, ◌+◌, ◌<◌, ◌≤◌, ℕ, List, [], ◌∷◌, ◌++◌, All, IsTrue, length, take};
 ghost use Rattle.std.specs.Vec.{vec_capacity};
-ghost use Rattle.jr_damage.specs.Coded.{IsSegmentOf, IsSpelledAt};
+ghost use Rattle.jr_cut.specs.Coded.{IsSpelledAt};
+ghost use Rattle.jr_damage.specs.Coded.{IsSegmentOf};
 ghost use Rattle.jr_scan.specs.IntervalValue.{IntervalValue};
 ghost use Rattle.jr_scan.specs.ScanValue.{intervals_of};
 ghost use Rattle.jr_mend.specs.Choice.{IsChoice, IsChoiceOf};
@@ -10,7 +11,8 @@ ghost use Rattle.jr_mend.specs.Copies.{AreSegmentsOf, HasSpace, version_of, vers
 
 use crate::buffers::DataBuffers;
 use crate::file_copy::FileCopy;
-use jr_damage::{CodedSpan, Segment, damaged_front};
+use jr_cut::{CodedSpan, Segment};
+use jr_damage::damaged_front;
 use jr_scan::IntervalRef;
 
 /// Maximum number of copies of a file.

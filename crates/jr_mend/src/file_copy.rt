@@ -3,10 +3,11 @@
 ghost use Rattle.std.specs.Prelude.{◌≡◌, ◌≢◌, ◌<◌, ◌≤◌, ◌^◌, ℕ, List, [], IfOk, IfErr, length, slice_index_or, take};
 ghost use Rattle.std.specs.Vec.{vec_capacity};
 ghost use Rattle.jr_segments.specs.declared.refusal.Refusal.TheVariants as refusal;
-ghost use Rattle.jr_damage.specs.Coded.{IsSegmentOf, IsSpelledAt};
+ghost use Rattle.jr_cut.specs.Coded.{IsSpelledAt};
+ghost use Rattle.jr_damage.specs.Coded.{IsSegmentOf};
 ghost use Rattle.jr_head.specs.Heads.{RefusalOf};
 
-use jr_damage::{CodedSpan, unstuff_at};
+use jr_cut::{CodedSpan, unstuff_at};
 use jr_head::{Head, Refusal, read_head};
 use jr_scan::IntervalRef;
 use std::alloc::Global;

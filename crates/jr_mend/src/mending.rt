@@ -16,7 +16,7 @@ use crate::positions::{advance, starts_of};
 use crate::splice::{write_header, write_image_end, write_interval};
 use jr_base::Memory;
 use jr_base::limits::MAX_FILE_BYTES;
-use jr_damage::{CodedSpan, Segment};
+use jr_cut::{CodedSpan, Segment};
 use std::alloc::Global;
 
 /// A mended file, and the choice for each of its intervals.

@@ -1,13 +1,13 @@
 //! The segments of an interval in each of several copies.
 
-ghost use Rattle.std.specs.Prelude.{◌≡◌, ◌+◌, ◌<◌, All, IfOk, length};
+ghost use Rattle.std.specs.Prelude.{◌+◌, ◌<◌, All, IfOk};
 ghost use Rattle.jr_damage.specs.Coded.{IsNextAt, IsSegmentOf};
 ghost use Rattle.jr_scan.specs.ScanValue.{intervals_of};
 ghost use Rattle.jr_mend.specs.Copies.{AreNextAt, AreSegmentsOf};
 
 use crate::file_copy::FileCopy;
 use jr_base::Memory;
-use jr_damage::{CodedSpan, Segment, segment_at};
+use jr_cut::{CodedSpan, Segment, segment_at};
 use std::alloc::Global;
 
 /// Returns the segment before interval 0 of a copy: it has no bytes.

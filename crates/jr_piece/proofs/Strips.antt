@@ -10,7 +10,8 @@ use Rattle.jr_scan.specs.IntervalValue.{IntervalValue}
 use Rattle.jr_mcu.specs.Mcus.{component}
 use Rattle.jr_scan.specs.Mcus.{Decodes, Front, LongestFront, AreBlocks, TellsSound}
 use Rattle.jr_idct.specs.Transform.{samples}
-use Rattle.jr_scan.proofs.ScanLaws.{OneFront}
+use Rattle.jr_scan.proofs.LongestFronts.{whole_longest}
+use Rattle.jr_scan.proofs.ScanLaws.{OneFront, ShorterFront}
 use Rattle.jr_piece.specs.PieceValue.{PieceValue}
 use Rattle.jr_piece.specs.Outcome.{AreSamples, IsOutcome, unit_of}
 use Rattle.jr_piece.specs.StripValue.{StripValue}

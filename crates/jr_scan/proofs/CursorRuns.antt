@@ -17,7 +17,7 @@ use Rattle.jr_scan.specs.McuReader.{McuReaderValue, HasRead, HasEnded}
 use Rattle.jr_mcu.proofs.McuLaws.{no_blocks}
 use Rattle.jr_scan.proofs.McuReaders.{front_of_run, run_of_front}
 use Rattle.jr_scan.specs.Cursors.{IsPlaceAfter, TakesMcus}
-use Rattle.jr_scan.proofs.ScanLaws.{ShorterFront}
+use Rattle.jr_scan.proofs.ScanLaws.{OneRun, RunsMeet, ShorterFront}
 
 -- a list begins with the slice that was written over its first elements
 pub written : (n : ℕ) (xs ys : List (List ℤ)) → length xs ≡ n → take n (xs ++ ys) ≡ xs

@@ -1,9 +1,9 @@
 -- Intervals that have a doubtful MCU, one after the other.
 use Rattle.std.proofs.Common.{arith, subst, sym, ◌≡◌, ℕ, ◌+◌, Bool, true, false, List, inl, inr}
 use Rattle.std.proofs.lemmas.Bool.{cases_lt, true≢false, false≢true}
+use Rattle.jr_cut.specs.declared.file_segments.CodedSpan.{CodedSpan}
 use Rattle.jr_scan.specs.ScanValue.{ScanValue, interval_of}
 use Rattle.jr_damage.specs.declared.doubtful.DoubtfulMcu.{DoubtfulMcu}
-use Rattle.jr_damage.specs.declared.segments.CodedSpan.{CodedSpan}
 use Rattle.jr_damage.specs.Doubtful.{IsDoubtOf, HasNoDoubtful}
 use Rattle.jri_archive.specs.Doubts.{IsDoubtIn}
 

@@ -1,8 +1,8 @@
 -- Whether a scan has a doubtful MCU.
 use Rattle.std.specs.Prelude.{◌≡◌, ℕ, ◌<◌, Bool, true, false, List}
+use Rattle.jr_cut.specs.declared.file_segments.CodedSpan.{CodedSpan}
 use Rattle.jr_scan.specs.ScanValue.{ScanValue, interval_of}
 use Rattle.jr_damage.specs.declared.doubtful.DoubtfulMcu.{DoubtfulMcu}
-use Rattle.jr_damage.specs.declared.segments.CodedSpan.{CodedSpan}
 use Rattle.jr_damage.specs.Doubtful.{IsDoubtOf, HasNoDoubtful}
 
 -- one of the first n intervals has one, somewhere in the file

@@ -2,7 +2,8 @@
 
 ghost use Rattle.std.specs.Prelude.{◌≡◌};
 
-use jr_damage::{CodedSpan, DamagedInterval, Lines, McuRange};
+use jr_cut::CodedSpan;
+use jr_damage::{DamagedInterval, Lines, McuRange};
 
 /// A damaged interval, or consecutive ones that have no bytes.
 #[derive(Clone, Copy)]

@@ -1,8 +1,8 @@
 //! The lines of a file's damaged and doubtful intervals.
 
 ghost use Rattle.std.specs.Prelude.{◌<◌, length, IfOk, IfSome};
+ghost use Rattle.jr_cut.specs.Coded.{IsSpelledAt};
 ghost use Rattle.jr_scan.specs.ScanValue.{intervals_of};
-ghost use Rattle.jr_damage.specs.Coded.{IsSpelledAt};
 ghost use Rattle.jr_damage.specs.Fronts.{IsDecodableEnd};
 ghost use Rattle.jr_damage.specs.Verdicts.{IsFileScan};
 ghost use Rattle.jri_archive.specs.Doubts.{IsDoubtIn};
@@ -11,9 +11,8 @@ use crate::answers::LineForm;
 use crate::checking::Checked;
 use crate::damaged_run::DamagedRun;
 use crate::rows::{append_break, append_doubtful, append_run, append_sound};
-use jr_damage::{
-    CodedSpan, DoubtfulMcu, Segment, damaged_interval, decodable_end, first_doubtful, segment_at,
-};
+use jr_cut::{CodedSpan, Segment, segment_at};
+use jr_damage::{DoubtfulMcu, damaged_interval, decodable_end, first_doubtful};
 use jr_head::Head;
 use jr_mend::Break;
 use jr_scan::IntervalRef;

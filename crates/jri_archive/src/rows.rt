@@ -6,7 +6,8 @@ ghost use Rattle.jr_scan.specs.ScanValue.{intervals_of};
 
 use crate::damaged_run::DamagedRun;
 use crate::lines::{Label, begin_line, in_form};
-use jr_damage::{CodedSpan, DoubtfulMcu, McuRange, lines_of, mcus_of};
+use jr_cut::CodedSpan;
+use jr_damage::{DoubtfulMcu, McuRange, lines_of, mcus_of};
 use jr_head::Head;
 use jr_mend::Break;
 use std::alloc::AllocError;

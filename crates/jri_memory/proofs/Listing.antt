@@ -4,11 +4,11 @@ use Rattle.std.specs.List.{All}
 use Rattle.std.proofs.lemmas.Bool.{cases_lt}
 use Rattle.std.proofs.lemmas.List.{drop-drop, get_or_past, get_or-set_same, get_or-set_other}
 use Rattle.std.proofs.lemmas.List.Elements.{All-drop}
+use Rattle.jr_cut.specs.declared.file_segments.CodedSpan.{CodedSpan}
+use Rattle.jr_cut.proofs.EachCut.{each_scan_has_a_cut}
 use Rattle.jr_scan.specs.Mcus.{HasDecoding, HasNoDecoding}
 use Rattle.jr_scan.specs.ScanValue.{ScanValue, interval_of, intervals_of, scan_of_segments}
 use Rattle.jr_damage.specs.declared.map.DamagedInterval.{DamagedInterval}
-use Rattle.jr_damage.specs.declared.segments.CodedSpan.{CodedSpan}
-use Rattle.jr_cut.proofs.EachCut.{each_scan_has_a_cut}
 use Rattle.jr_head.specs.HeadValue.{HeadValue}
 use Rattle.jr_head.specs.Heads.{HeadOf}
 use Rattle.jr_arrival.proofs.ScanIntervals.{count_is}

@@ -1,9 +1,9 @@
 -- The result of the call that lists the damaged intervals of a file in memory.
 use Rattle.std.specs.Prelude.{◌≡◌, ℕ, ◌+◌, ◌<◌, ◌≤◌, List, length, drop, max, min, Option, Some, None, slice_index_or}
+use Rattle.jr_cut.specs.declared.file_segments.CodedSpan.{CodedSpan}
 use Rattle.jr_scan.specs.Mcus.{HasNoDecoding}
 use Rattle.jr_scan.specs.ScanValue.{ScanValue, interval_of}
 use Rattle.jr_damage.specs.declared.map.DamagedInterval.{DamagedInterval}
-use Rattle.jr_damage.specs.declared.segments.CodedSpan.{CodedSpan}
 use Rattle.jr_damage.specs.Coded.{IsNextAt, IsSegmentOf}
 use Rattle.jr_damage.specs.Map.{IsDamageOf}
 use Rattle.jr_damage.specs.Verdicts.{IsFileScan}

@@ -1,8 +1,9 @@
 //! The damaged intervals of a file in memory: their lines, and where their bytes are.
 
-ghost use Rattle.std.specs.Prelude.{◌≡◌, ◌≢◌, ℕ, ◌+◌, ◌-◌, ◌<◌, ◌≤◌, ◌^◌, List, [], length, drop, max, slice_index_or, IfOk, IfErr, IfSome, IfNone};
+ghost use Rattle.std.specs.Prelude.{◌≡◌, ◌≢◌, ℕ, ◌+◌, ◌-◌, ◌<◌, ◌≤◌, ◌^◌, List, length, drop, max, IfOk, IfErr, IfSome, IfNone};
 ghost use Rattle.std.specs.Vec.{vec_capacity};
-ghost use Rattle.jr_damage.specs.Coded.{IsNextAt, IsSegmentOf, IsSpelledAt};
+ghost use Rattle.jr_cut.specs.Coded.{IsSpelledAt};
+ghost use Rattle.jr_damage.specs.Coded.{IsNextAt, IsSegmentOf};
 ghost use Rattle.jr_damage.specs.Map.{IsDamageOf};
 ghost use Rattle.jr_head.specs.Intervals.{intervals_of};
 ghost use Rattle.jr_scan.specs.Mcus.{HasDecoding};
@@ -15,8 +16,8 @@ ghost use Rattle.jr_segments.specs.Refusal.{number_of};
 
 use crate::status::{DAMAGED, SOUND};
 use crate::{detail, status_of};
-use jr_cut::offset_in;
-use jr_damage::{CodedSpan, DamagedInterval, damaged_interval, segment_at, unstuff_at};
+use jr_cut::{CodedSpan, offset_in, segment_at, unstuff_at};
+use jr_damage::{DamagedInterval, damaged_interval};
 use jr_head::{Head, Refusal, read_head};
 use jr_scan::IntervalRef;
 use std::alloc::Global;

@@ -1,6 +1,6 @@
 use Rattle.std.proofs.Common.{◌≡◌, List, ◌++◌, ℕ, ◌+◌, length, take, drop, sym, ap, subst, ◌∙◌, rules, arith}
 use Rattle.std.proofs.Math.Seq.{take-append_seam}
-use Rattle.jr_damage.specs.declared.segments.Segment.{Segment}
+use Rattle.jr_cut.specs.declared.file_segments.Segment.{Segment}
 use Rattle.jr_mend.specs.declared.choice.Choice.{Choice}
 use Rattle.jr_mend.specs.Copies.{AreNextAt, AreSegmentsOf}
 use Rattle.jr_mend.specs.Mended.{AreWritten}

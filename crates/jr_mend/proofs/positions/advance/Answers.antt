@@ -1,7 +1,7 @@
 use Rattle.std.proofs.Common.{ℕ, ◌+◌, ◌<◌, ◌≤◌, ◌≢◌, sym, subst, ◌∙◌, get_or, get_or-set_other, rules, arith}
 use Rattle.std.proofs.lemmas.List.{length-set}
+use Rattle.jr_cut.specs.declared.file_segments.Segment.{Segment}
 use Rattle.jr_damage.specs.Coded.{IsNextAt}
-use Rattle.jr_damage.specs.declared.segments.Segment.{Segment}
 use Rattle.jr_scan.specs.ScanValue.{intervals_of}
 use Rattle.jr_mend.specs.Copies.{CopyValue}
 use Rattle.jr_mend.proofs.NextPositions.{IsNextIn, IsSegmentIn, next_in_copy, no_segment, one_set, segment_in_copy}

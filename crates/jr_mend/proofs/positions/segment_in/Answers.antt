@@ -18,7 +18,7 @@ returns-clause-segment c =
     let is = c.file.ensures in
     let count = c.intervals-count.ensures.value ∙ ap intervals_of c.head.ensures.value in
     let begins = subst (λ (f : List ℕ). IsNextAt f s i c.args.at) (sym is) c.requires.at in
-    subst (λ (f : List ℕ). IsSegmentOf f s i c.segment_at.result.bytes) is (c.segment_at.ensures.bytes s (sym count) begins)
+    subst (λ (f : List ℕ). IsSegmentOf f s i c.segment_at.result.bytes) is (c.segment_at.ensures.bytes (intervals_of s.head) s.intervals s.ended (sym count) begins)
 
 pub returns-clause-next : goal.returns-clause-next
 returns-clause-next c =
@@ -27,4 +27,4 @@ returns-clause-next c =
     let is = c.file.ensures in
     let count = c.intervals-count.ensures.value ∙ ap intervals_of c.head.ensures.value in
     let begins = subst (λ (f : List ℕ). IsNextAt f s i c.args.at) (sym is) c.requires.at in
-    subst (λ (f : List ℕ). IsNextAt f s (i + 1) c.segment_at.result.next) is (c.segment_at.ensures.next s (sym count) begins)
+    subst (λ (f : List ℕ). IsNextAt f s (i + 1) c.segment_at.result.next) is (c.segment_at.ensures.next (intervals_of s.head) s.intervals s.ended (sym count) begins)

@@ -1,5 +1,5 @@
 use Rattle.std.proofs.Common.{◌≡◌, ℕ, ◌+◌, ◌<◌, ◌∷◌, [], List, length, sym, subst, get_or, length-append, arith}
-use Rattle.jr_damage.specs.declared.segments.Segment.{Segment}
+use Rattle.jr_cut.specs.declared.file_segments.Segment.{Segment}
 use Rattle.jr_mend.proofs.NextPositions.{IsNextIn, next_in_copy, one_pushed}
 use Rattle.jr_mend.proofs.positions.starts_of.Goals as goal
 

@@ -1,5 +1,5 @@
 use Rattle.std.proofs.Common.{◌≡◌, ℕ, ◌<◌, length, get_or}
-use Rattle.jr_damage.specs.declared.segments.Segment.{Segment}
+use Rattle.jr_cut.specs.declared.file_segments.Segment.{Segment}
 use Rattle.jr_mend.proofs.NextPositions.{IsNextIn}
 use Rattle.jr_mend.proofs.positions.starts_of.Given as goal
 

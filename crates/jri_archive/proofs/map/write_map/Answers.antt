@@ -1,10 +1,12 @@
 use Rattle.std.proofs.Common.{◌≡◌, ◌+◌, sym, ap, subst, rules, ◌∙◌, arith}
 use Rattle.jr_head.specs.HeadValue.{HeadValue}
+use Rattle.jr_cut.specs.Coded.{IsSpelledAt}
 use Rattle.jr_scan.specs.IntervalValue.{IntervalValue}
-use Rattle.jr_damage.specs.Coded.{IsSpelledAt, IsNextAt}
+use Rattle.jr_scan.specs.ScanValue.{intervals_of}
+use Rattle.jr_damage.specs.Coded.{IsNextAt}
 use Rattle.jr_damage.specs.Doubtful.{IsDoubtOf, HasNoDoubtful}
 use Rattle.jri_archive.specs.Doubts.{IsDoubtIn}
-use Rattle.jr_damage.proofs.NextSegments.{first_begins}
+use Rattle.jr_damage.proofs.FirstSegments.{first_begins}
 use Rattle.jri_archive.proofs.Doubts.{doubt_before, doubt_here, no_doubt}
 use Rattle.jri_archive.proofs.map.write_map.Goals.{in-Some-first_doubtful+in_ok-write_doubtful, in_default}
 use Rattle.jri_archive.proofs.map.write_map.Goals as goal
@@ -18,13 +20,15 @@ loop-i-init g c =
 pub damaged_run-requires-clause-spelled : goal.damaged_run-requires-clause-spelled
 damaged_run-requires-clause-spelled g c =
     let n = c.segment_at-next in
-    let segment = n.ensures.bytes c.args.checked.now.scan (sym c.intervals-intervals.ensures.count) c.loop-i.invariant.1 in
+    let s = c.args.checked.now.scan in
+    let segment = n.ensures.bytes (intervals_of s.head) s.intervals s.ended (sym c.intervals-intervals.ensures.count) c.loop-i.invariant.1 in
     subst (λ (v : IntervalValue). IsSpelledAt c.args.file.now n.result.bytes v.bytes) (sym c.interval_ref.ensures) segment.spelled
 
 pub first_doubtful-requires-clause-spelled : goal.first_doubtful-requires-clause-spelled
 first_doubtful-requires-clause-spelled g c =
     let n = c.segment_at-next in
-    let segment = n.ensures.bytes c.args.checked.now.scan (sym c.intervals-intervals.ensures.count) c.loop-i.invariant.1 in
+    let s = c.args.checked.now.scan in
+    let segment = n.ensures.bytes (intervals_of s.head) s.intervals s.ended (sym c.intervals-intervals.ensures.count) c.loop-i.invariant.1 in
     subst (λ (v : IntervalValue). IsSpelledAt c.args.file.now n.result.bytes v.bytes) (sym c.interval_ref-in-loop-i.ensures) segment.spelled
 
 pub loop-i-preserved : goal.loop-i-preserved
@@ -42,4 +46,4 @@ loop-i-preserved g c =
           let none : HasNoDoubtful c.interval_ref-in-loop-i.result = search (rules, c.first_doubtful.ensures.none) in
           subst (IsDoubtIn file s (c.loop-i.i + 1)) (sym w.is_doubtful-is) (doubt_before file s c.loop-i.i c.loop-i.is_doubtful before (subst HasNoDoubtful c.interval_ref-in-loop-i.ensures none)))
     ] in
-    (n.ensures.within, n.ensures.next s (sym c.intervals-intervals.ensures.count) c.loop-i.invariant.1, doubt)
+    (n.ensures.within, n.ensures.next (intervals_of s.head) s.intervals s.ended (sym c.intervals-intervals.ensures.count) c.loop-i.invariant.1, doubt)

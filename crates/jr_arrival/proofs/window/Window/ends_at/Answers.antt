@@ -2,7 +2,7 @@ use Rattle.std.proofs.Common.{◌≡◌, inl, inr, ℕ, List, replicate, take, d
 use Rattle.std.proofs.lemmas.List.{take_all}
 use Rattle.jr_base.specs.declared.marker.TheConstants.{PREFIX}
 use Rattle.jr_cut.proofs.Cuts.{rest_is}
-use Rattle.jr_arrival.proofs.Stops.{stop_whole}
+use Rattle.jr_cut.proofs.Stops.{stop_whole}
 use Rattle.jr_arrival.proofs.window.Window.ends_at.Goals as goal
 
 pub returns-then-end-fill-clause-ends : goal.returns-then-end-fill-clause-ends

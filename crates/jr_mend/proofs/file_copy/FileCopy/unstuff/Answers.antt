@@ -1,5 +1,5 @@
 use Rattle.std.proofs.Common.{List, ℕ, [], get_or, rules}
-use Rattle.jr_damage.specs.Coded.{IsSpelledAt}
+use Rattle.jr_cut.specs.Coded.{IsSpelledAt}
 use Rattle.jr_mend.proofs.file_copy.FileCopy.unstuff.Goals as goal
 
 pub returns-clause-data : goal.returns-clause-data

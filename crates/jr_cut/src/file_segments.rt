@@ -1,13 +1,15 @@
-//! The positions of the coded bytes of a scan's intervals in its file.
+//! The positions of the coded bytes of a scan's segments in its file.
 
 ghost use Rattle.std.specs.Prelude.{◌≡◌, ◌<◌, ◌≤◌, ◌+◌, ◌-◌, ◌⊎◌, ℕ, List, length, drop, take};
 ghost use Rattle.std.specs.Vec.{vec_capacity};
+ghost use Rattle.jr_cut.specs.declared.scan_end.ScanEnd.{ScanEnd};
+ghost use Rattle.jr_cut.specs.Coded.{EndsAfter, GoesOnAfter, IsNextSegment, IsSegment, IsSpelledAt};
 ghost use Rattle.jr_cut.specs.Cut.{IsStop};
-ghost use Rattle.jr_scan.specs.ScanValue.{ScanValue, intervals_of};
-ghost use Rattle.jr_damage.specs.Coded.{EndsAfter, GoesOnAfter, IsNextAt, IsSegmentOf, IsSpelledAt};
 
+use crate::front::segment_length;
+use crate::into_buffer::unstuff_segment;
+use crate::stop::{Stop, stop_at};
 use jr_base::marker::fill_count;
-use jr_cut::{Stop, segment_length, stop_at, unstuff_segment};
 
 /// The bytes of a file from one offset up to another: those that code an interval, with their stuffing and without the
 /// markers before and after them.
@@ -42,7 +44,8 @@ fn next_at(file: &[u8], end: usize, k: u32, intervals: u32) -> usize
     }
 }
 
-/// Returns the segment of interval k, which begins at offset `at` of the file. Reads its bytes and the marker after them alone.
+/// Returns the segment of interval k, which begins at offset `at` of the file. Reads its bytes and the marker after them
+/// alone.
 pub fn segment_at(file: &[u8], at: usize, k: u32, intervals: u32) -> Segment
     requires there { at ≤ length file.now }
     requires few { k < intervals }
@@ -50,8 +53,10 @@ pub fn segment_at(file: &[u8], at: usize, k: u32, intervals: u32) -> Segment
     ensures spelled { (bytes : List ℕ) × IsSpelledAt file.now result.bytes bytes }
     ensures order { result.bytes.end ≤ result.next }
     ensures within { result.next ≤ length file.now }
-    ensures bytes { (s : ScanValue) → intervals_of s.head ≡ intervals → IsNextAt file.now s k at → IsSegmentOf file.now s k result.bytes }
-    ensures next { (s : ScanValue) → intervals_of s.head ≡ intervals → IsNextAt file.now s k at → IsNextAt file.now s (k + 1) result.next }
+    ensures bytes { (n : ℕ) (datas : List (List ℕ)) (ended : ScanEnd) → n ≡ intervals
+        → IsNextSegment file.now n datas ended k at → IsSegment file.now n datas ended k result.bytes }
+    ensures next { (n : ℕ) (datas : List (List ℕ)) (ended : ScanEnd) → n ≡ intervals
+        → IsNextSegment file.now n datas ended k at → IsNextSegment file.now n datas ended (k + 1) result.next }
 {
     let end = at + segment_length(&file[at..]);
     Segment {
@@ -60,7 +65,8 @@ pub fn segment_at(file: &[u8], at: usize, k: u32, intervals: u32) -> Segment
     }
 }
 
-/// Writes the data of the segment at `span` into the first bytes of `buffer`, whose capacity suffices, and returns their number.
+/// Writes the data of the segment at `span` into the first bytes of `buffer`, whose capacity suffices, and returns their
+/// number.
 pub fn unstuff_at(file: &[u8], span: CodedSpan, buffer: &mut Vec<u8>) -> usize
     requires spelled { (bytes : List ℕ) × IsSpelledAt file.now span bytes }
     requires capacity { length file.now - span.start < vec_capacity buffer.old }

@@ -1,6 +1,6 @@
 use Rattle.std.proofs.Common.{◌≡◌, ◌<◌, ◌≤◌, length, take, length-take-le, arith, rules}
-use Rattle.jr_arrival.proofs.Unstuffed.{some_found}
-use Rattle.jr_arrival.proofs.unstuffing.unstuff_some.Goals as goal
+use Rattle.jr_cut.proofs.Spellings.{some_found}
+use Rattle.jr_cut.proofs.into_buffer.unstuff_some.Goals as goal
 
 pub returns-clause-some : goal.returns-clause-some
 returns-clause-some c n front few within is fits =

@@ -1,6 +1,6 @@
 use Rattle.std.proofs.Common.{take, slice_range}
 use Rattle.jr_cut.proofs.Spellings.{same_found}
-use Rattle.jr_damage.proofs.segments.unstuff_at.Goals as goal
+use Rattle.jr_cut.proofs.file_segments.unstuff_at.Goals as goal
 
 pub returns-clause-data : goal.returns-clause-data
 returns-clause-data c bytes spelled =

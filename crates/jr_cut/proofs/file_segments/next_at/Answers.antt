@@ -2,7 +2,7 @@ use Rattle.std.proofs.Common.{rules, sym, subst, inl, inr, arith}
 use Rattle.std.proofs.lemmas.List.{take_rest}
 use Rattle.jr_cut.specs.Cut.{IsStop}
 use Rattle.jr_cut.proofs.Following.{restart_within}
-use Rattle.jr_damage.proofs.segments.next_at.Goals as goal
+use Rattle.jr_cut.proofs.file_segments.next_at.Goals as goal
 
 pub stop_at-requires-clause-stop : goal.stop_at-requires-clause-stop
 stop_at-requires-clause-stop c = subst IsStop (sym (take_rest c.args.file.now c.args.end)) c.requires.stop

@@ -1,6 +1,6 @@
 use Rattle.std.proofs.Common.{inl, inr, arith, rules}
-use Rattle.jr_arrival.proofs.Stops.{stop_there}
-use Rattle.jr_arrival.proofs.unstuffing.ends_within.Goals as goal
+use Rattle.jr_cut.proofs.Stops.{stop_there}
+use Rattle.jr_cut.proofs.into_buffer.ends_within.Goals as goal
 
 pub returns-then-most-raw-clause-ends : goal.returns-then-most-raw-clause-ends
 returns-then-most-raw-clause-ends c told =

@@ -10,10 +10,8 @@ use Rattle.jr_cut.proofs.Segments.{length_marker}
 use Rattle.jr_cut.proofs.Slices.{length_front, split_at}
 use Rattle.jr_cut.proofs.Spellings.{found_few}
 use Rattle.jr_cut.proofs.Splits.{SplitCut, split_cut}
-use Rattle.jr_scan.specs.ScanValue.{ScanValue, intervals_of}
-use Rattle.jr_damage.specs.declared.segments.CodedSpan.{CodedSpan}
-use Rattle.jr_damage.specs.Verdicts.{IsFileScan}
-use Rattle.jr_damage.specs.Coded.{BeginsAt, EndsAfter, GoesOnAfter, HasEndedBefore, IsNextAt, IsSegmentOf, IsSpelledAt}
+use Rattle.jr_cut.specs.declared.file_segments.CodedSpan.{CodedSpan}
+use Rattle.jr_cut.specs.Coded.{BeginsSegment, EndsAfter, GoesOnAfter, HasEndedBefore, IsNextSegment, IsSegment, IsSpelledAt}
 
 no_bytes : (bytes : List ℕ) → length bytes ≡ 0 → bytes ≡ []
 no_bytes [] e = refl
@@ -25,10 +23,7 @@ none_in (suc n) zero = refl
 none_in (suc n) (suc i) = none_in n i
 
 -- a segment of the file's bytes begins at one offset and ends at another
-module _ (file : List ℕ) (s : ScanValue) (i at len : ℕ) (found : List ℕ) (within : at + len ≤ length file) (raw : IsRaw (take len (drop at file)) found) (stop : IsStop (drop (at + len) file)) where
-  abbrev n : ℕ
-  n = intervals_of s.head
-
+module _ (file : List ℕ) (n : ℕ) (datas : List (List ℕ)) (ended : ScanEnd) (i at len : ℕ) (found : List ℕ) (within : at + len ≤ length file) (raw : IsRaw (take len (drop at file)) found) (stop : IsStop (drop (at + len) file)) where
   abbrev end : ℕ
   end = at + len
 
@@ -36,51 +31,51 @@ module _ (file : List ℕ) (s : ScanValue) (i at len : ℕ) (found : List ℕ) (
   tail = drop end file
 
   -- if it is segment i
-  module _ (b : BeginsAt file s i at) where
-    split : SplitCut n i (at + length (take len (drop at file))) found tail b.segments s.ended
-    split = split_cut n i at (take len (drop at file)) found tail b.segments s.ended raw (subst (λ (x : List ℕ). CutFrom n i at x b.segments s.ended) (split_at file at len) b.cut)
+  module _ (b : BeginsSegment file n datas ended i at) where
+    split : SplitCut n i (at + length (take len (drop at file))) found tail b.segments ended
+    split = split_cut n i at (take len (drop at file)) found tail b.segments ended raw (subst (λ (x : List ℕ). CutFrom n i at x b.segments ended) (split_at file at len) b.cut)
 
     are : b.segments ≡ found ∷ split.others
     are = split.is ∙ ap (λ (x : List ℕ). (found ++ x) ∷ split.others) (split.none stop) ∙ ap (λ (x : List ℕ). x ∷ split.others) (append-nil found)
 
-    there : drop i s.intervals ≡ found ∷ (split.others ++ replicate b.empty [])
+    there : drop i datas ≡ found ∷ (split.others ++ replicate b.empty [])
     there = b.intervals ∙ ap (λ (x : List (List ℕ)). x ++ replicate b.empty []) are
 
-    its_data : get_or s.intervals i [] ≡ found
+    its_data : get_or datas i [] ≡ found
     its_data =
         let here : i + 0 ≡ i = omega arith in
-        ap (λ (k : ℕ). get_or s.intervals k []) (sym here) ∙ sym (get_or-drop i s.intervals 0 []) ∙ ap (λ (l : List (List ℕ)). get_or l 0 []) there
+        ap (λ (k : ℕ). get_or datas k []) (sym here) ∙ sym (get_or-drop i datas 0 []) ∙ ap (λ (l : List (List ℕ)). get_or l 0 []) there
 
-    after : drop (i + 1) s.intervals ≡ split.others ++ replicate b.empty []
-    after = sym (drop-drop 1 i s.intervals) ∙ ap (drop 1) there
+    after : drop (i + 1) datas ≡ split.others ++ replicate b.empty []
+    after = sym (drop-drop 1 i datas) ∙ ap (drop 1) there
 
-    cut : CutFrom n i end tail ([] ∷ split.others) s.ended
+    cut : CutFrom n i end tail ([] ∷ split.others) ended
     cut =
         let long : at + length (take len (drop at file)) ≡ end = ap (λ (k : ℕ). at + k) (length_front file at len within) in
-        subst (λ (o : ℕ). CutFrom n i o tail ([] ∷ split.others) s.ended) long (subst (λ (x : List ℕ). CutFrom n i (at + length (take len (drop at file))) tail (x ∷ split.others) s.ended) (split.none stop) split.cut)
+        subst (λ (o : ℕ). CutFrom n i o tail ([] ∷ split.others) ended) long (subst (λ (x : List ℕ). CutFrom n i (at + length (take len (drop at file))) tail (x ∷ split.others) ended) (split.none stop) split.cut)
 
-    goes_on : (count : ℕ) → i + 1 < n → BeginsWithRestart i tail count → BeginsAt file s (i + 1) (end + count)
+    goes_on : (count : ℕ) → i + 1 < n → BeginsWithRestart i tail count → BeginsSegment file n datas ended (i + 1) (end + count)
     goes_on count room m =
-        let c = next_cut n i end tail split.others s.ended cut m.more (drop count tail) room m.spelled in
+        let c = next_cut n i end tail split.others ended cut m.more (drop count tail) room m.spelled in
         let place : end + (m.more + 2) ≡ end + count = omega (arith, m.long) in
-        let cut1 = subst (λ (o : ℕ). CutFrom n (i + 1) o (drop count tail) (c.first ∷ c.behind) s.ended) place c.cut in
+        let cut1 = subst (λ (o : ℕ). CutFrom n (i + 1) o (drop count tail) (c.first ∷ c.behind) ended) place c.cut in
         record {
           within = restart_within file end i count within m;
           segments = c.first ∷ c.behind;
           empty = b.empty;
-          cut = subst (λ (x : List ℕ). CutFrom n (i + 1) (end + count) x (c.first ∷ c.behind) s.ended) (drop-drop count end file) cut1;
+          cut = subst (λ (x : List ℕ). CutFrom n (i + 1) (end + count) x (c.first ∷ c.behind) ended) (drop-drop count end file) cut1;
           intervals = after ∙ ap (λ (x : List (List ℕ)). x ++ replicate b.empty []) c.are;
         }
 
-    ends : (e : ScanEnd) → IsEnding n i end tail e → (j : ℕ) → i + 1 ≤ j → get_or s.intervals j [] ≡ []
+    ends : (e : ScanEnd) → IsEnding n i end tail e → (j : ℕ) → i + 1 ≤ j → get_or datas j [] ≡ []
     ends e ending j le =
-        let others = last_cut n i end tail split.others s.ended cut end e ending in
+        let others = last_cut n i end tail split.others ended cut end e ending in
         let place : i + 1 + (j - (i + 1)) ≡ j = omega (arith, le) in
-        ap (λ (k : ℕ). get_or s.intervals k []) (sym place) ∙ sym (get_or-drop (i + 1) s.intervals (j - (i + 1)) []) ∙ ap (λ (l : List (List ℕ)). get_or l (j - (i + 1)) []) (after ∙ ap (λ (x : List (List ℕ)). x ++ replicate b.empty []) others)
+        ap (λ (k : ℕ). get_or datas k []) (sym place) ∙ sym (get_or-drop (i + 1) datas (j - (i + 1)) []) ∙ ap (λ (l : List (List ℕ)). get_or l (j - (i + 1)) []) (after ∙ ap (λ (x : List (List ℕ)). x ++ replicate b.empty []) others)
         ∙ none_in b.empty (j - (i + 1))
 
   -- if the scan has ended before
-  module _ (h : HasEndedBefore file s i at) where
+  module _ (h : HasEndedBefore file datas i at) where
     no_data : found ≡ []
     no_data = no_bytes found (omega (arith, found_few (take len (drop at file)) found raw, length_front file at len within, within, h.last))
 
@@ -98,23 +93,13 @@ module _ (file : List ℕ) (s : ScanValue) (i at len : ℕ) (found : List ℕ) (
   pub spelled : IsSpelledAt file span found
   spelled = spelled_by found refl
 
-  pub is_segment : IsNextAt file s i at → IsSegmentOf file s i span
-  is_segment (inl b) = record { begins = inl b; spelled = spelled_by (get_or s.intervals i []) (its_data b) }
-  is_segment (inr h) = record { begins = inr h; spelled = spelled_by (get_or s.intervals i []) (h.none i (omega arith) ∙ sym (no_data h)) }
+  pub is_segment : IsNextSegment file n datas ended i at → IsSegment file n datas ended i span
+  is_segment (inl b) = record { begins = inl b; spelled = spelled_by (get_or datas i []) (its_data b) }
+  is_segment (inr h) = record { begins = inr h; spelled = spelled_by (get_or datas i []) (h.none i (omega arith) ∙ sym (no_data h)) }
 
   -- the offset at which the next one begins
-  pub next_is : (next : ℕ) → GoesOnAfter file n i end next ⊎ EndsAfter file n i end next → IsNextAt file s i at → IsNextAt file s (i + 1) next
-  next_is next (inl m) (inl b) = inl (subst (BeginsAt file s (i + 1)) (sym m.is) (goes_on b m.count m.more m.due))
+  pub next_is : (next : ℕ) → GoesOnAfter file n i end next ⊎ EndsAfter file n i end next → IsNextSegment file n datas ended i at → IsNextSegment file n datas ended (i + 1) next
+  next_is next (inl m) (inl b) = inl (subst (BeginsSegment file n datas ended (i + 1)) (sym m.is) (goes_on b m.count m.more m.due))
   next_is next (inl m) (inr h) = absurd (no_marker h m.count m.due)
   next_is next (inr e) (inl b) = inr (record { last = e.last; none = ends b e.ended e.ends })
   next_is next (inr e) (inr h) = inr (record { last = e.last; none = λ j le. h.none j (omega (arith, le)) })
-
--- the first one
-pub first_begins : (file : List ℕ) (s : ScanValue) → IsFileScan file s → IsNextAt file s 0 s.head.scan_at
-first_begins file s f = inl (record {
-  within = omega (arith, f.head.scan_at);
-  segments = f.cut.segments;
-  empty = intervals_of s.head - length f.cut.segments;
-  cut = f.cut.cut;
-  intervals = f.cut.intervals;
-})
