@@ -14,9 +14,10 @@ ghost use Rattle.jr_arrival.specs.PartialSources.{partial_source_of};
 use crate::mcu_sink::McuSink;
 use crate::mcu_source::{McuSource, take_whole};
 use crate::window::MCU_BITS;
+use jr_cut::ScanEnd;
 use jr_head::Head;
 use jr_rows::Marked;
-use jr_scan::{Cursor, IntervalRef, PartialScan, Place, ScanEnd};
+use jr_scan::{Cursor, IntervalRef, PartialScan, Place};
 
 /// Returns whether an interval is over: no more data of it can come.
 fn is_over(scan: &PartialScan, i: u32) -> bool

@@ -6,7 +6,7 @@ ghost use Rattle.jr_piece.specs.Outcome.{IsOutcome};
 ghost use Rattle.jr_cells.specs.Sights.{Knows, KnowsNothing, KnowsAll, Agree};
 
 use crate::once::{compare_notes, empty_cells, fresh_notes, get_cell, set_cell};
-use jr_code::Memory;
+use jr_base::Memory;
 use jr_piece::Piece;
 use once_cell::race::{Note, OnceBox};
 use std::alloc::Global;

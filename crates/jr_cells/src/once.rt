@@ -4,7 +4,7 @@ ghost use Rattle.std.specs.Prelude.{◌≡◌, ◌<◌, map, length, replicate, 
 ghost use Rattle.once_cell.specs.Once.{cell_name};
 ghost use Rattle.jr_cells.specs.Notes.{names_of, known_of, KnowAt, KnowNothingAt, KeepAll, KeepOthers, NotesAgree};
 
-use jr_code::Memory;
+use jr_base::Memory;
 use once_cell::race::{Note, OnceBox};
 use std::alloc::Global;
 

@@ -8,7 +8,7 @@ ghost use Rattle.jr_piece.specs.Strips.{IsStrip};
 ghost use Rattle.jr_cells.specs.StripSights.{KnowsStrip, KnowsNoStrip, KnowsAllStrips, AgreeOnStrips};
 
 use crate::once::{compare_notes, empty_cells, fresh_notes, get_cell, set_cell};
-use jr_code::Memory;
+use jr_base::Memory;
 use jr_piece::Strip;
 use jr_scan::Interval;
 use once_cell::race::{Note, OnceBox};

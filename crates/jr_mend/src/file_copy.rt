@@ -8,8 +8,9 @@ ghost use Rattle.jr_damage.specs.Coded.{IsSegmentOf};
 ghost use Rattle.jr_head.specs.Heads.{RefusalOf};
 
 use jr_cut::{CodedSpan, unstuff_at};
-use jr_head::{Head, Refusal, read_head};
+use jr_head::{Head, read_head};
 use jr_scan::IntervalRef;
+use jr_segments::Refusal;
 use std::alloc::Global;
 use std::marker::Model;
 

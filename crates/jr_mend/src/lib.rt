@@ -29,7 +29,6 @@ pub use combining::{CombineError, Combined, FAR_BYTES, MAX_RUNS, combine};
 pub use file_copy::FileCopy;
 pub use headers::under_header;
 pub use in_step::is_in_step;
-pub use jr_cut::Break;
 pub use laws::{
     bytes_after_image_are_ignored, each_scan_resyncs, file_in_step_is_resynced, file_in_step_stays,
     header_stays, in_step_stays, intervals_are_cut, one_resync, spliced_has_its_scan,

@@ -1,7 +1,7 @@
 //! How a decoding went.
 
-use jr_head::Refusal;
-use jr_scan::ScanEnd;
+use jr_cut::ScanEnd;
+use jr_segments::Refusal;
 
 /// The report of a file whose image was written.
 #[derive(Clone, Copy)]

@@ -6,8 +6,7 @@ ghost use Rattle.jr_scan.specs.McuReader.{HasRead, HasEnded};
 ghost use Rattle.jr_piece.specs.Outcome.{AreSamples, IsOutcome};
 
 use crate::transforming::transform_blocks;
-use jr_base::Coefficients;
-use jr_code::Memory;
+use jr_base::{Coefficients, Memory};
 use jr_scan::{Guesses, Interval, McuReader};
 use std::alloc::Global;
 use std::array;

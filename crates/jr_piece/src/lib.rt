@@ -14,8 +14,8 @@ mod transforming;
 mod unit_sink;
 
 pub use laws::{
-    blocks_have_units, each_interval_has_an_outcome, one_outcome, one_strip, strip_is_final, strips_meet,
-    whole_strip_is_outcome,
+    blocks_have_units, each_interval_has_an_outcome, one_outcome, one_strip, strip_is_final,
+    strips_meet, whole_strip_is_outcome,
 };
 pub use piece::{OrderError, Piece};
 pub use placed_strip::PlacedStrip;

@@ -7,7 +7,7 @@ ghost use Rattle.jr_piece.specs.Strips.{IsPlaced, IsStrip};
 
 use crate::decoded::read_samples;
 use crate::strip::Strip;
-use jr_code::Memory;
+use jr_base::Memory;
 use jr_scan::{Guesses, Interval, McuReader, Place};
 use std::alloc::Global;
 use std::marker::Model;

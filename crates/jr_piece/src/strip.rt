@@ -7,8 +7,7 @@ ghost use Rattle.jr_piece.specs.Outcome.{AreSamples};
 ghost use Rattle.jr_piece.specs.Strips.{HasItsBlocks, IsStrip};
 
 use crate::transforming::transform_blocks;
-use jr_base::Coefficients;
-use jr_code::Memory;
+use jr_base::{Coefficients, Memory};
 use jr_head::Head;
 use jr_scan::Interval;
 use std::alloc::Global;

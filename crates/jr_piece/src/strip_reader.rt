@@ -10,8 +10,7 @@ ghost use Rattle.jr_scan.specs.Cursors.{IsPlaceAfter, TakesMcus};
 
 use crate::placed_strip::PlacedStrip;
 use crate::strip::CodedStrip;
-use jr_base::Coefficients;
-use jr_code::Memory;
+use jr_base::{Coefficients, Memory};
 use jr_scan::{Cursor, Guesses, Interval, Place};
 use std::alloc::Global;
 use std::marker::Model;

@@ -5,7 +5,7 @@ ghost use Rattle.jr_scan.specs.ScanValue.{IsScanOf};
 ghost use Rattle.jr_scan.specs.ImageEnd.{IsImageEndIn};
 
 use crate::scan::Scan;
-use jr_code::Memory;
+use jr_base::Memory;
 use jr_cut::{Unstuffing, cut_to_end};
 use jr_head::Head;
 use std::alloc::Global;

@@ -7,7 +7,7 @@ ghost use Rattle.jr_scan.specs.ScanValue.{intervals_of, interval_of};
 
 use crate::interval_ref::IntervalRef;
 use crate::scan::Scan;
-use jr_code::Memory;
+use jr_base::Memory;
 use jr_cut::{PartialCut, ScanEnd, Unstuffing};
 use jr_head::Head;
 use std::alloc::Global;

@@ -5,7 +5,7 @@ ghost use Rattle.std.specs.List.{All};
 
 use crate::interval::Interval;
 use crate::interval_ref::IntervalRef;
-use jr_code::Memory;
+use jr_base::Memory;
 use jr_cut::{CodedSegments, ScanEnd, Span, Unstuffing, cut};
 use jr_head::Head;
 use std::alloc::Global;

@@ -6,8 +6,8 @@ ghost use Rattle.jr_view.specs.Lookers.{Keeps, Tells, has_told};
 ghost use Rattle.jr_view.specs.Told.{Notice, PieceOf, StripOf};
 
 use crate::screen::Screen;
+use jr_base::Memory;
 use jr_cells::{Sight, StripCells};
-use jr_code::Memory;
 use jr_piece::{Piece, Strip};
 use jr_scan::Scan;
 use jr_wall::Decoding;

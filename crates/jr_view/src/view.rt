@@ -9,7 +9,7 @@ ghost use Rattle.jr_view.specs.Parts.{HasSeenAll, IsPartOfPicture};
 ghost use Rattle.jr_view.specs.Views.{IsNotOfPiece, IsNotOfStrip, IsOfPiece, IsOfStrip, IsSameAt, AddsMcu, AddsMcus, ShowsPiece, ShowsStripUnits, has_seen, has_seen_row, sample_in_view, sample_seen, size_of, unit_at, units_shown, whole_rows};
 
 use crate::shown::{GREY, Shown};
-use jr_code::Memory;
+use jr_base::Memory;
 use jr_head::Head;
 use jr_paint::{Samples, Unit, Units, fill_line, sample_of_units};
 use jr_piece::{Piece, Strip};

@@ -8,7 +8,7 @@ ghost use Rattle.jr_view.specs.Told.{IsTold};
 
 use crate::looker::Looker;
 use crate::screen::Screen;
-use jr_code::Memory;
+use jr_base::Memory;
 use jr_scan::Scan;
 use jr_wall::{Decoding, Gate, Seat};
 use jr_work::Beside;

@@ -8,7 +8,7 @@ ghost use Rattle.jr_wall.specs.Sharing.{IsOneOf, IsEmptyOrOf, IsEndOf};
 ghost use Rattle.jr_piece.specs.Strips.{AreOf, TellsEnd, shared_strips};
 
 use crate::reading::{End, strip_mcus};
-use jr_code::Memory;
+use jr_base::Memory;
 use jr_piece::Strip;
 use jr_scan::Interval;
 use jr_work::OneScan;

@@ -8,13 +8,11 @@ ghost use Rattle.jr_wall.specs.Sharing.{IsOneOf};
 use crate::gathered::Gathered;
 use crate::reading::{Next, Reading, strip_mcus};
 use crate::strip_work::{ScanStrip, StripWork};
+use jr_base::Memory;
 use jr_base::limits::MAX_WORKERS;
-use jr_code::Memory;
 use jr_piece::{Piece, Strip};
 use jr_scan::{FirstIntervals, Interval};
-use jr_work::tuning::{
-    MAX_TASKS, MIN_READERS, MIN_READS, READS_OF_STRIP_WORKER, STEPS_OF_BUFFER,
-};
+use jr_work::tuning::{MAX_TASKS, MIN_READERS, MIN_READS, READS_OF_STRIP_WORKER, STEPS_OF_BUFFER};
 use jr_work::{BufferSize, GuessQueue, OneScan, SharedWork, Task, WorkQueue, windows_of};
 use std::alloc::Global;
 use std::marker::Model;

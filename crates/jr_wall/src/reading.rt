@@ -7,8 +7,7 @@ ghost use Rattle.jr_scan.specs.Guesses.{AreGuessesOf};
 ghost use Rattle.jr_wall.specs.Sharing.{IsOneOf, IsNextOf, interval_of_strip, HasItsGuesses};
 
 use crate::waiting_strip::WaitingStrip;
-use jr_base::Coefficients;
-use jr_code::Memory;
+use jr_base::{Coefficients, Memory};
 use jr_piece::StripReader;
 use jr_scan::{Guesses, Interval};
 use jr_work::OneScan;

@@ -7,8 +7,7 @@ ghost use Rattle.jr_wall.specs.Sharing.{IsOneOf, interval_of_strip, HasItsGuesse
 use crate::gathered::Gathered;
 use crate::reading::Reading;
 use crate::waiting_strip::WaitingStrip;
-use jr_base::Coefficients;
-use jr_code::Memory;
+use jr_base::{Coefficients, Memory};
 use jr_piece::Strip;
 use jr_scan::{FirstIntervals, Guesses};
 use jr_work::{GuessQueue, OneScan, Work};

@@ -4,8 +4,8 @@ ghost use Rattle.std.specs.Prelude.{◌≡◌, ◌<◌, ◌≤◌, length, IfOk,
 ghost use Rattle.jr_wall.specs.DecodingValue.{AreNumbered};
 
 use crate::reading::strip_mcus;
+use jr_base::Memory;
 use jr_cells::{StripCells, StripSight};
-use jr_code::Memory;
 use jr_piece::Strip;
 use jr_scan::Scan;
 use std::alloc::Global;

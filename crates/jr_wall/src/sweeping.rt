@@ -8,7 +8,7 @@ ghost use Rattle.jr_picture.specs.DecodedScan.{mark_at};
 ghost use Rattle.jr_wall.specs.Decoded.{IsDecoded};
 
 use crate::board::Board;
-use jr_code::Memory;
+use jr_base::Memory;
 use jr_picture::Mark;
 use jr_piece::Piece;
 use jr_scan::Scan;

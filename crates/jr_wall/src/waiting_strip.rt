@@ -3,8 +3,7 @@
 ghost use Rattle.std.specs.Prelude.{◌≡◌, IfOk};
 ghost use Rattle.jr_wall.specs.Sharing.{interval_of_strip, HasItsGuesses};
 
-use jr_base::Coefficients;
-use jr_code::Memory;
+use jr_base::{Coefficients, Memory};
 use jr_piece::{CodedStrip, PlacedStrip, Strip};
 use jr_scan::Guesses;
 use std::alloc::Global;

@@ -9,8 +9,9 @@ ghost use Rattle.jri_archive.specs.DamagedLines.{AreUndecoded};
 
 use crate::damaged_lines::undecoded_lines;
 use jr_damage::{Lines, Verdict, check_scan_by};
-use jr_head::{Refusal, read_head};
+use jr_head::read_head;
 use jr_scan::{CutScan, Scan};
+use jr_segments::Refusal;
 use std::alloc::Global;
 use std::sync::Wait;
 use std::thread::Threads;

@@ -15,7 +15,7 @@ use crate::one_check::OneCheck;
 use crate::outcome::Outcome;
 use crate::progress::{Progress, Reported};
 use crate::state_record::FileRecord;
-use jr_mend::Break;
+use jr_cut::Break;
 use std::alloc::Global;
 use std::io::Write;
 use std::marker::{Model, PhantomData};

@@ -7,8 +7,9 @@ ghost use Rattle.jri_archive.specs.InStep.{IsInStepError, IsInStepOf};
 
 use crate::reading::{Entry, FileBytes, Folder, ReadError};
 use crate::state_record::Stamp;
-use jr_head::{Head, Refusal, read_head};
+use jr_head::{Head, read_head};
 use jr_mend::{ResyncFault, is_in_step, resynchronised};
+use jr_segments::Refusal;
 use std::alloc::Global;
 
 /// A directory whose files are resynchronised before they are checked, if that is asked for.

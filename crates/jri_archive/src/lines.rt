@@ -7,9 +7,9 @@ use crate::outcome::Outcome;
 use crate::reading::ReadError;
 use crate::unsupported::{refused_word, write_reason};
 use jr_base::Printable;
+use jr_cut::ScanEnd;
 use jr_damage::Lines;
-use jr_head::Refusal;
-use jr_scan::ScanEnd;
+use jr_segments::Refusal;
 use std::alloc::AllocError;
 
 /// What precedes a value: in a line of text, and in a JSON object.

@@ -11,7 +11,7 @@ use crate::counts::FileState;
 use crate::reading::ReadError;
 use crate::state_record::RecordedState;
 use crate::unsupported::is_unsupported;
-use jr_head::Refusal;
+use jr_segments::Refusal;
 use std::alloc::Global;
 use std::sync::Wait;
 use std::thread::Threads;

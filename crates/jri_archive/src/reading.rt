@@ -3,7 +3,7 @@
 ghost use Rattle.std.specs.Prelude.{◌≡◌, ℕ, List, [], IfOk, IfErr, IfSome};
 
 use crate::state_record::Stamp;
-use jr_mend::Break;
+use jr_cut::Break;
 use std::alloc::Global;
 
 /// Why the bytes of a file are not there.

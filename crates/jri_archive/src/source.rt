@@ -11,7 +11,7 @@ use crate::outcome::Outcome;
 use crate::reading::{FileBytes, Folder, ReadError};
 use crate::state_file::State;
 use crate::state_record::{FileRecord, RecordedState, Stamp};
-use jr_mend::Break;
+use jr_cut::Break;
 use sha2::{Digest, Sha256};
 use std::alloc::{AllocError, Global};
 use std::io::{Read, Write};

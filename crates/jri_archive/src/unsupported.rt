@@ -4,7 +4,7 @@ ghost use Rattle.std.specs.Prelude.{◌≡◌};
 ghost use Rattle.jri_archive.specs.Unsupported.{may_be_valid};
 
 use jr_base::marker::{SOF0, SOF2, SOF3, SOF9, SOF10, SOF11};
-use jr_head::Refusal;
+use jr_segments::Refusal;
 use std::alloc::AllocError;
 
 /// Define arithmetic coding conditioning (T.81, B.2.4.3).

@@ -15,12 +15,12 @@ ghost use Rattle.jri_memory.specs.Calls.{DecodesFile, DecodesLines, TellsFault, 
 ghost use Rattle.jri_memory.specs.Frames.{HasOneSize};
 ghost use Rattle.jri_memory.specs.Rows.{GivesRows, LacksRoomForRow, LacksRows, LiesInside, LiesOutside, SkipsRows, TellsPartialFault, TellsNoRows, TellsNothing, are_all, file_part, window_part};
 
+use jr_cut::Break;
 use jri_memory::{
-    Break, CanvasShape, ChoiceEntry, Damage, DamageReport, DecodeReport, FileBytes, Header,
-    MendReport, ResyncReport, RowPlace, RowsReport, build_text, check_marks, decode_canvas,
-    decode_file, decode_file_rows, decode_lines, decode_window_rows, end_text, lay_out,
-    list_damages, mend_files, read_header, refusal_text, resynchronise_file, skip_file_rows,
-    skip_window_rows,
+    CanvasShape, ChoiceEntry, Damage, DamageReport, DecodeReport, FileBytes, Header, MendReport,
+    ResyncReport, RowPlace, RowsReport, build_text, check_marks, decode_canvas, decode_file,
+    decode_file_rows, decode_lines, decode_window_rows, end_text, lay_out, list_damages,
+    mend_files, read_header, refusal_text, resynchronise_file, skip_file_rows, skip_window_rows,
 };
 use std::alloc::Global;
 

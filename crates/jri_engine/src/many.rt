@@ -8,7 +8,7 @@ ghost use Rattle.jri_words.specs.Steps.{DecodesEach, Follow, IsInDirectory, Leav
 use crate::ended::Ended;
 use crate::running::{Decoding, ImageFile, decode_to_part};
 use jr_base::Tally;
-use jr_mend::Break;
+use jr_cut::Break;
 use jr_picture::Fault;
 use jri_words::{
     Destination, Devices, Ending, Existing, ManyRequest, Names, Unasked, Verbosity, answer,

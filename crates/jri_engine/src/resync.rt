@@ -13,10 +13,12 @@ ghost use Rattle.jri_engine.specs.Resync.{BeginsResynced, HasResyncedScan, IsRes
 
 use crate::engine::write_image;
 use jr_base::Tally;
-use jr_head::{Head, Refusal};
-use jr_mend::{Break, ResyncFault, Resynced, is_in_step, resynchronised};
+use jr_cut::Break;
+use jr_head::Head;
+use jr_mend::{ResyncFault, Resynced, is_in_step, resynchronised};
 use jr_picture::{Fault, Report};
 use jr_scan::Scan;
+use jr_segments::Refusal;
 use jr_wall::Gate;
 use jri_file::read_file;
 use std::alloc::Global;

@@ -13,7 +13,7 @@ use crate::ended::Ended;
 use crate::engine::run;
 use crate::resync::run_resynced;
 use jr_base::Tally;
-use jr_mend::Break;
+use jr_cut::Break;
 use jr_picture::{Fault, Report};
 use jr_wall::OpenGate;
 use jri_words::{

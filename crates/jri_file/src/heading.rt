@@ -8,8 +8,9 @@ ghost use Rattle.jri_file.specs.Files.{BeginsWithHead, IsFaultOf, IsHeaderFaultO
 use crate::incoming::fault_of;
 use crate::reading::{PART, TOO_MANY, read_more};
 use jr_base::Tally;
-use jr_head::{Head, Refusal, read_head};
+use jr_head::{Head, read_head};
 use jr_picture::Fault;
+use jr_segments::Refusal;
 use std::alloc::Global;
 use std::io::Read;
 

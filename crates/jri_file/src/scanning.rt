@@ -6,8 +6,9 @@ ghost use Rattle.jr_segments.specs.declared.refusal.Refusal.TheVariants as refus
 ghost use Rattle.jr_head.specs.Heads.{RefusalOf};
 ghost use Rattle.jri_file.specs.Files.{IsScanOfFile};
 
-use jr_head::{Refusal, read_head};
+use jr_head::read_head;
 use jr_scan::Scan;
+use jr_segments::Refusal;
 use std::alloc::Global;
 use std::sync::Arc;
 

@@ -7,7 +7,7 @@ ghost use Rattle.jri_memory.specs.Calls.{IsRefusal, TellsNoPicture, TellsNoRefus
 use crate::decode::DecodeError;
 use crate::report::DecodeReport;
 use crate::status::{BUFFER_TOO_SMALL, DAMAGED, NO_MEMORY, REFUSED, SOUND, TOO_LONG};
-use jr_head::Refusal;
+use jr_segments::Refusal;
 
 /// Returns the status of a refusal.
 pub fn status_of(refusal: Refusal) -> u32

@@ -21,10 +21,11 @@ use crate::laying::form_of;
 use crate::report::DecodeReport;
 use crate::room::{asked_for, lacks_room};
 use jr_base::Memory;
-use jr_head::{Head, Kind, Refusal};
+use jr_head::{Head, Kind};
 use jr_picture::Counts;
 use jr_rows::{Marked, Rows, SampleRow, bytes_of_row, counts_of, lines_of, shape_of};
 use jr_scan::{FirstIntervals, Scan};
+use jr_segments::Refusal;
 use jri_canvas::{CanvasLines, Pixels, have_places, lay_lines};
 use std::alloc::Global;
 

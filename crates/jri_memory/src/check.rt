@@ -15,10 +15,10 @@ use crate::file_scan::scan_of;
 use crate::report::DecodeReport;
 use crate::room::{asked_for, lacks_room};
 use jr_damage::damaged_front;
-use jr_head::Refusal;
 use jr_picture::Counts;
 use jr_rows::{Marked, put_mark};
 use jr_scan::Scan;
+use jr_segments::Refusal;
 use std::alloc::Global;
 
 /// Returns whether interval i has a decoding.

@@ -18,8 +18,9 @@ use crate::status::{DAMAGED, SOUND};
 use crate::{detail, status_of};
 use jr_cut::{CodedSpan, offset_in, segment_at, unstuff_at};
 use jr_damage::{DamagedInterval, damaged_interval};
-use jr_head::{Head, Refusal, read_head};
+use jr_head::{Head, read_head};
 use jr_scan::IntervalRef;
+use jr_segments::Refusal;
 use std::alloc::Global;
 
 /// An interval that has no decoding, as numbers.

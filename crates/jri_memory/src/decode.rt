@@ -9,8 +9,8 @@ ghost use Rattle.jri_memory.specs.Resyncs.{IsTooLongRead, OfRead};
 use crate::file_scan::scan_of;
 use crate::report::DecodeReport;
 use crate::room::{asked_for, bytes_of_picture, lacks_room};
-use jr_head::Refusal;
 use jr_rows::paint_scan;
+use jr_segments::Refusal;
 use std::alloc::Global;
 
 /// Why nothing is decoded.

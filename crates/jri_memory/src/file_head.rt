@@ -7,7 +7,8 @@ ghost use Rattle.jr_arrival.specs.Settled.{WantsMore};
 ghost use Rattle.jri_memory.specs.Rows.{IsPartialFault};
 
 use jr_arrival::{FileBytes, read_partial_head};
-use jr_head::{Head, Refusal, read_head};
+use jr_head::{Head, read_head};
+use jr_segments::Refusal;
 use std::alloc::Global;
 
 /// Returns the header of a file, or `None` if more bytes may come and are wanted for it.

@@ -7,9 +7,10 @@ ghost use Rattle.jri_file.specs.Files.{IsScanOfFile};
 ghost use Rattle.jri_memory.specs.Resyncs.{IsTooLongFile, IsTooLongRead, OfRead};
 
 use crate::decode::DecodeError;
-use jr_head::{Head, Refusal, read_head};
+use jr_head::{Head, read_head};
 use jr_mend::{ResyncFault, is_in_step, resynchronised};
 use jr_scan::Scan;
+use jr_segments::Refusal;
 use std::alloc::Global;
 
 /// Cuts the scan of a file with this header.

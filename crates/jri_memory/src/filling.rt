@@ -5,7 +5,7 @@ ghost use Rattle.jr_cut.specs.declared.breaks.Break.{Break};
 ghost use Rattle.jri_memory.specs.Calls.{over};
 ghost use Rattle.jri_memory.specs.Filling.{listed_over};
 
-use jr_mend::Break;
+use jr_cut::Break;
 
 /// Writes bytes at the start of a buffer.
 pub(crate) fn write_over(bytes: &[u8], out: &mut [u8])

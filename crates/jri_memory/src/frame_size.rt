@@ -11,7 +11,7 @@ use jr_base::marker::{
     APP0, APP15, COM, DHT, DQT, DRI, PREFIX, SOF0, SOF1, SOF2, SOF3, SOF5, SOF7, SOF9, SOF11,
     SOF13, SOF15, SOI, SOS, fill_count,
 };
-use jr_head::Refusal;
+use jr_segments::Refusal;
 
 /// The size that a frame header has, whether or not jri decodes such a frame.
 #[derive(Clone, Copy)]

@@ -10,7 +10,8 @@ ghost use Rattle.jri_memory.specs.Calls.{TellsNoHeader, TellsNoSize, detail_of, 
 use crate::frame_size::FrameSize;
 use crate::report::detail;
 use crate::room::bytes_of_picture;
-use jr_head::{Head, Kind, Refusal};
+use jr_head::{Head, Kind};
+use jr_segments::Refusal;
 
 /// A file's header in numbers, or a refusal's two numbers and the size in a frame header; the rest is 0.
 #[repr(C)]

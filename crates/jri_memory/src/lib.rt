@@ -35,7 +35,7 @@ pub use canvas_calls::decode_canvas;
 pub use damages::{Damage, DamageReport, list_damages};
 pub use header::Header;
 pub use jr_arrival::{FileBytes, RowPlace};
-pub use jr_mend::{Break, MAX_COPIES};
+pub use jr_mend::MAX_COPIES;
 pub use laying::lay_out;
 pub use mend::mend_files;
 pub use mend_report::{ChoiceEntry, MendReport};

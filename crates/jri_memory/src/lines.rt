@@ -9,10 +9,11 @@ ghost use Rattle.jri_memory.specs.Resyncs.{IsTooLongRead, OfRead};
 use crate::decode::DecodeError;
 use crate::file_scan::scan_of;
 use crate::report::DecodeReport;
-use jr_head::{Head, Refusal};
+use jr_head::Head;
 use jr_paint::bytes_of_line;
 use jr_picture::Counts;
 use jr_rows::paint_scan_lines;
+use jr_segments::Refusal;
 use std::alloc::Global;
 
 /// Returns whether an image has these lines, at least one.

@@ -14,8 +14,8 @@ use crate::mend_report::{ChoiceEntry, MendReport, list_choices};
 use crate::status::{
     BUFFER_TOO_SMALL, DAMAGED, NO_COPIES, NO_MEMORY, OTHER_HEADER, REFUSED, SOUND, TOO_LONG,
 };
-use jr_head::Refusal;
 use jr_mend::{FileCopy, MAX_COPIES, MendError, Mended, mend};
+use jr_segments::Refusal;
 use std::alloc::Global;
 
 /// Why copies are not mended.

@@ -8,8 +8,8 @@ ghost use Rattle.jri_memory.specs.Filling.{listed_over};
 ghost use Rattle.jri_memory.specs.Mends.{TellsMend, TellsNoMend, choice_entry, is_damaged_choice};
 
 use crate::detail;
-use jr_head::Refusal;
 use jr_mend::{Choice, Mended};
+use jr_segments::Refusal;
 
 /// The choice of an interval, as numbers.
 #[repr(C)]

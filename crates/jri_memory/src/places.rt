@@ -10,7 +10,8 @@ ghost use Rattle.jri_memory.specs.Rows.{GivesRows, HasRowAt, IsInPart, IsPartial
 use crate::file_head::head_of;
 use crate::rows_report::RowsReport;
 use jr_arrival::{FileBytes, RowPlace, decode_rows, rows_with_room, skip_rows, stands_at};
-use jr_head::{Head, Refusal};
+use jr_head::Head;
+use jr_segments::Refusal;
 use std::alloc::Global;
 
 /// Why a position is not moved.

@@ -4,9 +4,10 @@ ghost use Rattle.std.specs.Prelude.{◌≡◌, length};
 ghost use Rattle.jr_segments.specs.Refusal.{number_of};
 ghost use Rattle.jri_memory.specs.Calls.{TellsScanEnd, TellsNoPicture, TellsNoRefusal, detail_of};
 
-use jr_head::Refusal;
+use jr_cut::ScanEnd;
 use jr_picture::Counts;
-use jr_scan::{Scan, ScanEnd};
+use jr_scan::Scan;
+use jr_segments::Refusal;
 
 /// The report of a decoding; all numbers are 0 unless stated otherwise.
 #[repr(C)]

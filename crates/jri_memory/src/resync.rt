@@ -11,8 +11,10 @@ use crate::filling::{list_breaks, write_over};
 use crate::report::DecodeReport;
 use crate::status::{BUFFER_TOO_SMALL, OK, TOO_LONG};
 use crate::{detail, status_of};
-use jr_head::{Refusal, read_head};
-use jr_mend::{Break, ResyncFault, Resynced, resynchronised};
+use jr_cut::Break;
+use jr_head::read_head;
+use jr_mend::{ResyncFault, Resynced, resynchronised};
+use jr_segments::Refusal;
 use std::alloc::Global;
 
 /// The report of a file that is resynchronised; all numbers are 0 unless stated otherwise.

@@ -8,7 +8,8 @@ ghost use Rattle.jri_memory.specs.Rows.{TellsNoRows, TellsNothing};
 
 use crate::report::detail;
 use jr_arrival::{lines_before, lines_between};
-use jr_head::{Head, Refusal};
+use jr_head::Head;
+use jr_segments::Refusal;
 
 /// The report of a call that continues from a position; all numbers are 0 unless stated otherwise.
 #[repr(C)]

@@ -6,8 +6,8 @@ ghost use Rattle.jri_memory.specs.Calls.{IsNumberOfSome};
 
 use crate::report::DecodeReport;
 use jr_base::VERSION;
-use jr_head::Refusal;
-use jr_scan::ScanEnd;
+use jr_cut::ScanEnd;
+use jr_segments::Refusal;
 use std::io::{Cursor, Write};
 
 /// Maximum length in bytes of the text of a refusal.

@@ -1,6 +1,6 @@
 //! Markers of copies that are out of step, in lines and objects.
 
-use jr_mend::Break;
+use jr_cut::Break;
 use std::fmt;
 use std::fmt::{Display, Formatter};
 

@@ -4,8 +4,9 @@ ghost use Rattle.std.specs.Prelude.{◌≡◌, ◌<◌, IfOk, length};
 ghost use Rattle.jr_head.specs.Heads.{HeadOf};
 
 use crate::reading::{CopyError, refused};
-use jr_head::{Head, Refusal, read_head};
+use jr_head::{Head, read_head};
 use jr_mend::under_header;
+use jr_segments::Refusal;
 use std::alloc::Global;
 use std::fmt;
 use std::fmt::{Display, Formatter};

@@ -4,8 +4,10 @@ ghost use Rattle.std.specs.Prelude.{◌≡◌, ◌<◌, IfOk, length};
 
 use crate::breaks::CopyBreak;
 use jr_base::limits::MAX_FILE_BYTES;
-use jr_head::{Refusal, read_head};
-use jr_mend::{Break, FileCopy, ResyncFault, is_in_step, resynchronised};
+use jr_cut::Break;
+use jr_head::read_head;
+use jr_mend::{FileCopy, ResyncFault, is_in_step, resynchronised};
+use jr_segments::Refusal;
 use jri_words::Devices;
 use std::alloc::Global;
 use std::fmt;

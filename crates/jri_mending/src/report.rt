@@ -6,9 +6,9 @@ use crate::headers::{Borrowed, BorrowedObject};
 use crate::outcome::Outcome;
 use crate::preparing::Prepared;
 use crate::runs::{RunObject, run_at};
+use jr_cut::ScanEnd;
 use jr_mend::{ByteRun, Choice};
 use jr_picture::Report;
-use jr_scan::ScanEnd;
 use std::alloc::{AllocError, Global};
 use std::io::{Result as IoResult, Write};
 

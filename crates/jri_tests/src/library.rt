@@ -1,10 +1,11 @@
 //! Calls of the library that the program `cases` does not make: a file with its markers in step, a file from copies, lines on a
 //! canvas, and the build's name.
 
+use jr_cut::Break;
 use jri_memory::status::{DAMAGED, OK, SOUND};
 use jri_memory::{
-    Break, ChoiceEntry, DecodeReport, MendReport, ResyncReport, build_text, check_marks,
-    decode_file, lay_out, mend_files, resynchronise_file,
+    ChoiceEntry, DecodeReport, MendReport, ResyncReport, build_text, check_marks, decode_file,
+    lay_out, mend_files, resynchronise_file,
 };
 use std::test::Fail;
 use test_files::files::{TEN, file, front};
