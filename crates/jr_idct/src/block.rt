@@ -4,12 +4,13 @@ ghost use Rattle.std.specs.Prelude.{◌≡◌, ℕ, ◌+◌, ◌*◌, ◌<◌, p
 ghost use Rattle.std.proofs.Math.IntN.{◌*ℤ◌};
 ghost use Rattle.jr_base.specs.declared.quantisers.TheConstants.{MAX_PRODUCT};
 ghost use Rattle.jr_idct.specs.Matrix.{at, IsWithin};
-ghost use Rattle.jr_idct.specs.Transform.{product_at, sample, samples};
+ghost use Rattle.jr_idct.specs.Transform.{product_at, sample, samples, zigzag_place, IsLow};
 
 use crate::first_only::flat_block;
+use crate::low::low_samples;
 use crate::matrix::dequantised;
 use crate::pair::pair_samples;
-use crate::small::{is_flat, is_small};
+use crate::small::{are_flat, are_low, are_small};
 use crate::wide::wide_samples;
 use jr_base::{Coefficients, Quantisers};
 
@@ -59,16 +60,29 @@ fn small_blocks(a: &Coefficients, b: &Coefficients, quantisers: &Quantisers) -> 
     pair_samples(a.natural(), b.natural(), quantisers.factors())
 }
 
+/// Returns the samples of two such blocks that are zero in rows and columns 4 to 7.
+#[inline(always)]
+fn low_blocks(a: &Coefficients, b: &Coefficients, quantisers: &Quantisers) -> ([u8; 64], [u8; 64])
+    requires small_a { (n : ℕ) → n < 64 → IsWithin MAX_PRODUCT (product_at a.now quantisers.now n) }
+    requires small_b { (n : ℕ) → n < 64 → IsWithin MAX_PRODUCT (product_at b.now quantisers.now n) }
+    requires low_a { IsLow (λ n. at a.now (zigzag_place n)) }
+    requires low_b { IsLow (λ n. at b.now (zigzag_place n)) }
+    ensures first { result.0 ≡ samples a.now quantisers.now }
+    ensures second { result.1 ≡ samples b.now quantisers.now }
+{
+    low_samples(a.natural(), b.natural(), quantisers.factors())
+}
+
 /// Returns the samples of a block, at index `8 row + column`: dequantised, transformed and shifted (T.81, A.3.1, A.3.3,
 /// A.3.4 and A.3.6).
 #[inline(never)]
 pub fn transform_one(block: &Coefficients, quantisers: &Quantisers) -> [u8; 64]
     ensures { result ≡ samples block.now quantisers.now }
 {
-    if is_flat(block) {
+    if are_flat(block, block) {
         return flat_block(block, quantisers);
     }
-    if is_small(block, quantisers) {
+    if are_small(block, block, quantisers) {
         let (samples, _) = small_blocks(block, block, quantisers);
         return samples;
     }
@@ -86,11 +100,15 @@ pub fn transform_two(
     ensures first { result.0 ≡ samples a.now quantisers.now }
     ensures second { result.1 ≡ samples b.now quantisers.now }
 {
-    if is_flat(a) && is_flat(b) {
+    // two flat blocks are low, so that a pair that is not low needs no further test
+    let low = are_low(a, b);
+    if low && are_flat(a, b) {
         (flat_block(a, quantisers), flat_block(b, quantisers))
-    } else if is_small(a, quantisers) && is_small(b, quantisers) {
-        small_blocks(a, b, quantisers)
-    } else {
+    } else if !are_small(a, b, quantisers) {
         (any_block(a, quantisers), any_block(b, quantisers))
+    } else if low {
+        low_blocks(a, b, quantisers)
+    } else {
+        small_blocks(a, b, quantisers)
     }
 }

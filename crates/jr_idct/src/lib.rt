@@ -11,6 +11,7 @@ mod butterfly;
 mod first_only;
 mod lanes;
 mod laws;
+mod low;
 mod matrix;
 mod number;
 mod pair;

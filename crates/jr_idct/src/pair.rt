@@ -24,7 +24,7 @@ fn product(coefficient: i16, factor: u16) -> i16
 
 /// Dequantisation (T.81, A.3.4) of a block in natural order.
 #[inline(always)]
-fn small_products(block: &[i16; 64], factors: &[u16; 64]) -> [i16; 64]
+pub(crate) fn small_products(block: &[i16; 64], factors: &[u16; 64]) -> [i16; 64]
     requires { (n : ℕ) → n < 64 → IsWithin MAX_PRODUCT (at block.now n *ℤ pos (slice_index factors.now n)) }
     ensures { (n : ℕ) → n < 64 → at result n ≡ at block.now n *ℤ pos (slice_index factors.now n) }
 {
@@ -110,7 +110,7 @@ fn halves(a: u8x32, b: u8x32, second: bool) -> u8x32
 
 /// Returns the samples of a block of four times two rows of both: of the first, or of the second.
 #[inline(always)]
-fn gathered(q0: u8x32, q1: u8x32, q2: u8x32, q3: u8x32, second: bool) -> [u8; 64]
+pub(crate) fn gathered(q0: u8x32, q1: u8x32, q2: u8x32, q3: u8x32, second: bool) -> [u8; 64]
     ensures { (k : ℕ) → k < 64 → slice_index result k ≡ slice_index (slice_index_or (q0 ∷ q1 ∷ q2 ∷ q3 ∷ []) (k / 16) []) (k % 16 + cond second 16 0) }
 {
     let upper = halves(q0, q1, second);
@@ -128,7 +128,7 @@ fn gathered(q0: u8x32, q1: u8x32, q2: u8x32, q3: u8x32, second: bool) -> [u8; 64
 
 /// Returns the rows of two blocks side by side.
 #[inline(always)]
-fn rows_of(a: &[i16; 64], b: &[i16; 64]) -> Rows
+pub(crate) fn rows_of(a: &[i16; 64], b: &[i16; 64]) -> Rows
     requires small_a { (n : ℕ) → n < 64 → IsWithin MAX_PRODUCT (at a.now n) }
     requires small_b { (n : ℕ) → n < 64 → IsWithin MAX_PRODUCT (at b.now n) }
     ensures first { (r c : ℕ) → r < 8 → c < 8 → lane (result.0 ∷ result.1 ∷ result.2 ∷ result.3 ∷ result.4 ∷ result.5 ∷ result.6 ∷ result.7 ∷ []) r c ≡ at a.now (8 * r + c) }
@@ -146,10 +146,10 @@ fn rows_of(a: &[i16; 64], b: &[i16; 64]) -> Rows
 }
 
 /// Added before the first pass drops its bits: a half.
-const COLUMN_CONSTANT: i32 = 1024;
+pub(crate) const COLUMN_CONSTANT: i32 = 1024;
 
 /// Added before the second pass drops its bits: a half, and the level shift of 128 (T.81, A.3.1).
-const ROW_CONSTANT: i32 = 33_685_504;
+pub(crate) const ROW_CONSTANT: i32 = 33_685_504;
 
 /// Makes both passes and the level shift: column c of both blocks is row c of the result.
 #[inline(always)]
@@ -167,7 +167,7 @@ fn values(x: Rows) -> Rows
 /// Returns the nearest bytes to the columns of both blocks, row by row. They are made bytes first, of which half as
 /// many vectors are turned.
 #[inline(always)]
-fn byte_rows(t: Rows) -> Bytes
+pub(crate) fn byte_rows(t: Rows) -> Bytes
     ensures first { (r c : ℕ) → r < 8 → c < 8 → slice_index (slice_index_or (result.0 ∷ result.1 ∷ result.2 ∷ result.3 ∷ []) ((8 * r + c) / 16) []) ((8 * r + c) % 16) ≡ byte_of (lane (t.0 ∷ t.1 ∷ t.2 ∷ t.3 ∷ t.4 ∷ t.5 ∷ t.6 ∷ t.7 ∷ []) c r) }
     ensures second { (r c : ℕ) → r < 8 → c < 8 → slice_index (slice_index_or (result.0 ∷ result.1 ∷ result.2 ∷ result.3 ∷ []) ((8 * r + c) / 16) []) ((8 * r + c) % 16 + 16) ≡ byte_of (lane (t.0 ∷ t.1 ∷ t.2 ∷ t.3 ∷ t.4 ∷ t.5 ∷ t.6 ∷ t.7 ∷ []) c (8 + r)) }
 {
