@@ -29,7 +29,7 @@ _jri_mend() {
     if ! _jri_mend_is_after_options; then
         case $before in -o | --output) return ;; esac
         case $word in
-            -*) compopt +o default; mapfile -t COMPREPLY < <(compgen -W '-o --output --json --resync --no-resync --borrow-headers --help --version' -- "$word"); return ;;
+            -*) compopt +o default; mapfile -t COMPREPLY < <(compgen -W '-o --output --json --resync --no-resync --borrow-headers --trees --copy-equal --help --version' -- "$word"); return ;;
         esac
     fi
     _jri_mend_names "$word"

@@ -8,4 +8,6 @@ _arguments -S \
     '(--no-resync)--resync[read past restart markers that are out of step: the default]' \
     '(--resync)--no-resync[do not read past restart markers that are out of step]' \
     '--borrow-headers[read copies with damaged headers under the header of another copy]' \
+    '--trees[mend the files of each name in directories, which are copies of one]' \
+    '--copy-equal[with --trees, also copy files that are equal in all directories]' \
     '*:JPEG file:_files -g "*.(#i)(jpg|jpeg|jpe|jfif)(-.)"'

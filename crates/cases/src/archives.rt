@@ -5,9 +5,8 @@ use crate::commands::{compare_field, named_by};
 use crate::differences::Differences;
 use crate::row::{field, part};
 use crate::texts::put_check_lines;
-use jri_archive::{
-    Entry, EntryKind, Folder, Lists, NoProgress, ReadError, StateError, Streams, program,
-};
+use jri_archive::{Folder, Lists, NoProgress, StateError, Streams, program};
+use jri_machine::{Entry, EntryKind, ReadError};
 use std::alloc::Global;
 use std::io::{Cursor, Error, ErrorKind, Result as IoResult, Write};
 use std::sync::Wait;

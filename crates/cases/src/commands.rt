@@ -7,6 +7,7 @@ use crate::texts::put_lines;
 use jri_engine::{
     Devices, Mode, describe_request, many_request, program, program_for_headers, program_for_many,
 };
+use jri_mending::{is_of_trees, program_for_trees, trees_request};
 use std::alloc::{AllocError, Global};
 use std::io::{Error, ErrorKind, Result as IoResult};
 use std::mem::replace;
@@ -129,6 +130,10 @@ pub(crate) fn run<R: Threads + Wait + Sync, D: Devices>(
     errors: &mut Vec<u8>,
 ) -> u8 {
     match (command.0, words_of(alloc, command.1)) {
+        (Program::Mend, Ok(words)) if is_of_trees(&words) => {
+            let request = trees_request(alloc, &words);
+            program_for_trees(alloc, machine, request, errors).status()
+        }
         (Program::Mend, words) => jri_mending::program(alloc, machine, words, errors).status(),
         (Program::Decode, Ok(words)) => run_on(rt, alloc, machine, words, errors),
         (Program::Decode, Err(error)) => program(rt, alloc, machine, Err(error), errors).status(),

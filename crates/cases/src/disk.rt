@@ -3,7 +3,9 @@
 use crate::commands::{Program, compare_field, content, makes, named_by, run};
 use crate::differences::Differences;
 use crate::row::field;
+use jri_machine::{Entry, EntryKind, entries_in};
 use jri_words::Machine;
+use std::alloc::Global;
 use std::fs;
 use std::io::Result as IoResult;
 use std::sync::Wait;
@@ -31,6 +33,9 @@ fn make_files(rt: &HostRuntime, table: &str, out: &Differences) -> Result<(), No
         if let Some((name, words)) = named_by(line, '=') {
             let bytes = file(out.alloc, words)?;
             let path = path_of(out, name)?;
+            if let Some((directory, _)) = path.as_str().rsplit_once('/') {
+                unusable(fs::create_dir_all(rt, directory))?;
+            }
             unusable(fs::write(rt, path.as_str(), bytes))?;
         }
     }
@@ -79,11 +84,40 @@ fn compare_files(
     Ok(count)
 }
 
-/// Returns the number of files in the directory.
-fn count_files(rt: &HostRuntime) -> Result<usize, NotationError> {
+/// Adds the directories among entries, and returns the number of the others.
+fn add_directories(
+    alloc: Global,
+    waiting: &mut Vec<String>,
+    entries: &[Entry],
+) -> Result<usize, NotationError> {
     let mut count: usize = 0;
-    for _found in unusable(fs::read_dir(rt, DIRECTORY))? {
-        count = count.saturating_add(1);
+    for entry in entries {
+        match (entry.kind, str::from_utf8(entry.name.as_slice())) {
+            (EntryKind::Folder, Ok(name)) => {
+                waiting.push(String::from_str(alloc, name)?)?;
+            }
+            _ => count = count.saturating_add(1),
+        }
+    }
+    Ok(count)
+}
+
+/// Returns the number of files below the directory.
+fn count_files(rt: &HostRuntime) -> Result<usize, NotationError> {
+    let mut waiting = Vec::new(rt.alloc());
+    waiting.push(String::from_str(rt.alloc(), DIRECTORY)?)?;
+    let mut count: usize = 0;
+    for _ in 0..u64::MAX {
+        let Some(directory) = waiting.pop() else {
+            break;
+        };
+        match entries_in(rt, directory.as_str()) {
+            Ok(Some(entries)) => {
+                let files = add_directories(rt.alloc(), &mut waiting, &entries)?;
+                count = count.saturating_add(files);
+            }
+            _ => return Err(NotationError::Malformed),
+        }
     }
     Ok(count)
 }

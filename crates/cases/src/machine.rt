@@ -3,6 +3,7 @@
 ghost use Rattle.std.specs.Io.{ReadsAtMost};
 
 use jri_engine::{Destination, Devices, Existing, Part};
+use jri_machine::{Entry, EntryKind, ReadError};
 use std::alloc::{AllocError, Global};
 use std::cell::RefCell;
 use std::io::{Error, ErrorKind, Read, Result as IoResult, Write};
@@ -207,6 +208,42 @@ impl Machine {
     }
 }
 
+/// Returns whether a name is one in a directory.
+fn is_in(name: &str, directory: &str) -> bool {
+    match name.strip_prefix(directory.trim_end_matches('/')) {
+        Some(rest) => rest.starts_with('/'),
+        None => false,
+    }
+}
+
+/// Returns the entry of a directory that a file is, or in which it lies.
+fn entry_of<'a>(file: &'a str, directory: &str) -> Option<(&'a str, EntryKind)> {
+    let rest = file.strip_prefix(directory.trim_end_matches('/'))?.strip_prefix('/')?;
+    match rest.split_once('/') {
+        Some((_, below)) => {
+            let end = file.len().saturating_sub(below.len()).saturating_sub(1);
+            Some((file.get(..end)?, EntryKind::Folder))
+        }
+        None => Some((file, EntryKind::File)),
+    }
+}
+
+impl Machine {
+    /// Returns the entries of a directory of the names of files.
+    fn entries_of(&self, directory: &str) -> Result<Vec<Entry>, AllocError> {
+        let mut entries: Vec<Entry> = Vec::new(self.alloc);
+        for file in &self.files {
+            if let Some((name, kind)) = entry_of(file.name.as_str(), directory)
+                && !entries.iter().any(|entry| entry.name.as_slice() == name.as_bytes())
+            {
+                let name = name.as_bytes().to_vec(self.alloc)?;
+                entries.push(Entry { name, kind })?;
+            }
+        }
+        Ok(entries)
+    }
+}
+
 impl Devices for Machine {
     type Input = Handle;
 
@@ -243,6 +280,19 @@ impl Devices for Machine {
         Some(self.claimed_size.unwrap_or(bytes.len() as u64))
     }
 
+    fn entries(&self, name: &str) -> Result<Option<Vec<Entry>>, ReadError> {
+        match self.entries_of(name) {
+            Ok(entries) if !entries.is_empty() => Ok(Some(entries)),
+            Ok(_) if self.named(name).is_some() => Ok(None),
+            Ok(_) => Err(ReadError::NotFound),
+            Err(_) => Err(ReadError::Memory),
+        }
+    }
+
+    fn is_within(&self, name: &str, directory: &str) -> bool {
+        name == directory || is_in(name, directory)
+    }
+
     fn destination(&self, name: &str, source: Option<&str>) -> Destination {
         match (source, self.named(name)) {
             (Some(source), _) if source == name => Destination::Source,
@@ -269,6 +319,10 @@ impl Devices for Machine {
         }
         self.put(name, &[], false)?;
         self.open(name)
+    }
+
+    fn make_directory(&mut self, _name: &str) -> IoResult<()> {
+        Ok(())
     }
 
     fn sync(&mut self, _part: &mut Part<Handle>) -> IoResult<()> {

@@ -2,9 +2,10 @@
 //! them: the reading of each waits for that of the other.
 
 use jri_archive::{
-    CheckRequest, Entry, FileCounts, Findings, Folder, NoProgress, ReadError, Source, State,
-    append_counts_line, asked, check_all, write_counts_line,
+    CheckRequest, FileCounts, Findings, Folder, NoProgress, Source, State, append_counts_line,
+    asked, check_all, write_counts_line,
 };
+use jri_machine::{Entry, ReadError};
 use std::alloc::Global;
 use std::io::{BufReader, Cursor};
 use std::sync::atomic::{AtomicU32, Ordering};

@@ -2,9 +2,10 @@
 
 use crate::archive::{NO_LIST, request_of};
 use jri_archive::{
-    CheckEnd, Entry, EntryKind, FileRecord, Folder, NoProgress, ReadError, RecordedState, Source,
-    Stamp, State, StateError, check_all, parse_record, read_state, record_line,
+    CheckEnd, FileRecord, Folder, NoProgress, RecordedState, Source, Stamp, State, StateError,
+    check_all, parse_record, read_state, record_line,
 };
+use jri_machine::{Entry, EntryKind, ReadError};
 use std::alloc::Global;
 use std::io::{Result as IoResult, Write};
 use std::sync::atomic::{AtomicU64, Ordering};

@@ -7,8 +7,8 @@ use Rattle.std.proofs.Math.ListN.{drop_of_length-le}
 use Rattle.std.proofs.Math.Seq.{drop-cons}
 use Rattle.std.proofs.lemmas.Bool.{cases_lt, ltb-true}
 use Rattle.std.proofs.lemmas.Option.{none-some, slice_get-get_or}
-use Rattle.jri_archive.specs.declared.names.NamedFile.{NamedFile}
-use Rattle.jri_archive.specs.declared.reading.ReadError.{ReadError}
+use Rattle.jri_machine.specs.declared.walking.NamedFile.{NamedFile}
+use Rattle.jri_machine.specs.declared.entries.ReadError.{ReadError}
 use Rattle.jri_archive.specs.Names.{IsNamed, IsNextFile, IsNoText, names_left}
 use Rattle.jri_archive.specs.declared.outcome.Outcome.{Outcome}
 use Rattle.jri_archive.specs.declared.outcome.Outcome.TheVariants as outcome

@@ -7,8 +7,8 @@ use Rattle.std.proofs.Math.Seq.{drop-cons}
 use Rattle.std.proofs.Math.ListN.{drop_of_length-le}
 use Rattle.std.specs.Prelude.{IfSome, IfNone, option_map}
 use Rattle.jri_archive.specs.declared.given.ListedName.{ListedName}
-use Rattle.jri_archive.specs.declared.names.NamedFile.{NamedFile}
-use Rattle.jri_archive.specs.declared.reading.ReadError.{ReadError}
+use Rattle.jri_machine.specs.declared.walking.NamedFile.{NamedFile}
+use Rattle.jri_machine.specs.declared.entries.ReadError.{ReadError}
 use Rattle.jri_archive.specs.Names.{names_in, names_left, IsNamed, IsNextFile, IsNextGiven, IsNextListed, IsNoText}
 
 abbrev bytes_of : Vec ℕ → List ℕ

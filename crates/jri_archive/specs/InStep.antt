@@ -6,8 +6,8 @@ use Rattle.jr_head.specs.HeadValue.{HeadValue}
 use Rattle.jr_head.specs.Heads.{HeadOf, RefusalOf}
 use Rattle.jr_cut.specs.declared.breaks.Break.{Break}
 use Rattle.jr_mend.specs.Reading.{Becomes, IsFileInStep, IsTooLong}
-use Rattle.jri_archive.specs.declared.reading.ReadError.{ReadError}
-use Rattle.jri_archive.specs.declared.reading.ReadError.TheVariants.{Memory, TooLong}
+use Rattle.jri_machine.specs.declared.entries.ReadError.{ReadError}
+use Rattle.jri_machine.specs.declared.entries.ReadError.TheVariants.{Memory, TooLong}
 
 -- the file with its restart markers in step, and the markers that are not
 pub record IsPutInStep (file bytes : List ℕ) (breaks : List Break) : Type 0 where

@@ -1,6 +1,5 @@
 pub mod DamagedLines
 pub mod Doubts
-pub mod Escapes
 pub mod InStep
 pub mod Names
 pub mod Outcomes

@@ -4,9 +4,9 @@ use Rattle.std.specs.Prelude.{option_map}
 use Rattle.std.specs.Global.{Vec}
 use Rattle.std.specs.Str.{IsUtf8}
 use Rattle.jri_archive.specs.declared.given.ListedName.{ListedName}
-use Rattle.jri_archive.specs.declared.names.NamedFile.{NamedFile}
-use Rattle.jri_archive.specs.declared.reading.ReadError.{ReadError}
-use Rattle.jri_archive.specs.declared.reading.ReadError.TheVariants.{NameIsNoText}
+use Rattle.jri_machine.specs.declared.walking.NamedFile.{NamedFile}
+use Rattle.jri_machine.specs.declared.entries.ReadError.{ReadError}
+use Rattle.jri_machine.specs.declared.entries.ReadError.TheVariants.{NameIsNoText}
 
 -- the byte, and then the first of these names
 abbrev pub begin_with : ℕ → List (List ℕ) → List (List ℕ)

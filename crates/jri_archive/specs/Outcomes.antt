@@ -5,7 +5,7 @@ use Rattle.jr_head.specs.Heads.{RefusalOf}
 use Rattle.jr_scan.specs.ImageEnd.{IsImageEndIn}
 use Rattle.jri_archive.specs.declared.counts.FileState.{FileState}
 use Rattle.jri_archive.specs.declared.counts.FileState.TheVariants.{Sound, Damaged, Refused, Unsupported, Unread, OutOfMemory, Skipped, Changed}
-use Rattle.jri_archive.specs.declared.reading.ReadError.TheVariants as read
+use Rattle.jri_machine.specs.declared.entries.ReadError.TheVariants as read
 use Rattle.jri_archive.specs.declared.outcome.Outcome.{Outcome}
 use Rattle.jri_archive.specs.declared.outcome.Outcome.TheVariants as outcome
 use Rattle.jri_archive.specs.DamagedLines.{AreUndecoded}

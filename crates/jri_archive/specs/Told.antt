@@ -1,8 +1,8 @@
 -- What is reported of files that have names.
 use Rattle.std.specs.Prelude.{◌≡◌, ◌≢◌, ℕ, ◌-◌, ◌^◌, ◌<◌, ◌≤◌, ◌⊎◌, Bool, true, false, List, [], Option, Some, None, drop, length, min, nat_lt, sum_by, slice_get, slice_index_or, IfSome, if◌then◌else◌}
 use Rattle.std.specs.Global.{Vec}
-use Rattle.jri_archive.specs.declared.reading.ReadError.{ReadError}
-use Rattle.jri_archive.specs.declared.names.NamedFile.{NamedFile}
+use Rattle.jri_machine.specs.declared.entries.ReadError.{ReadError}
+use Rattle.jri_machine.specs.declared.walking.NamedFile.{NamedFile}
 use Rattle.jri_archive.specs.declared.names.NamesError.{NamesError}
 use Rattle.jri_archive.specs.Names.{IsNamed, IsNoText, names_left}
 use Rattle.jri_archive.specs.declared.counts.CheckEnd.{CheckEnd}

@@ -5,11 +5,12 @@ ghost use Rattle.jr_segments.specs.declared.refusal.Refusal.TheVariants as refus
 ghost use Rattle.jr_head.specs.Heads.{HeadOf};
 ghost use Rattle.jri_archive.specs.InStep.{IsInStepError, IsInStepOf};
 
-use crate::reading::{Entry, FileBytes, Folder, ReadError};
+use crate::reading::{FileBytes, Folder};
 use crate::state_record::Stamp;
 use jr_head::{Head, read_head};
 use jr_mend::{ResyncFault, is_in_step, resynchronised};
 use jr_segments::Refusal;
+use jri_machine::{Entry, ReadError};
 use std::alloc::Global;
 
 /// A directory whose files are resynchronised before they are checked, if that is asked for.

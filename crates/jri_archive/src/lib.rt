@@ -1,5 +1,5 @@
 //! The check of JPEG files for damage: a line for each, and an exit status. No image is made. The names of files: among the
-//! arguments of a command line, in lists, in directories, and as JSON strings from which they come back.
+//! arguments of a command line, in lists, and in directories.
 #![tactic(auto)]
 
 mod answering;
@@ -10,13 +10,10 @@ mod count_lines;
 mod counts;
 mod damaged_lines;
 mod damaged_run;
-mod escaping;
 mod file_queue;
-mod folders;
 mod given;
 mod in_step;
 mod judging;
-mod laws;
 mod lines;
 mod map;
 mod names;
@@ -41,11 +38,10 @@ pub use checking::{Checked, check_file};
 pub use count_lines::{append_counts_line, write_counts_line};
 pub use counts::{CheckEnd, CheckReport, FileCounts, FileState, Finding, Findings};
 pub use in_step::InStepFolder;
-pub use laws::names_come_back;
 pub use map::TellError;
 pub use outcome::{Outcome, outcome_of};
 pub use progress::{NoProgress, Progress, Reported, TerminalProgress};
-pub use reading::{Entry, EntryKind, FileBytes, Folder, ReadError};
+pub use reading::{FileBytes, Folder};
 pub use running::{Ended, Lists, Streams, program};
 pub use sharing::check_all;
 pub use source::Source;

@@ -2,14 +2,12 @@
 
 use crate::checking::Checked;
 use crate::counts::FileState;
-use crate::escaping::{text_of, write_string};
 use crate::outcome::Outcome;
-use crate::reading::ReadError;
 use crate::unsupported::{refused_word, write_reason};
-use jr_base::Printable;
 use jr_cut::ScanEnd;
 use jr_damage::Lines;
 use jr_segments::Refusal;
+use jri_machine::{ReadError, begin_line};
 use std::alloc::AllocError;
 
 /// What precedes a value: in a line of text, and in a JSON object.
@@ -18,31 +16,6 @@ pub(crate) type Label = (&'static str, &'static str);
 /// Returns a label in one of the forms.
 pub(crate) fn in_form(label: Label, is_json: bool) -> &'static str {
     if is_json { label.1 } else { label.0 }
-}
-
-/// Appends a file's name, in which bytes that are not UTF-8 are also written as `?`.
-fn write_name(line: &mut String, name: &[u8]) -> Result<(), AllocError> {
-    let mut rest = name;
-    for _ in 0..=name.len() {
-        let text = text_of(rest);
-        write!(line, "{}", Printable(text))?;
-        if text.len() == rest.len() {
-            break;
-        }
-        line.push('?')?;
-        rest = &rest[text.len() + 1..];
-    }
-    Ok(())
-}
-
-/// Begins the line of a file: its name and a colon, or the first member.
-pub(crate) fn begin_line(line: &mut String, name: &[u8], is_json: bool) -> Result<(), AllocError> {
-    if is_json {
-        line.push_str("{\"file\":")?;
-        return write_string(line, name);
-    }
-    write_name(line, name)?;
-    line.push_str(": ")
 }
 
 /// Appends a text after its label, as a JSON string if the line is an object.

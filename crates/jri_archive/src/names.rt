@@ -4,21 +4,12 @@ ghost use Rattle.std.specs.Prelude.{◌≡◌, ℕ, List, Some, None, false, len
 ghost use Rattle.std.specs.Io.Buffered.{reader_remaining};
 ghost use Rattle.jri_archive.specs.Names.{IsNamed, IsNextFile, IsNoText, names_left};
 
-use crate::folders::FolderWalk;
 use crate::given::GivenNames;
-use crate::reading::{Folder, ReadError};
+use crate::reading::Folder;
+use jri_machine::{FolderWalk, NamedFile, ReadError};
 use std::alloc::{AllocError, Global};
 use std::io::{BufReader, Read};
 use std::marker::Model;
-
-/// A file that is to be checked, or why it is not opened.
-#[derive(Drop)]
-pub struct NamedFile {
-    pub name: Vec<u8>,
-    pub error: Option<ReadError>,
-    /// It was found in a directory, and its name is neither UTF-8 nor that of a JPEG file: it may be a file of any kind.
-    pub is_skipped: bool,
-}
 
 /// Why there is no further name.
 #[derive(Clone, Copy)]
@@ -80,6 +71,28 @@ fn file_of(name: Option<Vec<u8>>) -> Option<NamedFile>
     }
 }
 
+/// Returns the next file, with each directory replaced by the files in it; `None` after the last.
+fn next_found<F: Folder, I: Read + Drop>(
+    alloc: Global,
+    walk: &mut FolderWalk,
+    folder: &F,
+    given: &mut GivenNames<I>,
+) -> Result<Option<NamedFile>, NamesError> {
+    let list = |name: &str| folder.entries(alloc, name);
+    for _ in 0..u64::MAX {
+        if let Some(file) = walk.next(&list)? {
+            return Ok(Some(file));
+        }
+        let Some(name) = given.next(alloc)? else {
+            return Ok(None);
+        };
+        if let Some(file) = walk.start(&list, name)? {
+            return Ok(Some(file));
+        }
+    }
+    Ok(None)
+}
+
 impl<I: Read + Drop> FileNames<I> {
     /// Returns the names of which none is taken yet.
     pub fn of(
@@ -127,7 +140,7 @@ impl<I: Read + Drop> FileNames<I> {
         ensures { (names : List (List ℕ)) → self.old ≡ Some names → IfOk result (λ file. IsNextFile names file self.new) }
     {
         if let Some(walk) = &mut self.walk {
-            return walk.next(alloc, folder, &mut self.given);
+            return next_found(alloc, walk, folder, &mut self.given);
         }
         Ok(file_of(self.given.next(alloc)?))
     }

@@ -8,10 +8,10 @@ ghost use Rattle.jri_archive.specs.Outcomes.{IsOutcomeOf, plain_outcome, state_o
 
 use crate::checking::{Checked, check_file};
 use crate::counts::FileState;
-use crate::reading::ReadError;
 use crate::state_record::RecordedState;
 use crate::unsupported::is_unsupported;
 use jr_segments::Refusal;
+use jri_machine::ReadError;
 use std::alloc::Global;
 use std::sync::Wait;
 use std::thread::Threads;

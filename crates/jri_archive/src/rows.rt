@@ -5,10 +5,11 @@ ghost use Rattle.std.specs.Prelude.{◌<◌};
 ghost use Rattle.jr_scan.specs.ScanValue.{intervals_of};
 
 use crate::damaged_run::DamagedRun;
-use crate::lines::{Label, begin_line, in_form};
+use crate::lines::{Label, in_form};
 use jr_cut::{Break, CodedSpan};
 use jr_damage::{DoubtfulMcu, McuRange, lines_of, mcus_of};
 use jr_head::Head;
+use jri_machine::begin_line;
 use std::alloc::AllocError;
 
 /// The labels of a line's numbers, and what follows them. A number whose label is empty is left out.

@@ -6,12 +6,13 @@ ghost use Rattle.jri_archive.specs.Names.{IsNoText};
 ghost use Rattle.jri_archive.specs.Told.{HasRecord, IsOlder, IsRecordOf, IsStamped};
 
 use crate::map::TellError;
-use crate::names::{FileNames, NamedFile};
+use crate::names::FileNames;
 use crate::outcome::Outcome;
-use crate::reading::{FileBytes, Folder, ReadError};
+use crate::reading::{FileBytes, Folder};
 use crate::state_file::State;
 use crate::state_record::{FileRecord, RecordedState, Stamp};
 use jr_cut::Break;
+use jri_machine::{NamedFile, ReadError};
 use sha2::{Digest, Sha256};
 use std::alloc::{AllocError, Global};
 use std::io::{Read, Write};

@@ -5,9 +5,9 @@ ghost use Rattle.jri_archive.specs.Records.{recorded};
 ghost use Rattle.jri_archive.specs.Status.{state_error_status};
 
 use crate::map::TellError;
-use crate::reading::ReadError;
 use crate::state_line::{parse_record, record_line};
 use crate::state_record::FileRecord;
+use jri_machine::ReadError;
 use std::alloc::{AllocError, Global};
 use std::collections::HashMap;
 use std::collections::hash_map::Keys;

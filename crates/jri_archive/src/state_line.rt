@@ -2,9 +2,9 @@
 
 ghost use Rattle.std.specs.Prelude.{◌≤◌, length, IfSome};
 
-use crate::escaping::write_string;
 use crate::state_record::{FileRecord, RecordedState, Stamp};
 use hex::{decode_to_slice, encode_to_slice};
+use jri_machine::write_string;
 use std::alloc::{AllocError, Global};
 
 /// The size of a line's check value in bytes: a space and eight digits.

@@ -4,15 +4,14 @@
 
 use jr_base::limits::MAX_FILE_BYTES;
 use jri_archive::{
-    Ended, Entry, EntryKind, Folder, Lists, ReadError, Stamp, StateError, Streams,
-    TerminalProgress, program, words_of,
+    Ended, Folder, Lists, Stamp, StateError, Streams, TerminalProgress, program, words_of,
 };
-use std::alloc::{AllocError, Global};
+use jri_machine::{Entry, ReadError, entries_in, unread};
+use std::alloc::Global;
 use std::fs;
 use std::fs::{File, Metadata, OpenOptions, TryLockError};
-use std::io::{BufRead, BufReader, Error, ErrorKind, IsTerminal, Read, Result as IoResult, Stdin};
+use std::io::{Error, ErrorKind, IsTerminal, Read, Result as IoResult, Stdin};
 use std::os::unix::fs::MetadataExt;
-use std::rt::Files;
 
 /// One byte more than a file may have.
 const TOO_MANY: u64 = MAX_FILE_BYTES as u64 + 1;
@@ -26,97 +25,12 @@ struct Disk<'a> {
     rt: &'a HostRuntime,
 }
 
-/// Returns the reason why a file is not read.
-fn unread(error: &Error) -> ReadError {
-    match error.kind() {
-        ErrorKind::OutOfMemory => ReadError::Memory,
-        ErrorKind::NotFound => ReadError::NotFound,
-        ErrorKind::PermissionDenied => ReadError::NotAllowed,
-        ErrorKind::IsADirectory => ReadError::Folder,
-        ErrorKind::InvalidFilename => ReadError::NameTooLong,
-        _ => ReadError::Failed,
-    }
-}
-
 /// Reserves space for all bytes of a file and one more, so that two reads take it and see its end. If the system
 /// reports no size, or allocation fails, reads take it part by part.
 fn make_room(bytes: &mut Vec<u8>, file: &File) {
     if let Ok(data) = file.metadata() {
         let _ = bytes.reserve(data.len().saturating_add(1).min(TOO_MANY) as usize);
     }
-}
-
-/// Returns what an entry of a directory is; `None` if it is a link or a device.
-fn kind_of(rt: &HostRuntime, name: &[u8]) -> Option<EntryKind> {
-    let Ok(name) = str::from_utf8(name) else {
-        return Some(EntryKind::Unread(ReadError::NameIsNoText));
-    };
-    match fs::symlink_metadata(rt, name) {
-        Ok(found) if found.is_dir() => Some(EntryKind::Folder),
-        Ok(found) if found.is_file() => Some(EntryKind::File),
-        Ok(_) => None,
-        Err(error) => Some(EntryKind::Unread(unread(&error))),
-    }
-}
-
-/// Returns the name of a directory with a slash at its end, by which the system follows a link to one.
-fn with_slash(alloc: Global, folder: &str) -> Result<String, AllocError> {
-    let mut name = String::from_str(alloc, folder)?;
-    if !folder.is_empty() && !folder.ends_with('/') {
-        name.push('/')?;
-    }
-    Ok(name)
-}
-
-/// Reads the next name of a directory, of any bytes; `None` after the last.
-fn next_name<R: Read>(alloc: Global, names: &mut BufReader<R>) -> IoResult<Option<Vec<u8>>> {
-    let mut name = Vec::new(alloc);
-    if names.read_until(0, &mut name)? == 0 {
-        return Ok(None);
-    }
-    if name.last() == Some(&0) {
-        name.pop();
-    }
-    Ok(Some(name))
-}
-
-/// Adds an entry of a directory, unless it is a link, a device, the directory itself or its parent.
-fn add_entry(
-    rt: &HostRuntime,
-    entries: &mut Vec<Entry>,
-    folder: &str,
-    name: &[u8],
-) -> Result<(), AllocError> {
-    if name == b".".as_slice() || name == b"..".as_slice() {
-        return Ok(());
-    }
-    let mut whole = folder.as_bytes().to_vec(rt.alloc())?;
-    whole.extend_from_slice(name)?;
-    if let Some(kind) = kind_of(rt, whole.as_slice()) {
-        entries.push(Entry { name: whole, kind })?;
-    }
-    Ok(())
-}
-
-/// Reads the entries of a directory. If reading fails halfway the directory itself is an entry that is not read.
-fn entries_of(rt: &HostRuntime, folder: &str) -> IoResult<Vec<Entry>> {
-    let alloc: Global = rt.alloc();
-    let folder = with_slash(alloc, folder)?;
-    let mut names = BufReader::new(alloc, rt.open_dir(folder.as_str())?)?;
-    let mut entries = Vec::new(alloc);
-    for _ in 0..u64::MAX {
-        match next_name(alloc, &mut names) {
-            Ok(Some(name)) => add_entry(rt, &mut entries, folder.as_str(), name.as_slice())?,
-            Ok(None) => break,
-            Err(error) => {
-                let kind = EntryKind::Unread(unread(&error));
-                let name = folder.into_bytes();
-                entries.push(Entry { name, kind })?;
-                break;
-            }
-        }
-    }
-    Ok(entries)
 }
 
 /// The size of one read of a stream, in bytes.
@@ -269,11 +183,7 @@ impl<'a> Folder for Disk<'a> {
         if name == STANDARD_INPUT {
             return Ok(None);
         }
-        match entries_of(self.rt, name) {
-            Ok(entries) => Ok(Some(entries)),
-            Err(error) if error.kind() == ErrorKind::NotADirectory => Ok(None),
-            Err(error) => Err(unread(&error)),
-        }
+        entries_in(self.rt, name)
     }
 }
 

@@ -1,6 +1,7 @@
 //! Markers of copies that are out of step, in lines and objects.
 
 use jr_cut::Break;
+use std::alloc::AllocError;
 use std::fmt;
 use std::fmt::{Display, Formatter};
 
@@ -22,23 +23,17 @@ impl Display for CopyBreak {
     }
 }
 
-/// A break as a JSON object.
-#[derive(Clone, Copy)]
-pub(crate) struct BreakObject(pub(crate) CopyBreak);
-
-impl Display for BreakObject {
-    fn fmt<W: fmt::Write>(&self, f: &mut Formatter<W>) -> fmt::Result {
-        let Break {
-            at,
-            code,
-            due,
-            skipped,
-        } = self.0.found;
-        let copy = self.0.copy as u64;
-        let copy = copy.saturating_add(1);
-        write!(
-            f,
-            "{{\"copy\":{copy},\"byte\":{at},\"marker\":{code},\"due\":{due},\"lost\":{skipped}}}"
-        )
-    }
+/// Appends a break as a JSON object.
+pub(crate) fn write_break(line: &mut String, found: CopyBreak) -> Result<(), AllocError> {
+    let Break {
+        at,
+        code,
+        due,
+        skipped,
+    } = found.found;
+    let copy = (found.copy as u64).saturating_add(1);
+    write!(
+        line,
+        "{{\"copy\":{copy},\"byte\":{at},\"marker\":{code},\"due\":{due},\"lost\":{skipped}}}"
+    )
 }

@@ -2,7 +2,7 @@
 
 use crate::reading::{CopyError, copies_of, in_step};
 use jr_mend::{ByteRun, CombineError, Combined, MAX_COPIES, combine};
-use std::alloc::Global;
+use std::alloc::{AllocError, Global};
 use std::fmt;
 use std::fmt::{Display, Formatter};
 
@@ -66,20 +66,15 @@ impl Display for RunLine {
     }
 }
 
-/// Bytes of the combined copy as a JSON object.
-#[derive(Clone, Copy)]
-pub(crate) struct RunBytesObject(pub(crate) ByteRun);
-
-impl Display for RunBytesObject {
-    fn fmt<W: fmt::Write>(&self, f: &mut Formatter<W>) -> fmt::Result {
-        let first = self.0.start as u64;
-        let last = (self.0.end as u64).saturating_sub(1);
-        let copy = u64::from(self.0.copy).saturating_add(1);
-        write!(
-            f,
-            "{{\"first_byte\":{first},\"last_byte\":{last},\"copy\":{copy}}}"
-        )
-    }
+/// Appends bytes of the combined copy as a JSON object.
+pub(crate) fn write_bytes(line: &mut String, run: ByteRun) -> Result<(), AllocError> {
+    let first = run.start as u64;
+    let last = (run.end as u64).saturating_sub(1);
+    let copy = u64::from(run.copy).saturating_add(1);
+    write!(
+        line,
+        "{{\"first_byte\":{first},\"last_byte\":{last},\"copy\":{copy}}}"
+    )
 }
 
 /// Consecutive runs from one copy, and the number of the run after them.

@@ -7,7 +7,7 @@ use crate::reading::{CopyError, refused};
 use jr_head::{Head, read_head};
 use jr_mend::under_header;
 use jr_segments::Refusal;
-use std::alloc::Global;
+use std::alloc::{AllocError, Global};
 use std::fmt;
 use std::fmt::{Display, Formatter};
 use std::mem::replace;
@@ -29,16 +29,11 @@ impl Display for Borrowed {
     }
 }
 
-/// A copy as a JSON object.
-#[derive(Clone, Copy)]
-pub(crate) struct BorrowedObject(pub(crate) Borrowed);
-
-impl Display for BorrowedObject {
-    fn fmt<W: fmt::Write>(&self, f: &mut Formatter<W>) -> fmt::Result {
-        let copy = (self.0.copy as u64).saturating_add(1);
-        let from = (self.0.from as u64).saturating_add(1);
-        write!(f, "{{\"copy\":{copy},\"from\":{from}}}")
-    }
+/// Appends a copy as a JSON object.
+pub(crate) fn write_borrowed(line: &mut String, found: Borrowed) -> Result<(), AllocError> {
+    let copy = (found.copy as u64).saturating_add(1);
+    let from = (found.from as u64).saturating_add(1);
+    write!(line, "{{\"copy\":{copy},\"from\":{from}}}")
 }
 
 /// A copy with an accepted header, taken from the others.

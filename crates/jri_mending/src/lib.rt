@@ -1,4 +1,4 @@
-//! What `jri_mend` does: it reads damaged copies of a file, mends them, and reports.
+//! What `jri_mend` does: it reads damaged copies of a file, or of the files of directories, mends them, and reports.
 #![tactic(auto)]
 
 mod asking;
@@ -12,6 +12,15 @@ mod reading;
 mod report;
 mod running;
 mod runs;
+mod tree_counts;
+mod tree_lines;
+mod tree_making;
+mod tree_plan;
+mod tree_running;
+mod trees;
+mod writing;
 
+pub use asking::{MendRequest, TreesRequest, is_of_trees, trees_request};
 pub use ended::Ended;
 pub use running::program;
+pub use tree_running::program_for_trees;

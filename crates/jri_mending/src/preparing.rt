@@ -5,7 +5,7 @@ ghost use Rattle.std.specs.Prelude.{◌≡◌, length};
 use crate::asking::MendRequest;
 use crate::breaks::CopyBreak;
 use crate::headers::{Borrowed, borrow_headers};
-use crate::reading::{CopyError, ResyncedFiles, resync_files};
+use crate::reading::{CopyError, resync_files};
 use std::alloc::Global;
 
 /// What is done to the copies before they are mended.
@@ -55,17 +55,12 @@ pub(crate) fn prepare(
     } else {
         Vec::new(alloc)
     };
-    if !asked.is_resync {
-        return Ok(Prepared {
-            borrowed,
-            breaks: Vec::new(alloc),
-            resynced: Vec::new(alloc),
-        });
-    }
-    let ResyncedFiles {
-        files: resynced,
-        breaks,
-    } = resync_files(alloc, files)?;
+    let mut breaks = Vec::new(alloc);
+    let resynced = if asked.is_resync {
+        resync_files(alloc, files, &mut breaks)?
+    } else {
+        Vec::new(alloc)
+    };
     Ok(Prepared {
         borrowed,
         breaks,

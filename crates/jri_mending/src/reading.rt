@@ -1,6 +1,6 @@
 //! The copies that are read.
 
-ghost use Rattle.std.specs.Prelude.{◌≡◌, ◌<◌, IfOk, length};
+ghost use Rattle.std.specs.Prelude.{◌≡◌, ◌<◌, ◌≤◌, IfOk, length};
 
 use crate::breaks::CopyBreak;
 use jr_base::limits::MAX_FILE_BYTES;
@@ -8,6 +8,7 @@ use jr_cut::Break;
 use jr_head::read_head;
 use jr_mend::{FileCopy, ResyncFault, is_in_step, resynchronised};
 use jr_segments::Refusal;
+use jri_machine::ReadError;
 use jri_words::Devices;
 use std::alloc::Global;
 use std::fmt;
@@ -22,18 +23,27 @@ const TOO_MANY: u64 = MAX_FILE_BYTES as u64 + 1;
 pub(crate) enum CopyError {
     /// It cannot be opened or read.
     Unread(Error),
+    /// Its entry in a directory cannot be read.
+    Unlisted(ReadError),
     /// It is refused.
     Refused(Refusal),
+    /// It has another header than the first copy.
+    OtherHead,
+    /// The mended file would be too long.
+    TooLong,
     /// Memory ran out.
     Memory,
 }
 
 impl CopyError {
-    /// Returns the exit status.
-    pub(crate) fn status(&self) -> u8 {
+    /// Returns the exit status: 2 for a copy of another file, 3 for one that is not read, 4 for the mended file and memory.
+    pub(crate) fn status(&self) -> u8
+        ensures { result ≤ 4 }
+    {
         match self {
-            CopyError::Memory => 4,
-            _ => 3,
+            CopyError::Unread(_) | CopyError::Unlisted(_) | CopyError::Refused(_) => 3,
+            CopyError::OtherHead => 2,
+            CopyError::TooLong | CopyError::Memory => 4,
         }
     }
 }
@@ -46,6 +56,9 @@ impl Display for CopyError {
                 let number = refusal.number();
                 write!(f, "refused {number}: {refusal}")
             }
+            CopyError::Unlisted(error) => write!(f, "cannot be read: {}", error.text()),
+            CopyError::OtherHead => f.write_str("its header is not that of the first copy"),
+            CopyError::TooLong => f.write_str("the mended file would be too long"),
             CopyError::Memory => f.write_str("out of memory"),
         }
     }
@@ -144,23 +157,16 @@ pub(crate) fn read_files<D: Devices>(
     Ok(files)
 }
 
-/// The files that are resynchronised.
-#[derive(Drop)]
-pub(crate) struct ResyncedFiles {
-    /// For each file what it becomes if it is out of step.
-    pub(crate) files: Vec<Option<Vec<u8>>>,
-    pub(crate) breaks: Vec<CopyBreak>,
-}
-
-/// Resynchronises the files that are not in step. The error has the number of a file.
+/// Resynchronises the files that are not in step, and appends their breaks. Returns for each file what it becomes if it is
+/// out of step. The error has the number of a file.
 pub(crate) fn resync_files(
     alloc: Global,
     files: &[Vec<u8>],
-) -> Result<ResyncedFiles, (usize, CopyError)> {
-    let mut breaks = Vec::new(alloc);
+    breaks: &mut Vec<CopyBreak>,
+) -> Result<Vec<Option<Vec<u8>>>, (usize, CopyError)> {
     let mut resynced = Vec::new(alloc);
     for k in 0..files.len() {
-        match in_step(alloc, &files[k], k, &mut breaks) {
+        match in_step(alloc, &files[k], k, breaks) {
             Ok(file) => {
                 if resynced.push(file).is_err() {
                     return Err((k, CopyError::Memory));
@@ -169,10 +175,7 @@ pub(crate) fn resync_files(
             Err(error) => return Err((k, error)),
         }
     }
-    Ok(ResyncedFiles {
-        files: resynced,
-        breaks,
-    })
+    Ok(resynced)
 }
 
 /// Returns what a file has become, the file itself if it is in step.

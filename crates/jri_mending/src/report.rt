@@ -1,11 +1,11 @@
 //! What is reported of a mended file.
 
-use crate::breaks::{BreakObject, CopyBreak};
-use crate::combined::{RunBytesObject, RunLine, joined_at};
-use crate::headers::{Borrowed, BorrowedObject};
+use crate::breaks::{CopyBreak, write_break};
+use crate::combined::{RunLine, joined_at, write_bytes};
+use crate::headers::{Borrowed, write_borrowed};
 use crate::outcome::Outcome;
 use crate::preparing::Prepared;
-use crate::runs::{RunObject, run_at};
+use crate::runs::{run_at, write_run};
 use jr_cut::ScanEnd;
 use jr_mend::{ByteRun, Choice};
 use jr_picture::Report;
@@ -105,8 +105,7 @@ fn write_headers(line: &mut String, borrowed: &[Borrowed]) -> Result<(), AllocEr
         if i > 0 {
             line.push(',')?;
         }
-        let found = BorrowedObject(borrowed[i]);
-        write!(line, "{found}")?;
+        write_borrowed(line, borrowed[i])?;
     }
     line.push_str("],")
 }
@@ -121,8 +120,7 @@ fn write_break_objects(line: &mut String, breaks: &[CopyBreak]) -> Result<(), Al
         if i > 0 {
             line.push(',')?;
         }
-        let found = BreakObject(breaks[i]);
-        write!(line, "{found}")?;
+        write_break(line, breaks[i])?;
     }
     line.push_str("],")
 }
@@ -141,8 +139,7 @@ fn write_run_objects(line: &mut String, runs: &[ByteRun]) -> Result<(), AllocErr
         if next > 0 {
             line.push(',')?;
         }
-        let bytes = RunBytesObject(run.bytes);
-        write!(line, "{bytes}")?;
+        write_bytes(line, run.bytes)?;
         next = run.next;
     }
     line.push_str("],")
@@ -178,9 +175,8 @@ pub(crate) fn object_of(
         if next > 0 {
             line.push(',')?;
         }
-        let run = RunObject(run);
-        write!(line, "{run}")?;
-        next = run.0.last.saturating_add(1);
+        write_run(&mut line, run)?;
+        next = run.last.saturating_add(1);
     }
     line.push_str("]}\n")?;
     Ok(line)

@@ -5,27 +5,26 @@ ghost use Rattle.jr_mend.specs.declared.choice.TheConstants.{MAX_COPIES};
 ghost use Rattle.jri_words.specs.Steps.{LeavesFile};
 
 use crate::asking::{MendRequest, asked};
-use crate::combined::combined_of;
 use crate::ended::Ended;
-use crate::outcome::{Outcome, mend_copies, mend_with};
+use crate::outcome::{Outcome, is_changed, mended_of};
 use crate::preparing::{Prepared, prepare};
-use crate::reading::{CopyError, copies_of, read_files};
-use crate::report::{is_first_sound, object_of, report_of, write_lines, write_prepared};
+use crate::reading::{CopyError, read_files};
+use crate::report::{object_of, report_of, write_lines, write_prepared};
+use crate::writing::{write_out, write_part};
 use jr_base::{Printable, Tally};
-use jr_mend::{FileCopy, MAX_COPIES, MendError};
+use jr_mend::MAX_COPIES;
 use jr_picture::{Fault, Report};
 use jri_words::{
-    Destination, Devices, Ending, Existing, Noted, Part, Target, Unasked, answer, flush_written,
-    make_part, place, unwritten, wrong,
+    Destination, Devices, Ending, Existing, Target, Unasked, answer, unwritten, wrong,
 };
 use std::alloc::Global;
 use std::io::{ErrorKind, Result as IoResult, Write};
 
 /// The exit status if memory runs out or the output fails.
-const FAILED: u8 = 4;
+pub(crate) const FAILED: u8 = 4;
 
-/// The exit status if a copy has another header than the first.
-const OTHER_FILE: u8 = 2;
+/// The exit status of wrong arguments.
+pub(crate) const WRONG: u8 = 2;
 
 /// The text for arguments that are not text.
 const UNTOLD: &str = "an argument is not valid UTF-8\n";
@@ -73,57 +72,6 @@ fn requested<D: Devices>(
     }
 }
 
-/// How the writing of a file ended, and the output.
-#[derive(Drop)]
-struct WrittenOut<W> {
-    ending: Ending,
-    out: W,
-}
-
-/// Writes a file to an output, which is flushed.
-fn write_out<W: Write + Drop>(out: W, file: &[u8], report: Report) -> WrittenOut<W> {
-    let mut output = Noted::of(out);
-    let written = match output.write_all(file) {
-        Ok(()) => Ok(report),
-        Err(_) => Err(Fault::Write),
-    };
-    let outcome = flush_written(written, &mut output);
-    let reason = match outcome {
-        Err(_) => output.reason(),
-        Ok(_) => None,
-    };
-    WrittenOut {
-        ending: Ending { outcome, reason },
-        out: output.into_inner(),
-    }
-}
-
-/// Writes a part, which takes the name of a file if it is whole, and is otherwise removed.
-fn write_part<D: Devices>(
-    alloc: Global,
-    devices: &mut D,
-    file: &[u8],
-    report: Report,
-    name: &str,
-) -> Ending
-    ensures { LeavesFile (λ _. ⊥) Existing.Replaced name.now (D.steps devices.old) (D.steps devices.new) (is_ok result.outcome) }
-{
-    let part = match make_part(alloc, devices, name) {
-        Ok(part) => part,
-        Err(ending) => return ending,
-    };
-    let Part {
-        file: out,
-        name: part,
-    } = part;
-    let WrittenOut { ending, out } = write_out(out, file, report);
-    let part = Part {
-        file: out,
-        name: part,
-    };
-    place(devices, ending, part, name, Existing::Replaced)
-}
-
 /// Writes a file, which is replaced once it is whole, or into a device.
 fn write_file<D: Devices>(
     alloc: Global,
@@ -136,11 +84,11 @@ fn write_file<D: Devices>(
 {
     if let Destination::WrittenInto = devices.destination(name, None) {
         return match devices.open_device(name) {
-            Ok(device) => write_out(device, file, report).ending,
+            Ok(mut device) => write_out(&mut device, file, report),
             Err(error) => unwritten(error),
         };
     }
-    write_part(alloc, devices, file, report, name)
+    write_part(alloc, devices, file, report, name, Existing::Replaced)
 }
 
 /// Writes the mended file to its destination.
@@ -152,7 +100,7 @@ fn write_mended<D: Devices>(
     report: Report,
 ) -> Ending {
     match target {
-        Target::Output | Target::AnyOutput => write_out(devices.output(), file, report).ending,
+        Target::Output | Target::AnyOutput => write_out(&mut devices.output(), file, report),
         Target::File(name) => write_file(alloc, devices, file, report, name.as_str()),
     }
 }
@@ -202,51 +150,11 @@ fn report_mended<D: Devices, E: Write>(
     status
 }
 
-/// Why there is no mended file.
-#[derive(Clone, Copy)]
-enum MendFailure {
-    /// The copy of this number is not there.
-    Copy(usize, CopyError),
-    /// The copies are not mended.
-    Mending(MendError),
-}
-
-impl From<(usize, CopyError)> for MendFailure {
-    fn from((copy, error): (usize, CopyError)) -> MendFailure {
-        MendFailure::Copy(copy, error)
-    }
-}
-
-impl From<MendError> for MendFailure {
-    fn from(error: MendError) -> MendFailure {
-        MendFailure::Mending(error)
-    }
-}
-
 /// Returns the name of a copy, for a line.
 fn shown(names: &[String], copy: usize) -> Printable<'_> {
     match names.get(copy) {
         Some(name) => Printable(name.as_str()),
         None => Printable(""),
-    }
-}
-
-/// Reports why the copies are not mended, and returns the exit status.
-fn report_error<E: Write>(errors: &mut E, names: &[String], error: MendError) -> u8 {
-    match error {
-        MendError::Memory => {
-            let _ = writeln!(errors, "out of memory");
-            FAILED
-        }
-        MendError::TooLong => {
-            let _ = writeln!(errors, "the mended file would be too long");
-            FAILED
-        }
-        MendError::OtherHead(copy) => {
-            let name = shown(names, copy as usize);
-            let _ = writeln!(errors, "{name}: its header is not that of the first copy");
-            OTHER_FILE
-        }
     }
 }
 
@@ -266,7 +174,7 @@ fn write_outcome<D: Devices, E: Write>(
     errors: &mut E,
 ) -> u8 {
     let choices = outcome.mended.choices.as_slice();
-    let is_mended = !is_first_sound(choices) || prepared.changes_first();
+    let is_mended = is_changed(outcome, prepared);
     let file = file_of(is_mended, outcome.mended.file.as_slice(), first);
     let ending = write_mended(alloc, devices, &asked.target, file, report_of(choices));
     if ending.outcome.is_err() {
@@ -276,39 +184,12 @@ fn write_outcome<D: Devices, E: Write>(
 }
 
 /// Reports why there is no mended file, and returns the exit status.
-fn report_failure<E: Write>(errors: &mut E, names: &[String], failure: MendFailure) -> u8 {
-    match failure {
-        MendFailure::Copy(copy, error) => report_copy(errors, names, copy, error),
-        MendFailure::Mending(error) => report_error(errors, names, error),
-    }
-}
-
-/// Reports the copy that is not there, and returns the exit status.
-fn report_copy<E: Write>(errors: &mut E, names: &[String], copy: usize, error: CopyError) -> u8 {
-    let name = shown(names, copy);
-    let _ = writeln!(errors, "{name}: {error}");
+fn report_failure<E: Write>(errors: &mut E, names: &[String], copy: usize, error: CopyError) -> u8 {
+    let _ = match error {
+        CopyError::TooLong | CopyError::Memory => writeln!(errors, "{error}"),
+        _ => writeln!(errors, "{}: {error}", shown(names, copy)),
+    };
     error.status()
-}
-
-/// Mends files. If an interval is damaged in all copies they are also combined to one further copy.
-fn mended_of(
-    alloc: Global,
-    asked: &MendRequest,
-    files: &[Vec<u8>],
-    prepared: &Prepared,
-) -> Result<Outcome, MendFailure>
-    requires some { 0 < length files.now }
-    requires few { length files.now ≤ MAX_COPIES }
-{
-    let copies = copies_of(alloc, files, &prepared.resynced)?;
-    let outcome = mend_copies(alloc, &copies)?;
-    if !outcome.is_damaged() || files.len() >= MAX_COPIES {
-        return Ok(outcome);
-    }
-    match combined_of(alloc, files, asked.is_resync)? {
-        Some(combined) => Ok(mend_with(alloc, copies, &combined)?),
-        None => Ok(outcome),
-    }
 }
 
 /// Prepares files, mends them, writes the mended one, and returns the exit status.
@@ -324,14 +205,29 @@ fn mend_files<D: Devices, E: Write>(
 {
     let prepared = match prepare(alloc, asked, files) {
         Ok(prepared) => prepared,
-        Err((copy, error)) => return report_copy(errors, &asked.copies, copy, error),
+        Err((copy, error)) => return report_failure(errors, &asked.copies, copy, error),
     };
     match mended_of(alloc, asked, files, &prepared) {
         Ok(outcome) => {
             let first = &files[0];
             write_outcome(alloc, devices, asked, first, &outcome, &prepared, errors)
         }
-        Err(failure) => report_failure(errors, &asked.copies, failure),
+        Err((copy, error)) => report_failure(errors, &asked.copies, copy, error),
+    }
+}
+
+/// Writes what the arguments ask for if that is no mended file, and returns the exit status.
+pub(crate) fn answer_unasked<D: Devices, E: Write>(
+    devices: &D,
+    errors: &mut E,
+    unasked: &Unasked,
+) -> u8
+    ensures { result ≤ 4 }
+{
+    match answer(&mut Tally::of(devices.output()), errors, unasked) {
+        0 => 0,
+        2 => WRONG,
+        _ => FAILED,
     }
 }
 
@@ -347,16 +243,13 @@ pub fn program<D: Devices, E: Write>(
     let asked = match requested(alloc, devices, words) {
         Ok(asked) => asked,
         Err(unasked) => {
-            let status = match answer(&mut Tally::of(devices.output()), errors, &unasked) {
-                1 => FAILED,
-                status => status,
-            };
+            let status = answer_unasked(devices, errors, &unasked);
             return Ended { status };
         }
     };
     let status = match read_files(alloc, devices, &asked.copies) {
         Ok(mut files) => mend_files(alloc, devices, &asked, &mut files, errors),
-        Err((copy, error)) => report_copy(errors, &asked.copies, copy, error),
+        Err((copy, error)) => report_failure(errors, &asked.copies, copy, error),
     };
     Ended { status }
 }

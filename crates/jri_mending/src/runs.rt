@@ -1,6 +1,7 @@
 //! Consecutive intervals that are taken from one copy.
 
 use jr_mend::Choice;
+use std::alloc::AllocError;
 use std::fmt;
 use std::fmt::{Display, Formatter};
 
@@ -44,34 +45,29 @@ impl Display for Run {
     }
 }
 
-/// A run as a JSON object.
-#[derive(Clone, Copy)]
-pub(crate) struct RunObject(pub(crate) Run);
-
-impl Display for RunObject {
-    fn fmt<W: fmt::Write>(&self, f: &mut Formatter<W>) -> fmt::Result {
-        let Run {
-            first,
-            last,
-            choice,
-            is_combined,
-        } = self.0;
-        write!(f, "{{\"interval\":{first},\"last_interval\":{last}")?;
-        if is_combined {
-            f.write_str(",\"combined\":true")?;
-        } else {
-            let copy = u64::from(choice.copy).saturating_add(1);
-            write!(f, ",\"copy\":{copy}")?;
-        }
-        if let Some(mcus) = choice.front {
-            return write!(f, ",\"is\":\"damaged\",\"decodable\":{mcus}}}");
-        }
-        f.write_str(",\"is\":\"sound\"")?;
-        if choice.differs {
-            f.write_str(",\"differs\":true")?;
-        }
-        f.write_str("}")
+/// Appends a run as a JSON object.
+pub(crate) fn write_run(line: &mut String, run: Run) -> Result<(), AllocError> {
+    let Run {
+        first,
+        last,
+        choice,
+        is_combined,
+    } = run;
+    write!(line, "{{\"interval\":{first},\"last_interval\":{last}")?;
+    if is_combined {
+        line.push_str(",\"combined\":true")?;
+    } else {
+        let copy = u64::from(choice.copy).saturating_add(1);
+        write!(line, ",\"copy\":{copy}")?;
     }
+    if let Some(mcus) = choice.front {
+        return write!(line, ",\"is\":\"damaged\",\"decodable\":{mcus}}}");
+    }
+    line.push_str(",\"is\":\"sound\"")?;
+    if choice.differs {
+        line.push_str(",\"differs\":true")?;
+    }
+    line.push('}')
 }
 
 /// Returns the run of intervals that begins with one of them. The copy after the last of these is the combined one.

@@ -10,7 +10,7 @@ use Rattle.jri_words.specs.declared.answers.Target.{Target}
 use Rattle.jri_words.specs.declared.answers.Target.TheVariants as target
 
 -- a new file of this name is there; what was written to it is on the disk; it has another name, and replaces what had that name; it has
--- another name, which nothing had; a file is removed, or was to be; a device of this name is open
+-- another name, which nothing had; a file is removed, or was to be; a device of this name is open; a new directory of this name is there
 pub data Step : Type 0 where
   Created : List ℕ → Step
   Synced : List ℕ → Step
@@ -18,6 +18,7 @@ pub data Step : Type 0 where
   Named : List ℕ → List ℕ → Step
   Removed : List ℕ → Step
   Opened : List ℕ → Step
+  Made : List ℕ → Step
 
 -- a file gets another name, and what has that name is replaced or keeps it
 abbrev pub placed : Existing → List ℕ → List ℕ → Step

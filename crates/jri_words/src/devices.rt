@@ -4,8 +4,9 @@ ghost use Rattle.std.specs.Prelude.{Option, List, ℕ, ⊤, None, OnOk, OnErr, �
 ghost use Rattle.std.specs.String.{string_bytes};
 ghost use Rattle.std.specs.Io.KnownBytes.{Keeps};
 ghost use Rattle.jri_words.specs.Noted.{has_flushed, noted_in};
-ghost use Rattle.jri_words.specs.Steps.{Step, Created, Synced, Removed, Opened, Follow, placed};
+ghost use Rattle.jri_words.specs.Steps.{Step, Created, Synced, Removed, Opened, Made, Follow, placed};
 
+use jri_machine::{Entry, ReadError};
 use std::io::{Error, Read, Result as IoResult, Write};
 
 /// What the name of an image leads to.
@@ -72,6 +73,13 @@ pub trait Devices {
     /// Returns the size in bytes of the file of a name, or of standard input if it is `None`; `None` if that is not a file.
     fn size(&self, source: Option<&str>) -> Option<u64>;
 
+    /// Returns the files and directories in the directory of that name, in any order, and no links; `None` if it is not a
+    /// directory. An entry whose name is not UTF-8 is `Unread` for that reason.
+    fn entries(&self, name: &str) -> Result<Option<Vec<Entry>>, ReadError>;
+
+    /// Returns whether a directory is another one, or lies in it.
+    fn is_within(&self, name: &str, directory: &str) -> bool;
+
     /// Returns what this name leads to if the file `source` is read, or standard input if it is `None`.
     fn destination(&self, name: &str, source: Option<&str>) -> Destination
         ensures { result ≡ Destination.WrittenInto → are_devices self.now name.now };
@@ -87,6 +95,11 @@ pub trait Devices {
     /// Creates a file if nothing has its name, with the permissions of `like` if that is a file.
     fn create(&mut self, name: &str, like: &str) -> IoResult<Self::File>
         ensures created { OnOk result (Follow (steps self.old) (steps self.new) (Created name.now ∷ [])) }
+        ensures failed { OnErr result (Follow (steps self.old) (steps self.new) []) };
+
+    /// Makes a directory of this name. If something has the name this fails with `AlreadyExists`.
+    fn make_directory(&mut self, name: &str) -> IoResult<()>
+        ensures made { OnOk result (Follow (steps self.old) (steps self.new) (Made name.now ∷ [])) }
         ensures failed { OnErr result (Follow (steps self.old) (steps self.new) []) };
 
     /// Writes to the disk what was written to a part.

@@ -2,6 +2,7 @@
 
 use crate::devices::{Destination, Devices, Existing, Part};
 use crate::retried::Retried;
+use jri_machine::{Entry, ReadError, entries_in};
 use std::fs::{File, Metadata, OpenOptions};
 use std::io::{ErrorKind, IsTerminal, Result as IoResult, Stdin, Stdout};
 use std::os::fd::AsRawFd;
@@ -167,6 +168,20 @@ impl<'a> Devices for Machine<'a> {
         }
     }
 
+    fn entries(&self, name: &str) -> Result<Option<Vec<Entry>>, ReadError> {
+        entries_in(self.rt, name)
+    }
+
+    fn is_within(&self, name: &str, directory: &str) -> bool {
+        match (
+            fs::canonicalize(self.rt, name),
+            fs::canonicalize(self.rt, directory),
+        ) {
+            (Ok(name), Ok(directory)) => name.starts_with(&directory),
+            _ => false,
+        }
+    }
+
     fn destination(&self, name: &str, source: Option<&str>) -> Destination {
         match fs::metadata(self.rt, name) {
             Ok(found) if self.is_source(&found, source) => Destination::Source,
@@ -208,6 +223,12 @@ impl<'a> Devices for Machine<'a> {
             _ => File::create_new(self.rt, name)?,
         };
         Ok(Retried::of(file))
+    }
+
+    fn make_directory(&mut self, name: &str) -> IoResult<()> {
+        fs::create_dir(self.rt, name)?;
+        self.sync_directory(name);
+        Ok(())
     }
 
     fn sync(&mut self, part: &mut Part<Retried<File>>) -> IoResult<()> {

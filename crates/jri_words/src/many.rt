@@ -14,6 +14,7 @@ use crate::describing::files_argument;
 use crate::opening::wrong;
 use clap::{Arg, ArgAction, ArgMatches, Command};
 use jr_base::VERSION;
+use jri_machine::is_jpeg;
 use std::alloc::{AllocError, Global};
 
 /// A request for the decoding of many files.
@@ -105,9 +106,6 @@ pub fn many_request(alloc: Global, words: &[String]) -> Result<ManyRequest, Unas
     }
 }
 
-/// The endings of JPEG files' names, in small letters.
-const ENDINGS: [&str; 4] = ["jpg", "jpeg", "jpe", "jfif"];
-
 /// Returns the last part of a file's name, without the ending of a JPEG file.
 fn stem_of(file: &str) -> &str {
     let name = match file.rsplit_once('/') {
@@ -115,10 +113,7 @@ fn stem_of(file: &str) -> &str {
         None => file,
     };
     match name.rsplit_once('.') {
-        Some((stem, ending))
-            if !stem.is_empty() && ENDINGS.iter().any(|e| ending.eq_ignore_ascii_case(e)) => {
-            stem
-        }
+        Some((stem, _)) if !stem.is_empty() && is_jpeg(name.as_bytes()) => stem,
         _ => name,
     }
 }

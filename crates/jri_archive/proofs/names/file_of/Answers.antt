@@ -1,7 +1,7 @@
 use Rattle.std.proofs.Common.{rules, subst, ℕ, List, false, sym, Option, Some, ◌≡◌}
 use Rattle.std.specs.Global.{Vec}
 use Rattle.std.specs.Prelude.{IfSome}
-use Rattle.jri_archive.specs.declared.names.NamedFile.{NamedFile}
+use Rattle.jri_machine.specs.declared.walking.NamedFile.{NamedFile}
 use Rattle.jri_archive.specs.Names.{IsNamed, IsNoText}
 use Rattle.jri_archive.proofs.NextNames.{file_named}
 use Rattle.jri_archive.proofs.names.file_of.Goals as goal

@@ -1,6 +1,6 @@
 use Rattle.std.proofs.Common.{◌+◌, length, refl, arith}
-use Rattle.jri_archive.proofs.Escapes.{put_byte, put_run}
-use Rattle.jri_archive.proofs.escaping.write_escaped.Goals as goal
+use Rattle.jri_machine.proofs.Escapes.{put_byte, put_run}
+use Rattle.jri_machine.proofs.escaping.write_escaped.Goals as goal
 
 pub bytes-preserved-then-at-name : goal.bytes-preserved-then-at-name
 bytes-preserved-then-at-name c =

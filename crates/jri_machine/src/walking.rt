@@ -1,17 +1,14 @@
 //! The JPEG files in directories.
 
-use crate::given::GivenNames;
-use crate::names::{NamedFile, NamesError};
-use crate::reading::{Entry, EntryKind, Folder, ReadError};
+use crate::entries::{Entry, EntryKind, ReadError};
 use std::alloc::{AllocError, Global};
 use std::collections::HashSet;
-use std::io::Read;
 
-/// What ends the names of JPEG files in directories.
+/// What ends the names of JPEG files.
 const ENDINGS: [&str; 4] = [".jpg", ".jpeg", ".jpe", ".jfif"];
 
 /// Returns whether the name is that of a JPEG file.
-fn is_jpeg(name: &[u8]) -> bool {
+pub fn is_jpeg(name: &[u8]) -> bool {
     for ending in ENDINGS {
         let start = name.len().saturating_sub(ending.len());
         if name[start..].eq_ignore_ascii_case(ending.as_bytes()) {
@@ -21,32 +18,42 @@ fn is_jpeg(name: &[u8]) -> bool {
     false
 }
 
+/// A file that is to be read, or why it is not opened.
+#[derive(Drop)]
+pub struct NamedFile {
+    pub name: Vec<u8>,
+    pub error: Option<ReadError>,
+    /// It was found in a directory, and its name is neither UTF-8 nor that of a JPEG file: it may be a file of any kind.
+    pub is_skipped: bool,
+}
+
 /// Returns whether an entry of a directory may be a file of any kind: its name is neither UTF-8 nor that of a JPEG file.
 fn is_unknown(entry: &Entry) -> bool {
     matches!(entry.kind, EntryKind::Unread(ReadError::NameIsNoText))
         && !is_jpeg(entry.name.as_slice())
 }
 
-/// A search of directories.
+/// A search of directories. Its calls take what lists the directory of a name: its files and directories, in any order, and
+/// no links; `None` if it is not a directory.
 #[derive(Drop)]
-pub(crate) struct FolderWalk {
+pub struct FolderWalk {
     /// The entries of the directories, the next one last.
     waiting: Vec<Entry>,
-    /// The directories that were given, as they were named.
+    /// The directories in which the search started, as they were named.
     searched: HashSet<Vec<u8>>,
 }
 
 impl FolderWalk {
     /// Returns a walk that has entered no directory yet.
-    pub(crate) fn of(alloc: Global) -> FolderWalk {
+    pub fn of(alloc: Global) -> FolderWalk {
         FolderWalk {
             waiting: Vec::new(alloc),
             searched: HashSet::new(alloc),
         }
     }
 
-    /// Returns whether a file of that name lies below a directory that was given.
-    pub(crate) fn has_searched(&self, name: &[u8]) -> bool {
+    /// Returns whether a file of that name lies below a directory in which the search started.
+    pub fn has_searched(&self, name: &[u8]) -> bool {
         for at in 0..name.len() {
             if name[at] == b'/'
                 && (self.searched.contains(&name[..at]) || self.searched.contains(&name[..=at]))
@@ -58,16 +65,17 @@ impl FolderWalk {
     }
 
     /// Continues with the entries of a directory, in the order of their names. Returns whether it is a directory.
-    fn enter<F: Folder>(
+    fn enter<L: Fn(&str) -> Result<Option<Vec<Entry>>, ReadError>>(
         &mut self,
-        alloc: Global,
-        folder: &F,
+        list: &L,
         name: &[u8],
-    ) -> Result<Result<bool, ReadError>, AllocError> {
+    ) -> Result<Result<bool, ReadError>, AllocError>
+        requires { L.IsAlwaysCallable list.now }
+    {
         let Ok(text) = str::from_utf8(name) else {
             return Ok(Err(ReadError::NameIsNoText));
         };
-        match folder.entries(alloc, text) {
+        match list(text) {
             Ok(Some(mut entries)) => {
                 entries.sort_unstable_by(|a, b| b.name.as_slice().cmp(a.name.as_slice()));
                 self.waiting.append(&mut entries)?;
@@ -78,19 +86,43 @@ impl FolderWalk {
         }
     }
 
-    /// Returns the next JPEG file in the directories that are being searched.
-    fn next_waiting<F: Folder>(
+    /// Starts the search of a directory. Returns the file, if the name is not that of a directory that is listed.
+    pub fn start<L: Fn(&str) -> Result<Option<Vec<Entry>>, ReadError>>(
         &mut self,
-        alloc: Global,
-        folder: &F,
-    ) -> Result<Option<NamedFile>, NamesError> {
+        list: &L,
+        name: Vec<u8>,
+    ) -> Result<Option<NamedFile>, AllocError>
+        requires { L.IsAlwaysCallable list.now }
+    {
+        let entered = self.enter(list, name.as_slice())?;
+        if !matches!(entered, Ok(true)) {
+            return Ok(Some(NamedFile {
+                name,
+                error: entered.err(),
+                is_skipped: false,
+            }));
+        }
+        match self.searched.insert(name) {
+            Ok(_) => Ok(None),
+            Err(_) => Err(AllocError),
+        }
+    }
+
+    /// Returns the next JPEG file in the directories that are being searched, each of which is replaced by the files in it;
+    /// `None` after the last.
+    pub fn next<L: Fn(&str) -> Result<Option<Vec<Entry>>, ReadError>>(
+        &mut self,
+        list: &L,
+    ) -> Result<Option<NamedFile>, AllocError>
+        requires { L.IsAlwaysCallable list.now }
+    {
         for _ in 0..u64::MAX {
             let Some(entry) = self.waiting.pop() else {
                 return Ok(None);
             };
             let is_skipped = is_unknown(&entry);
             let entered = match entry.kind {
-                EntryKind::Folder => self.enter(alloc, folder, entry.name.as_slice())?,
+                EntryKind::Folder => self.enter(list, entry.name.as_slice())?,
                 EntryKind::File => Ok(!is_jpeg(entry.name.as_slice())),
                 EntryKind::Unread(error) => Err(error),
             };
@@ -100,35 +132,6 @@ impl FolderWalk {
                     error: entered.err(),
                     is_skipped,
                 }));
-            }
-        }
-        Ok(None)
-    }
-
-    /// Returns the next file, with each directory replaced by the files in it; `None` after the last.
-    pub(crate) fn next<F: Folder, I: Read + Drop>(
-        &mut self,
-        alloc: Global,
-        folder: &F,
-        given: &mut GivenNames<I>,
-    ) -> Result<Option<NamedFile>, NamesError> {
-        for _ in 0..u64::MAX {
-            if let Some(file) = self.next_waiting(alloc, folder)? {
-                return Ok(Some(file));
-            }
-            let Some(name) = given.next(alloc)? else {
-                return Ok(None);
-            };
-            let entered = self.enter(alloc, folder, name.as_slice())?;
-            if !matches!(entered, Ok(true)) {
-                return Ok(Some(NamedFile {
-                    name,
-                    error: entered.err(),
-                    is_skipped: false,
-                }));
-            }
-            if self.searched.insert(name).is_err() {
-                return Err(NamesError::Memory);
             }
         }
         Ok(None)

@@ -1,10 +1,11 @@
-//! Names as JSON strings.
+//! Names in lines: as text, and as JSON strings.
 
 ghost use Rattle.std.specs.Prelude.{◌≡◌, ℕ, ◌<◌, ◌≤◌, ◌++◌, ◌∷◌, List, [], length, take, slice_index, IfOk, false};
 ghost use Rattle.std.specs.String.{string_bytes};
-ghost use Rattle.jri_archive.specs.Escapes.{IsEscaped, IsPlainByte, digit_of, spelt};
-ghost use Rattle.jri_archive.specs.Escapes.NamePart.{Number};
+ghost use Rattle.jri_machine.specs.Escapes.{IsEscaped, IsPlainByte, digit_of, spelt};
+ghost use Rattle.jri_machine.specs.Escapes.NamePart.{Number};
 
+use jr_base::Printable;
 use std::alloc::AllocError;
 
 /// What escapes a character of a JSON string.
@@ -33,7 +34,7 @@ fn plain_count(bytes: &[u8]) -> usize
 }
 
 /// Returns the text that bytes begin with.
-pub(crate) fn text_of(bytes: &[u8]) -> &str
+fn text_of(bytes: &[u8]) -> &str
     ensures within { length result.now ≤ length bytes.now }
     ensures text { result.now ≡ take (length result.now) bytes.now }
 {
@@ -105,4 +106,29 @@ pub fn write_string(line: &mut String, name: &[u8]) -> Result<(), AllocError>
     line.push_str("\"")?;
     write_escaped(line, name)?;
     line.push_str("\"")
+}
+
+/// Appends a file's name, in which bytes that are not UTF-8 are also written as `?`.
+fn write_name(line: &mut String, name: &[u8]) -> Result<(), AllocError> {
+    let mut rest = name;
+    for _ in 0..=name.len() {
+        let text = text_of(rest);
+        write!(line, "{}", Printable(text))?;
+        if text.len() == rest.len() {
+            break;
+        }
+        line.push('?')?;
+        rest = &rest[text.len() + 1..];
+    }
+    Ok(())
+}
+
+/// Begins the line of a file: its name and a colon, or the first member of an object.
+pub fn begin_line(line: &mut String, name: &[u8], is_json: bool) -> Result<(), AllocError> {
+    if is_json {
+        line.push_str("{\"file\":")?;
+        return write_string(line, name);
+    }
+    write_name(line, name)?;
+    line.push_str(": ")
 }

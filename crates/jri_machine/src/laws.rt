@@ -1,7 +1,7 @@
-//! Laws of lines.
+//! Laws of names.
 
 ghost use Rattle.std.specs.Prelude.{◌≡◌, ℕ, List};
-ghost use Rattle.jri_archive.specs.Escapes.{IsEscaped};
+ghost use Rattle.jri_machine.specs.Escapes.{IsEscaped};
 
 /// States that a name comes back from its text: no other name has that text.
 pub fn names_come_back()

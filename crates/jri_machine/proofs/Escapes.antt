@@ -7,8 +7,8 @@ use Rattle.std.proofs.lemmas.List.{append-nil, take_more, take_all, take-take, m
 use Rattle.std.proofs.lemmas.Bool.{cases_lt}
 use Rattle.std.proofs.lemmas.Nat.{div-add-mod'}
 use Rattle.std.proofs.lemmas.List.Concat.{flat_map-append}
-use Rattle.jri_archive.specs.Escapes.{NamePart, IsNamePart, IsPlainByte, spelt, byte_spelt, digit_of, IsEscaped}
-use Rattle.jri_archive.specs.Escapes.NamePart.{Plain, Number}
+use Rattle.jri_machine.specs.Escapes.{NamePart, IsNamePart, IsPlainByte, spelt, byte_spelt, digit_of, IsEscaped}
+use Rattle.jri_machine.specs.Escapes.NamePart.{Plain, Number}
 
 all_push : (parts : List NamePart) (p : NamePart) → AllByRecursion IsNamePart parts → IsNamePart p → AllByRecursion IsNamePart (parts ++ p ∷ [])
 all_push [] p each is = (is, tt)

@@ -1,7 +1,7 @@
 use Rattle.std.proofs.Common.{◌-◌, length}
 use Rattle.std.specs.String.{string_bytes}
-use Rattle.jri_archive.proofs.Escapes.{Puts}
-use Rattle.jri_archive.proofs.escaping.write_escaped.Given as goal
+use Rattle.jri_machine.proofs.Escapes.{Puts}
+use Rattle.jri_machine.proofs.escaping.write_escaped.Given as goal
 
 abbrev pub invariant-bytes : goal.invariant-bytes
 invariant-bytes l = Puts (string_bytes l.fn.line) (string_bytes l.line) l.fn.name l.at
