@@ -4,8 +4,8 @@ use crate::case::Case;
 use crate::commands::{compare_field, named_by};
 use crate::differences::Differences;
 use crate::row::{field, part};
-use crate::texts::put_check_lines;
-use jri_archive::{Folder, Lists, NoProgress, StateError, Streams, program};
+use crate::texts::write_check_lines;
+use jri_archive::{Directory, Lists, NoProgress, StateError, Streams, program};
 use jri_machine::{Entry, EntryKind, ReadError};
 use std::alloc::Global;
 use std::io::{Cursor, Error, ErrorKind, Result as IoResult, Write};
@@ -33,7 +33,7 @@ fn bytes_of(alloc: Global, word: &str) -> Result<Vec<u8>, NotationError> {
 /// Returns the entry of a name: one that ends in `/` is a directory's, and one in digits is not UTF-8.
 fn entry_of(alloc: Global, word: &str) -> Result<Entry, NotationError> {
     let (word, kind) = match word.strip_suffix('/') {
-        Some(folder) => (folder, EntryKind::Folder),
+        Some(directory) => (directory, EntryKind::Directory),
         None if word.starts_with('%') => (word, EntryKind::Unread(ReadError::NameIsNoText)),
         None => (word, EntryKind::File),
     };
@@ -64,7 +64,7 @@ impl<'a> Shelf<'a> {
     }
 }
 
-impl Folder for Shelf<'_> {
+impl Directory for Shelf<'_> {
     fn read(&self, alloc: Global, name: &str) -> Result<Vec<u8>, ReadError> {
         if name == self.name {
             return self.bytes.to_vec(alloc).or(Err(ReadError::Memory));
@@ -126,16 +126,16 @@ impl Lists for Shelf<'_> {
 #[derive(Drop)]
 struct Stream<'a> {
     bytes: &'a mut Vec<u8>,
-    room: usize,
+    space: usize,
     refusal: ErrorKind,
 }
 
 impl Write for Stream<'_> {
     fn write(&mut self, bytes: &[u8]) -> IoResult<usize> {
-        if self.room < bytes.len() {
+        if self.space < bytes.len() {
             return Err(Error::from(self.refusal));
         }
-        self.room -= bytes.len();
+        self.space -= bytes.len();
         self.bytes.extend_from_slice(bytes)?;
         if bytes.last() != Some(&b'\n') {
             self.bytes.push(b'|')?;
@@ -160,7 +160,7 @@ fn words_of(alloc: Global, before: &str, words: &str) -> Result<Vec<Vec<u8>>, No
 }
 
 /// Returns the number of bytes for which standard output has space.
-fn room_of(settings: &str) -> Result<usize, NotationError> {
+fn space_of(settings: &str) -> Result<usize, NotationError> {
     match part(settings, ' ', 0) {
         "" => Ok(usize::MAX),
         digits => Ok(digits.parse::<usize>()?),
@@ -178,10 +178,10 @@ fn refusal_of(settings: &str) -> ErrorKind {
 /// A run of the program: its files, its arguments, and the space of standard output.
 #[derive(Clone, Copy)]
 struct CheckRun<'a> {
-    folder: Shelf<'a>,
+    directory: Shelf<'a>,
     options: &'a str,
     names: &'a str,
-    room: usize,
+    space: usize,
     /// The error of a write past that space.
     refusal: ErrorKind,
 }
@@ -192,18 +192,18 @@ fn make<R: Threads + Wait + Sync>(
     alloc: Global,
     run: CheckRun<'_>,
     written: &mut Vec<u8>,
-    told: &mut Vec<u8>,
+    reported: &mut Vec<u8>,
 ) -> Result<u8, NotationError> {
     let words = words_of(alloc, run.options, run.names)?;
-    let (folder, room, refusal) = (run.folder, run.room, run.refusal);
+    let (directory, space, refusal) = (run.directory, run.space, run.refusal);
     let out = Stream {
         bytes: written,
-        room,
+        space,
         refusal,
     };
     let errors = Stream {
-        bytes: told,
-        room: usize::MAX,
+        bytes: reported,
+        space: usize::MAX,
         refusal,
     };
     let streams = Streams {
@@ -211,7 +211,7 @@ fn make<R: Threads + Wait + Sync>(
         errors,
         progress: NoProgress,
     };
-    Ok(program(rt, alloc, folder, &folder, Ok(words), streams).status())
+    Ok(program(rt, alloc, directory, &directory, Ok(words), streams).status())
 }
 
 /// Makes the run of a row with these arguments before its own, and compares what comes of it.
@@ -224,18 +224,18 @@ fn compare_run<R: Threads + Wait + Sync>(
 ) -> Result<(), NotationError> {
     let (name, bytes): (&str, &[u8]) = ("", &[]);
     let run = CheckRun {
-        folder: Shelf { table, name, bytes },
+        directory: Shelf { table, name, bytes },
         options,
         names: field(line, 0),
-        room: room_of(field(line, 1))?,
+        space: space_of(field(line, 1))?,
         refusal: refusal_of(field(line, 1)),
     };
     let wanted = u64::from(field(line, 3).parse::<u8>()?);
-    let (mut written, mut told) = (Vec::new(out.alloc), Vec::new(out.alloc));
-    let status = make(rt, out.alloc, run, &mut written, &mut told)?;
+    let (mut written, mut reported) = (Vec::new(out.alloc), Vec::new(out.alloc));
+    let status = make(rt, out.alloc, run, &mut written, &mut reported)?;
     out.compare_numbers(options, wanted, u64::from(status));
     compare_field(options, table, field(line, 2), written.as_slice(), out);
-    compare_field(options, table, field(line, 4), told.as_slice(), out);
+    compare_field(options, table, field(line, 4), reported.as_slice(), out);
     Ok(())
 }
 
@@ -263,14 +263,14 @@ fn check_case<R: Threads + Wait + Sync>(
 ) {
     let (table, name, bytes) = ("", case.row.name, case.bytes);
     let run = CheckRun {
-        folder: Shelf { table, name, bytes },
+        directory: Shelf { table, name, bytes },
         options,
         names: name,
-        room: usize::MAX,
+        space: usize::MAX,
         refusal: ErrorKind::StorageFull,
     };
-    let (mut written, mut told) = (Vec::new(case.alloc), Vec::new(case.alloc));
-    match make(rt, case.alloc, run, &mut written, &mut told) {
+    let (mut written, mut reported) = (Vec::new(case.alloc), Vec::new(case.alloc));
+    match make(rt, case.alloc, run, &mut written, &mut reported) {
         Ok(_status) => {
             let found = str::from_utf8(written.as_slice()).unwrap_or("no text");
             out.compare_texts("check", wanted, found);
@@ -286,7 +286,7 @@ pub(crate) fn check_as_archive<R: Threads + Wait + Sync>(
     out: &mut Differences,
 ) {
     let mut wanted = String::new(case.alloc);
-    out.note(put_check_lines(&mut wanted, case.row));
+    out.note(write_check_lines(&mut wanted, case.row));
     check_case(rt, case, "--map -j 1", wanted.as_str(), out);
     check_case(rt, case, "--map -j 3", wanted.as_str(), out);
 }

@@ -33,18 +33,18 @@ fn size_of(partial_file: &PartialFile) -> (usize, u32) {
     }
 }
 
-/// Appends the next lines that are final, at most those for which `room` has space. Returns whether
+/// Appends the next lines that are final, at most those for which `space` has space. Returns whether
 /// there are any.
 fn take_next(
     alloc: Global,
     partial_file: &mut PartialFile,
     line: usize,
-    room: &mut [u8],
+    space: &mut [u8],
     shown: &mut Vec<u8>,
 ) -> Result<bool, Refusal> {
-    let count = partial_file.next_lines(alloc, room)?;
-    let length = usize::saturating_mul(count as usize, line).min(room.len());
-    shown.extend_from_slice(&room[..length])?;
+    let count = partial_file.next_lines(alloc, space)?;
+    let length = usize::saturating_mul(count as usize, line).min(space.len());
+    shown.extend_from_slice(&space[..length])?;
     Ok(count > 0)
 }
 
@@ -57,9 +57,9 @@ fn take_lines(
 ) -> Result<(), Refusal> {
     partial_file.begin(alloc)?;
     let (line, height) = size_of(partial_file);
-    let mut room = vec![in alloc; 0; usize::saturating_mul(most.min(height) as usize, line)]?;
+    let mut space = vec![in alloc; 0; usize::saturating_mul(most.min(height) as usize, line)]?;
     for _ in 0..height {
-        if !take_next(alloc, partial_file, line, room.as_mut_slice(), shown)? {
+        if !take_next(alloc, partial_file, line, space.as_mut_slice(), shown)? {
             break;
         }
     }
@@ -86,7 +86,12 @@ fn push_parts(
 }
 
 /// Appends the lines of a scan's image, starting at one.
-fn put_missing(alloc: Global, scan: &Scan, first: u32, shown: &mut Vec<u8>) -> Result<(), Memory> {
+fn write_missing(
+    alloc: Global,
+    scan: &Scan,
+    first: u32,
+    shown: &mut Vec<u8>,
+) -> Result<(), Memory> {
     let head = scan.head();
     let count = head.height().saturating_sub(first);
     let mut pixels = vec![in alloc; 0; count as usize * shape_of(head).line]?;
@@ -104,7 +109,7 @@ fn finish(
 ) -> Result<Report, Refusal> {
     let lines = partial_file.lines();
     let Finished { scan, counts } = partial_file.finish(alloc)?;
-    match put_missing(alloc, &scan, lines, shown) {
+    match write_missing(alloc, &scan, lines, shown) {
         Ok(()) => Ok(report_of(&scan, counts)),
         Err(_) => Err(Refusal::Memory),
     }

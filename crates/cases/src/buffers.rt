@@ -23,7 +23,7 @@ pub(crate) fn header_of(alloc: Global, bytes: &[u8]) -> Header {
 }
 
 /// Appends the line of a refusal.
-pub(crate) fn put_refusal(text: &mut String, number: u32, detail: u64) -> Result<(), AllocError> {
+pub(crate) fn write_refusal(text: &mut String, number: u32, detail: u64) -> Result<(), AllocError> {
     let mut bytes = [0; 64];
     let length = refusal_text(number, detail, &mut bytes);
     let words = str::from_utf8(&bytes[..length]).unwrap_or("no text");
@@ -31,9 +31,9 @@ pub(crate) fn put_refusal(text: &mut String, number: u32, detail: u64) -> Result
 }
 
 /// Appends the lines of a report.
-fn put_report(text: &mut String, report: &DecodeReport) -> Result<(), AllocError> {
+fn write_report(text: &mut String, report: &DecodeReport) -> Result<(), AllocError> {
     if report.refusal != 0 {
-        return put_refusal(text, report.refusal, report.detail);
+        return write_refusal(text, report.refusal, report.detail);
     }
     let mut bytes = [0; 96];
     let length = end_text(report, &mut bytes);
@@ -56,7 +56,7 @@ pub(crate) fn compare_call(
     out: &mut Differences,
 ) {
     let mut lines = String::new(case.alloc);
-    out.note(put_report(&mut lines, report));
+    out.note(write_report(&mut lines, report));
     case.compare(path, pixels, lines.as_str(), answer, out);
 }
 

@@ -12,7 +12,7 @@ use crate::runs::{check_runs, written};
 use crate::scans::check_scans;
 use crate::sums::crc_32;
 use crate::sweeps::check_sweep;
-use crate::texts::put_lines;
+use crate::texts::write_lines;
 use jri_memory::Header;
 use std::alloc::Global;
 use std::sync::Wait;
@@ -128,7 +128,7 @@ fn check_file<R: Threads + Wait + Sync>(
     let alloc = out.alloc;
     let picture = picture_of(rt, row, bytes, out);
     let mut report = String::new(alloc);
-    out.note(put_lines(&mut report, row.report));
+    out.note(write_lines(&mut report, row.report));
     let case = Case {
         alloc,
         row,

@@ -3,7 +3,7 @@
 use crate::differences::Differences;
 use crate::machine::Machine;
 use crate::row::field;
-use crate::texts::put_lines;
+use crate::texts::write_lines;
 use jri_engine::{
     Devices, Mode, describe_request, many_request, program, program_for_headers, program_for_many,
 };
@@ -34,10 +34,10 @@ pub(crate) fn named_by<'a>(line: &'a str, sign: char) -> Option<(&'a str, &'a st
 /// Changes a machine as a word says.
 fn set(machine: &mut Machine, word: &str) -> Result<(), NotationError> {
     match word.split_once('=') {
-        Some(("room", digits)) => machine.room = digits.parse::<usize>()?,
+        Some(("room", digits)) => machine.space = digits.parse::<usize>()?,
         Some(("input", name)) => machine.read_from(name)?,
-        Some(("device", name)) => machine.put(name, &[], true)?,
-        Some(("old", name)) => machine.put(name, b"old\n", false)?,
+        Some(("device", name)) => machine.store(name, &[], true)?,
+        Some(("old", name)) => machine.store(name, b"old\n", false)?,
         Some(("meanwhile", name)) => {
             let name = String::from_str(machine.alloc, name)?;
             drop(replace(&mut machine.taken_meanwhile, Some(name)));
@@ -56,10 +56,10 @@ fn set(machine: &mut Machine, word: &str) -> Result<(), NotationError> {
 }
 
 /// Adds the files of a table to a machine.
-fn put_files(alloc: Global, table: &str, machine: &mut Machine) -> Result<(), NotationError> {
+fn write_files(alloc: Global, table: &str, machine: &mut Machine) -> Result<(), NotationError> {
     for line in table.lines() {
         if let Some((name, words)) = named_by(line, '=') {
-            machine.put(name, file(alloc, words)?.as_slice(), false)?;
+            machine.store(name, file(alloc, words)?.as_slice(), false)?;
         }
     }
     Ok(())
@@ -151,7 +151,7 @@ pub(crate) fn content(alloc: Global, table: &str, field: &str) -> Result<Vec<u8>
     }
     let mut text = String::new(alloc);
     if !field.is_empty() {
-        put_lines(&mut text, field)?;
+        write_lines(&mut text, field)?;
     }
     Ok(text.as_bytes().to_vec(alloc)?)
 }
@@ -242,7 +242,7 @@ fn compare_run<R: Threads + Wait + Sync>(
     out: &mut Differences,
 ) -> Result<(), NotationError> {
     let alloc = out.alloc;
-    put_files(alloc, table, machine)?;
+    write_files(alloc, table, machine)?;
     set_all(field(line, 1), machine)?;
     let wanted = u64::from(field(line, 3).parse::<u8>()?);
     let mut errors = Vec::new(alloc);

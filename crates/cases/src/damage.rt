@@ -33,7 +33,7 @@ fn share_line(one: &Damage, next: &Damage) -> bool {
 }
 
 /// Appends the bytes of a damaged interval, and the number of its MCUs that are decodable.
-fn put_bytes(text: &mut String, damage: &Damage) -> Result<(), AllocError> {
+fn write_bytes(text: &mut String, damage: &Damage) -> Result<(), AllocError> {
     if damage.start == damage.end {
         text.push_str("no bytes")?;
     } else {
@@ -45,7 +45,7 @@ fn put_bytes(text: &mut String, damage: &Damage) -> Result<(), AllocError> {
 }
 
 /// Appends the line of a run, if it has an interval.
-fn put_run(text: &mut String, run: &Run) -> Result<(), AllocError> {
+fn write_run(text: &mut String, run: &Run) -> Result<(), AllocError> {
     let Run { first, last } = *run;
     if last.mcus == 0 {
         return Ok(());
@@ -68,14 +68,14 @@ fn put_run(text: &mut String, run: &Run) -> Result<(), AllocError> {
         text,
         "interval {from}, MCUs {mcu} to {end}, lines {top} to {bottom}, "
     )?;
-    put_bytes(text, &last)
+    write_bytes(text, &last)
 }
 
 /// Appends the lines of the runs that these intervals end; the last one may continue.
-fn put_damages(text: &mut String, run: &mut Run, damages: &[Damage]) -> Result<(), AllocError> {
+fn write_damages(text: &mut String, run: &mut Run, damages: &[Damage]) -> Result<(), AllocError> {
     for damage in damages {
         if !share_line(&run.last, damage) {
-            put_run(text, run)?;
+            write_run(text, run)?;
             run.first = *damage;
         }
         run.last = *damage;
@@ -84,7 +84,7 @@ fn put_damages(text: &mut String, run: &mut Run, damages: &[Damage]) -> Result<(
 }
 
 /// Appends the lines of the damaged intervals, listed in parts for which `damages` has space.
-fn put_listed(
+fn write_listed(
     text: &mut String,
     case: &Case<'_>,
     damages: &mut [Damage],
@@ -103,12 +103,12 @@ fn put_listed(
         let (next, at) = (report.next, report.next_at);
         let _answer = list_damages(case.alloc, bytes, next, at, damages, &mut report);
         let count = (report.count as usize).min(damages.len());
-        put_damages(text, &mut run, &damages[..count])?;
+        write_damages(text, &mut run, &damages[..count])?;
         if count < damages.len() || report.next >= intervals {
             break;
         }
     }
-    put_run(text, &run)
+    write_run(text, &run)
 }
 
 /// Lists the damage in parts of `entries`.
@@ -117,13 +117,13 @@ fn check_list(case: &Case<'_>, wanted: &str, entries: u32, out: &mut Differences
         return out.fail(NotationError::Memory);
     };
     let mut found = String::new(case.alloc);
-    out.note(put_listed(&mut found, case, damages.as_mut_slice()));
+    out.note(write_listed(&mut found, case, damages.as_mut_slice()));
     out.compare_texts("list of damage", wanted, found.as_str());
 }
 
 /// Appends a line of a map, if it is of damaged intervals, as far as calls of the library list them: without the byte up
 /// to which an interval can be decoded.
-fn put_damaged_line(text: &mut String, line: &str) -> Result<(), AllocError> {
+fn write_damaged_line(text: &mut String, line: &str) -> Result<(), AllocError> {
     match line.split_once(" up to byte ") {
         _ if is_doubt(line) => Ok(()),
         Some((listed, _byte)) => writeln!(text, "{listed}"),
@@ -132,10 +132,10 @@ fn put_damaged_line(text: &mut String, line: &str) -> Result<(), AllocError> {
 }
 
 /// Appends the lines of a map's damaged intervals.
-fn put_damaged_lines(text: &mut String, map: &str) -> Result<(), AllocError> {
+fn write_damaged_lines(text: &mut String, map: &str) -> Result<(), AllocError> {
     if !map.is_empty() {
         for line in map.split(" / ") {
-            put_damaged_line(text, line)?;
+            write_damaged_line(text, line)?;
         }
     }
     Ok(())
@@ -144,7 +144,7 @@ fn put_damaged_lines(text: &mut String, map: &str) -> Result<(), AllocError> {
 /// Lists the damage by one call, and in parts of one and three entries.
 pub(crate) fn check_damage(case: &Case<'_>, out: &mut Differences) {
     let mut wanted = String::new(case.alloc);
-    out.note(put_damaged_lines(&mut wanted, after_first(case.row.damaged)));
+    out.note(write_damaged_lines(&mut wanted, after_first(case.row.damaged)));
     for entries in [1, 3, case.header.intervals] {
         check_list(case, wanted.as_str(), entries, out);
     }

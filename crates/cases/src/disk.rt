@@ -93,7 +93,7 @@ fn add_directories(
     let mut count: usize = 0;
     for entry in entries {
         match (entry.kind, str::from_utf8(entry.name.as_slice())) {
-            (EntryKind::Folder, Ok(name)) => {
+            (EntryKind::Directory, Ok(name)) => {
                 waiting.push(String::from_str(alloc, name)?)?;
             }
             _ => count = count.saturating_add(1),

@@ -54,7 +54,7 @@ fn check_all_lines(case: &Case<'_>, out: &mut Differences) {
 }
 
 /// Appends the lines of a canvas, without what is between them.
-fn put_without_spare(lines: &mut Vec<u8>, canvas: &[u8], line: usize) -> Result<(), AllocError> {
+fn write_without_spare(lines: &mut Vec<u8>, canvas: &[u8], line: usize) -> Result<(), AllocError> {
     for part in canvas.chunks(line.saturating_add(SPARE).max(1)) {
         lines.extend_from_slice(&part[..line.min(part.len())])?;
     }
@@ -70,7 +70,7 @@ fn check_canvas(case: &Case<'_>, out: &mut Differences) {
     let shape = CanvasShape { stride, layout: 0 };
     let answer = decode_canvas(alloc, bytes, 0, &mut canvas, shape, &mut [], &mut report);
     let mut found = Vec::new(alloc);
-    out.note(put_without_spare(&mut found, canvas.as_slice(), line));
+    out.note(write_without_spare(&mut found, canvas.as_slice(), line));
     compare_call(case, "canvas", found.as_slice(), &report, answer, out);
 }
 

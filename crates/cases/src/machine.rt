@@ -18,7 +18,7 @@ type Bytes = Rc<RefCell<Vec<u8>>>;
 pub(crate) struct Handle {
     bytes: Option<Bytes>,
     at: usize,
-    room: usize,
+    space: usize,
     refusal: ErrorKind,
     can_flush: bool,
 }
@@ -54,10 +54,10 @@ impl Read for Handle {
 
 impl Write for Handle {
     fn write(&mut self, buf: &[u8]) -> IoResult<usize> {
-        if self.room < buf.len() {
+        if self.space < buf.len() {
             return Err(Error::from(self.refusal));
         }
-        self.room -= buf.len();
+        self.space -= buf.len();
         match &self.bytes {
             Some(bytes) if append(bytes, buf).is_ok() => Ok(buf.len()),
             _ => Err(Error::from(ErrorKind::Other)),
@@ -91,7 +91,7 @@ pub(crate) struct Machine {
     pub(crate) has_input_terminal: bool,
     pub(crate) has_output_terminal: bool,
     /// The number of bytes for which each output and each new file has space.
-    pub(crate) room: usize,
+    pub(crate) space: usize,
     /// The error of a write past them.
     pub(crate) refusal: ErrorKind,
     pub(crate) can_rename: bool,
@@ -127,7 +127,7 @@ impl Machine {
             files: Vec::new(alloc),
             has_input_terminal: false,
             has_output_terminal: false,
-            room: usize::MAX,
+            space: usize::MAX,
             refusal: ErrorKind::StorageFull,
             can_rename: true,
             can_create: true,
@@ -139,7 +139,7 @@ impl Machine {
     }
 
     /// Adds a file to the directory.
-    pub(crate) fn put(
+    pub(crate) fn store(
         &mut self,
         name: &str,
         bytes: &[u8],
@@ -193,7 +193,7 @@ impl Machine {
         Handle {
             bytes: bytes.clone().ok(),
             at: 0,
-            room: self.room,
+            space: self.space,
             refusal: self.refusal,
             can_flush: self.can_flush,
         }
@@ -202,7 +202,7 @@ impl Machine {
     /// Does what another run does while this one decodes: takes a name.
     fn let_others_run(&mut self) -> Result<(), AllocError> {
         match replace(&mut self.taken_meanwhile, None) {
-            Some(name) => self.put(name.as_str(), b"old\n", false),
+            Some(name) => self.store(name.as_str(), b"old\n", false),
             None => Ok(()),
         }
     }
@@ -218,11 +218,13 @@ fn is_in(name: &str, directory: &str) -> bool {
 
 /// Returns the entry of a directory that a file is, or in which it lies.
 fn entry_of<'a>(file: &'a str, directory: &str) -> Option<(&'a str, EntryKind)> {
-    let rest = file.strip_prefix(directory.trim_end_matches('/'))?.strip_prefix('/')?;
+    let rest = file
+        .strip_prefix(directory.trim_end_matches('/'))?
+        .strip_prefix('/')?;
     match rest.split_once('/') {
         Some((_, below)) => {
             let end = file.len().saturating_sub(below.len()).saturating_sub(1);
-            Some((file.get(..end)?, EntryKind::Folder))
+            Some((file.get(..end)?, EntryKind::Directory))
         }
         None => Some((file, EntryKind::File)),
     }
@@ -234,7 +236,9 @@ impl Machine {
         let mut entries: Vec<Entry> = Vec::new(self.alloc);
         for file in &self.files {
             if let Some((name, kind)) = entry_of(file.name.as_str(), directory)
-                && !entries.iter().any(|entry| entry.name.as_slice() == name.as_bytes())
+                && !entries
+                    .iter()
+                    .any(|entry| entry.name.as_slice() == name.as_bytes())
             {
                 let name = name.as_bytes().to_vec(self.alloc)?;
                 entries.push(Entry { name, kind })?;
@@ -317,7 +321,7 @@ impl Devices for Machine {
         if !self.can_create {
             return Err(Error::from(ErrorKind::PermissionDenied));
         }
-        self.put(name, &[], false)?;
+        self.store(name, &[], false)?;
         self.open(name)
     }
 

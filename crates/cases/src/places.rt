@@ -3,7 +3,7 @@
 
 ghost use Rattle.std.specs.Prelude.{◌<◌, ◌≤◌};
 
-use crate::buffers::put_refusal;
+use crate::buffers::write_refusal;
 use crate::case::Case;
 use crate::differences::Differences;
 use jri_memory::status::{NOT_IN_WINDOW, OK};
@@ -166,7 +166,7 @@ fn compare_outside(case: &Case<'_>, pixels: &mut [u8], out: &mut Differences) {
 }
 
 /// Appends the readings that stand before each row.
-fn put_index(entries: &mut Vec<Reading>, case: &Case<'_>) -> Result<(), AllocError> {
+fn write_index(entries: &mut Vec<Reading>, case: &Case<'_>) -> Result<(), AllocError> {
     let mut next = TOP;
     for _ in 0..case.header.height {
         let mut entry = Reading::at_top(case);
@@ -185,7 +185,7 @@ fn put_index(entries: &mut Vec<Reading>, case: &Case<'_>) -> Result<(), AllocErr
 /// Decodes each row from its own position, the last row first.
 fn by_index(case: &Case<'_>, pixels: &mut [u8], out: &mut Differences) {
     let mut entries = Vec::new(case.alloc);
-    out.note(put_index(&mut entries, case));
+    out.note(write_index(&mut entries, case));
     for entry in entries.iter().rev() {
         let mut reading = *entry;
         reading.decode(case.bytes, 0, 1, pixels);
@@ -201,7 +201,7 @@ fn compare_pixels(case: &Case<'_>, path: &str, pixels: &mut [u8], out: &mut Diff
 /// Compares the refusal that a call reports.
 fn compare_refusal(case: &Case<'_>, report: &RowsReport, out: &mut Differences) {
     let mut found = String::new(case.alloc);
-    out.note(put_refusal(&mut found, report.refusal, report.detail));
+    out.note(write_refusal(&mut found, report.refusal, report.detail));
     out.compare_texts("rows", case.report, found.as_str());
 }
 

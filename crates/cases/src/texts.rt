@@ -4,7 +4,7 @@ use crate::row::{Row, part};
 use std::alloc::AllocError;
 
 /// Appends the lines that a field separates by `/`.
-pub(crate) fn put_lines(text: &mut String, field: &str) -> Result<(), AllocError> {
+pub(crate) fn write_lines(text: &mut String, field: &str) -> Result<(), AllocError> {
     for line in field.split(" / ") {
         writeln!(text, "{line}")?;
     }
@@ -20,7 +20,7 @@ pub(crate) fn after_first(field: &str) -> &str {
 }
 
 /// Appends the line of a sound file, which has the number of its intervals and the end of its scan, if that is not EOI.
-fn put_sound(text: &mut String, name: &str, report: &str) -> Result<(), AllocError> {
+fn write_sound(text: &mut String, name: &str, report: &str) -> Result<(), AllocError> {
     let (intervals, end) = (part(report, ' ', 1), after_first(report));
     let plural = if intervals == "1" { "" } else { "s" };
     write!(text, "{name}: sound, {intervals} interval{plural}")?;
@@ -33,10 +33,10 @@ fn put_sound(text: &mut String, name: &str, report: &str) -> Result<(), AllocErr
 
 /// Appends the lines of a check with a map: those of the last field, or the one that follows from
 /// the report if that field is empty.
-pub(crate) fn put_check_lines(text: &mut String, row: &Row<'_>) -> Result<(), AllocError> {
+pub(crate) fn write_check_lines(text: &mut String, row: &Row<'_>) -> Result<(), AllocError> {
     let (name, report) = (row.name, row.report);
     if row.damaged.is_empty() && row.status != 2 {
-        return put_sound(text, name, report);
+        return write_sound(text, name, report);
     }
     let lines = if row.damaged.is_empty() {
         report

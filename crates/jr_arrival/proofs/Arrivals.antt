@@ -10,9 +10,9 @@ use Rattle.jr_paint.specs.Lines.{line_size}
 use Rattle.jr_scan.specs.PartialScan.{PartialScanValue, HasCome}
 use Rattle.jr_arrival.proofs.LinesOfPictures.{of_picture}
 use Rattle.jr_arrival.specs.LongerFile.{HasScan}
-use Rattle.jr_arrival.specs.PartialFile.{PartialImageValue, GivesFinalLines, HasBegun, HoldsBytes, given_of}
+use Rattle.jr_arrival.specs.PartialFile.{PartialImageValue, ReturnsFinalLines, HasBegun, HoldsBytes, given_of}
 use Rattle.jr_arrival.specs.PartialRows.{AreFinalLines}
-use Rattle.jr_arrival.specs.Settled.{AreFinal, GivesNext, WantsMore}
+use Rattle.jr_arrival.specs.Settled.{AreFinal, ReturnsNext, WantsMore}
 use Rattle.jr_arrival.proofs.HeadsStay.{head_stays}
 use Rattle.jr_arrival.proofs.ScansGoOn.{file_becomes}
 
@@ -28,7 +28,7 @@ partial_final bytes part first count pixels high head come are file t marks f ca
     let becomes = file_becomes bytes file part t can head come there in
     of_picture t marks f first count pixels (subst (λ (h : HeadValue). first + count ≤ h.height) (sym becomes.head) high) shows (are t becomes)
 
-pub given_next : (c : PartialImageValue) (bytes : List ℕ) (first n : ℕ) (pixels : List ℕ) → HasBegun c bytes → GivesFinalLines c first n pixels → GivesNext bytes first n pixels
+pub given_next : (c : PartialImageValue) (bytes : List ℕ) (first n : ℕ) (pixels : List ℕ) → HasBegun c bytes → ReturnsFinalLines c first n pixels → ReturnsNext bytes first n pixels
 given_next c bytes first n pixels begun given =
     let s = c.partial_scan.scan in
     let g = given.settled bytes begun.1 in
@@ -55,7 +55,7 @@ none_given None e = refl
 none_given (Some c) e = absurd (let z : true ≡ false = e in cc)
 
 -- a look at a file, by whether its scan has begun
-pub look_given : (kept bytes : List ℕ) (o : Option PartialImageValue) (n : ℕ) (pixels : List ℕ) → HoldsBytes kept o bytes → (o ≡ None → n ≡ 0) → (o ≡ None → WantsMore bytes) → IfSome o (λ c. GivesFinalLines c (given_of o) n pixels) → GivesNext bytes (given_of o) n pixels
+pub look_given : (kept bytes : List ℕ) (o : Option PartialImageValue) (n : ℕ) (pixels : List ℕ) → HoldsBytes kept o bytes → (o ≡ None → n ≡ 0) → (o ≡ None → WantsMore bytes) → IfSome o (λ c. ReturnsFinalLines c (given_of o) n pixels) → ReturnsNext bytes (given_of o) n pixels
 look_given kept bytes None n pixels holds none wants given = inl (none refl, wants refl)
 look_given kept bytes (Some c) n pixels holds none wants given = given_next c bytes c.row.lines n pixels holds given
 

@@ -23,14 +23,14 @@ pub record HasCome (h : HeadValue) (f : FileBytes) (start p : RowPlace) (s : Fil
   pub at : IsFileSource h s
   pub file : s.window.file ≡ f
   pub before : mcus_to h s.cursor ≡ p.row * mcus_across h
-  pub stands : IsPlaceOf h p
+  pub lies : IsPlaceOf h p
   pub on : start.row ≤ p.row
   pub none : p.row ≡ start.row → p ≡ start
   pub place : (whole : List ℕ) (t : ScanValue) → MayBe (part_of f) h whole t → IsPlaceIn (part_of f) whole t start → IsRightIn whole t s × IsPlaceIn (part_of f) whole t p
 
 pub comes_first : (h : HeadValue) (f : FileBytes) (p : RowPlace) (s : FileSource) → IsPlaceOf h p → IsFileSource h s → s.window.file ≡ f → mcus_to h s.cursor ≡ p.row * mcus_across h
     → ((whole : List ℕ) (t : ScanValue) → MayBe (part_of f) h whole t → IsPlaceIn (part_of f) whole t p → IsRightIn whole t s) → HasCome h f p p s
-comes_first h f p s stands is file before there = record { at = is; file = file; before = before; stands = stands; on = omega arith; none = λ same. refl; place = λ whole t may is. (there whole t may is, is) }
+comes_first h f p s lies is file before there = record { at = is; file = file; before = before; lies = lies; on = omega arith; none = λ same. refl; place = λ whole t may is. (there whole t may is, is) }
 
 module _ (h : HeadValue) (f : FileBytes) (start p : RowPlace) (s : FileSource) (come : HasCome h f start p s) (inside : p.row < mcus_down h) where
   -- a file that the bytes may be is one that those of the source may be
@@ -57,7 +57,7 @@ module _ (h : HeadValue) (f : FileBytes) (start p : RowPlace) (s : FileSource) (
         at = stays.at;
         file = stays.part ∙ over.part ∙ come.file;
         before = before;
-        stands = record {
+        lies = record {
           row = omega (arith, next, inside);
           is_in = subst (λ (k : ℕ). IsIn h k new.mcu) (sym number) (subst (IsIn h e.cursor.number) (sym mcu) stays.at.is_in);
           at = omega (arith, ap (λ (k : ℕ). k * h.restart) number, mcu, before);

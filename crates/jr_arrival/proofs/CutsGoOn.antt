@@ -7,7 +7,7 @@ use Rattle.jr_cut.specs.declared.scan_end.ScanEnd.TheVariants.{EndOfFile}
 use Rattle.jr_cut.specs.Cut.{IsRaw, CodedSegment, with_markers, HasMarker, IsEnding, CutFrom, Cutting}
 use Rattle.jr_cut.proofs.CutLaw.{ending_not_next, ending_stop, markers_stop, one_cut}
 use Rattle.jr_cut.proofs.PartialSegments.{ending_more}
-use Rattle.jr_cut.proofs.Endings.{behind_marker, bytes_of, next_marker, next_stop}
+use Rattle.jr_cut.proofs.Endings.{after_marker, bytes_of, next_marker, next_stop}
 use Rattle.jr_cut.proofs.Spellings.{begins_stopped, one_stop}
 use Rattle.jr_arrival.specs.LongerFile.{GrowsTo}
 
@@ -34,7 +34,7 @@ segments_go_on n k i j o raw raw' first first' more tail' (p ∷ ps) [] end hr h
     absurd (ending_not_next n k o tail' end (subst (λ (x : ℕ). IsEnding n x o tail' end) ik h) (subst (λ (t : List ℕ). HasMarker t (RST0 + k % 8)) s.1 (next_marker k p ps more)) (omega (arith, ej, lj)))
 segments_go_on n k i j o raw raw' first first' more tail' (p ∷ ps) (q ∷ qs) end hr hr' hp hq ej ei lj h e =
     let s = one_stop raw first raw' first' (with_markers k (p ∷ ps) ++ more) (with_markers k (q ∷ qs) ++ tail') hr hr' e (next_stop k p ps more) (next_stop k q qs tail') in
-    let m = behind_marker k p.more ((p.raw ++ with_markers (suc k) ps) ++ more) q qs tail' (sym (next_marker k p ps more).2 ∙ s.1) in
+    let m = after_marker k p.more ((p.raw ++ with_markers (suc k) ps) ++ more) q qs tail' (sym (next_marker k p ps more).2 ∙ s.1) in
     goes_on_first first first' (bytes_of (p ∷ ps)) (bytes_of (q ∷ qs)) (sym s.0)
     (segments_go_on n (suc k) i j o p.raw q.raw p.bytes q.bytes more tail' ps qs end hp.0 hq.0 hp.1 hq.1 (omega (arith, ej)) (omega (arith, ei)) lj h (sym (append_assoc p.raw (with_markers (suc k) ps) more) ∙ m.1))
 

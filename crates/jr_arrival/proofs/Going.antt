@@ -61,19 +61,19 @@ module _ (whole : List ℕ) (t : ScanValue) (i at : ℕ) (before : List ℕ) (g 
   cut_there : CutFrom (intervals_of t.head) i at (drop at whole) ([] ∷ g.others) t.ended
   cut_there = subst (λ (x : List ℕ). CutFrom (intervals_of t.head) i at (drop at whole) (x ∷ g.others) t.ended) none g.cut
 
-  behind_it : drop (i + 1) t.intervals ≡ g.others ++ replicate g.empty []
-  behind_it = sym (drop-drop 1 i t.intervals) ∙ ap (drop 1) g.datas
+  after_it : drop (i + 1) t.intervals ≡ g.others ++ replicate g.empty []
+  after_it = sym (drop-drop 1 i t.intervals) ∙ ap (drop 1) g.datas
 
   -- to the next segment
   pub next_on : (more : ℕ) (rest : List ℕ) → i + 1 < intervals_of t.head → drop at whole ≡ marker more (RST0 + i % 8) ++ rest → drop (at + (more + 2)) whole ≡ rest → GoesOnAt whole t (i + 1) (at + (more + 2)) []
-  next_on more rest room starts there =
-      let c = next_cut (intervals_of t.head) i at (drop at whole) g.others t.ended cut_there more rest room starts in
+  next_on more rest space starts there =
+      let c = next_cut (intervals_of t.head) i at (drop at whole) g.others t.ended cut_there more rest space starts in
       record {
         rest = c.first;
-        others = c.behind;
+        others = c.after;
         empty = g.empty;
-        cut = subst (λ (b : List ℕ). CutFrom (intervals_of t.head) (i + 1) (at + (more + 2)) b (c.first ∷ c.behind) t.ended) (sym there) c.cut;
-        datas = behind_it ∙ ap (λ (x : List (List ℕ)). x ++ replicate g.empty []) c.are;
+        cut = subst (λ (b : List ℕ). CutFrom (intervals_of t.head) (i + 1) (at + (more + 2)) b (c.first ∷ c.after) t.ended) (sym there) c.cut;
+        datas = after_it ∙ ap (λ (x : List (List ℕ)). x ++ replicate g.empty []) c.are;
         count = λ d. omega (arith, g.count d, ap length c.are);
       }
 
@@ -89,5 +89,5 @@ module _ (whole : List ℕ) (t : ScanValue) (i at : ℕ) (before : List ℕ) (g 
   ended_on o e ending j le =
       let others = last_cut (intervals_of t.head) i at (drop at whole) g.others t.ended cut_there o e ending in
       let there : i + 1 + (j - (i + 1)) ≡ j = omega (arith, le) in
-      ap (λ (k : ℕ). get_or t.intervals k []) (sym there) ∙ sym (get_or-drop (i + 1) t.intervals (j - (i + 1)) []) ∙ ap (λ (l : List (List ℕ)). get_or l (j - (i + 1)) []) (behind_it ∙ ap (λ (x : List (List ℕ)). x ++ replicate g.empty []) others)
+      ap (λ (k : ℕ). get_or t.intervals k []) (sym there) ∙ sym (get_or-drop (i + 1) t.intervals (j - (i + 1)) []) ∙ ap (λ (l : List (List ℕ)). get_or l (j - (i + 1)) []) (after_it ∙ ap (λ (x : List (List ℕ)). x ++ replicate g.empty []) others)
       ∙ none_in g.empty (j - (i + 1))

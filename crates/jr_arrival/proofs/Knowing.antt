@@ -7,7 +7,7 @@ use Rattle.std.proofs.Math.Seq.{drop-append_seam}
 use Rattle.jr_code.specs.Bits.{bits}
 use Rattle.jr_code.proofs.BitLemmas.{length-bits}
 use Rattle.jr_code.proofs.CodeLemmas.{one_word}
-use Rattle.jr_head.specs.Geometry.{IsLawful, order_of}
+use Rattle.jr_head.specs.Geometry.{IsValid, order_of}
 use Rattle.jr_head.proofs.SamplingLaws.{length-order}
 use Rattle.jr_mcu.specs.Mcus.{Mcus, no_predictions, predicted}
 use Rattle.jr_mcu.proofs.McuLaws.{one_blocks}
@@ -44,30 +44,30 @@ same_longest i j k ys zs a b = omega (arith, a.longest k zs b.front, b.longest j
 -- ---- an MCU that never becomes whole
 
 -- no MCU begins the bits past a longest prefix
-none_past : (i : IntervalValue) (k : ℕ) (zs : List (List ℤ)) (p : Place) → IsLawful i.head → LongestFront i k zs → k < i.mcus → IsRun (run_from i start_of_interval k) zs p AllRead → HasNoMcu i p
-none_past i k zs p lawful l lt r ys taken rest m e =
+none_past : (i : IntervalValue) (k : ℕ) (zs : List (List ℤ)) (p : Place) → IsValid i.head → LongestFront i k zs → k < i.mcus → IsRun (run_from i start_of_interval k) zs p AllRead → HasNoMcu i p
+none_past i k zs p valid l lt r ys taken rest m e =
     let q : Place = record { bit = p.bit + length taken; predictions = predicted i.head p.predictions ys } in
     let left : left_at i q ≡ rest = sym (drop-drop (length taken) p.bit (bits i.bytes)) ∙ ap (drop (length taken)) e ∙ drop-append_seam taken rest in
     let next : IsRun (run_from i p 1) ys q AllRead = record { count = 1; few = omega arith; taken = taken; mcus = m; spelled = e ∙ ap (λ (b : List Bool). taken ++ b) (sym left); bit = refl; predictions = refl; ends = refl } in
     let first : RunRead (run_from i start_of_interval k) = record { blocks = zs; to = p; end = AllRead; is = r } in
     let second : RunRead (run_from i first.to 1) = record { blocks = ys; to = q; end = AllRead; is = next } in
-    let both : IsRun (run_from i start_of_interval (k + 1)) (zs ++ ys) q AllRead = runs_meet i start_of_interval k 1 first second lawful refl in
+    let both : IsRun (run_from i start_of_interval (k + 1)) (zs ++ ys) q AllRead = runs_meet i start_of_interval k 1 first second valid refl in
     let longer = l.longest (k + 1) (zs ++ ys) (front_of_run i (k + 1) (zs ++ ys) q both (omega (arith, lt))) in
     omega (arith, longer)
 
 -- if the maximum number of bits of an MCU is left past it, it stays the longest
-longest_stays : (i : IntervalValue) (more : List ℕ) (k : ℕ) (zs : List (List ℤ)) → IsLawful i.head → (l : LongestFront i k zs) → MCU_BITS ≤ length l.front.rest → (j : ℕ) (ys : List (List ℤ)) → Front (with_more i more) j ys → j ≤ k
-longest_stays i more k zs lawful l long j ys f = elim (cases_lt k j) [
+longest_stays : (i : IntervalValue) (more : List ℕ) (k : ℕ) (zs : List (List ℤ)) → IsValid i.head → (l : LongestFront i k zs) → MCU_BITS ≤ length l.front.rest → (j : ℕ) (ys : List (List ℤ)) → Front (with_more i more) j ys → j ≤ k
+longest_stays i more k zs valid l long j ys f = elim (cases_lt k j) [
   | inr g ↦ g
   | inl lt ↦
       let longer = with_more i more in
       let w = run_of_front i k zs l.front in
       let p = w.0 in
       let r = w.1 in
-      let none : HasNoMcu i p = none_past i k zs p lawful l (omega (arith, lt, f.at_most)) r in
+      let none : HasNoMcu i p = none_past i k zs p valid l (omega (arith, lt, f.at_most)) r in
       let within : p.bit ≤ 8 * length i.bytes = omega (arith, r.bit, ap length r.spelled, length-append r.taken (left_at i p), length-bits i.bytes) in
       let left : 16650 ≤ length (left_at i p) = omega (arith, long, ap length (rest_left i k zs zs p l.front r)) in
-      let units : length (order_of i.head) ≤ 10 = omega (arith, length-order 0 i.head.components, lawful.components.blocks) in
+      let units : length (order_of i.head) ≤ 10 = omega (arith, length-order 0 i.head.components, valid.components.blocks) in
       let none_there : HasNoMcu longer p = none_in_long i more p units within left none in
       let all = run_from longer start_of_interval (k + 1) in
       let here : IsRun all zs p NoMcu = stopped longer start_of_interval p k (k + 1) zs (omega arith) (run_is_final (run_from i start_of_interval k) more zs p (omega arith) r) none_there in
@@ -75,7 +75,7 @@ longest_stays i more k zs lawful l long j ys f = elim (cases_lt k j) [
       let there = run_of_front longer (k + 1) some (shorter_front longer (k + 1) j ys (omega (arith, lt)) f) in
       let a : RunRead all = record { blocks = zs; to = p; end = NoMcu; is = here } in
       let b : RunRead all = record { blocks = some; to = there.0; end = AllRead; is = there.1 } in
-      let e : NoMcu ≡ AllRead = (one_run all a b lawful).2 in
+      let e : NoMcu ≡ AllRead = (one_run all a b valid).2 in
       absurd (let z : NoMcu ≡ AllRead = e in cc)
 ]
 
@@ -83,8 +83,8 @@ longest_stays i more k zs lawful l long j ys f = elim (cases_lt k j) [
 abbrev pub HasLongRest : IntervalValue → ℕ → List (List ℤ) → Type 0
 HasLongRest i k zs = (l : LongestFront i k zs) × (MCU_BITS ≤ length l.front.rest)
 
-pub long_rest_stays : (i : IntervalValue) (more : List ℕ) (k : ℕ) (zs : List (List ℤ)) → IsLawful i.head → HasLongRest i k zs → HasLongRest (with_more i more) k zs
-long_rest_stays i more k zs lawful has =
+pub long_rest_stays : (i : IntervalValue) (more : List ℕ) (k : ℕ) (zs : List (List ℤ)) → IsValid i.head → HasLongRest i k zs → HasLongRest (with_more i more) k zs
+long_rest_stays i more k zs valid has =
     let f = has.0.front in
     let there : Front (with_more i more) k zs = record {
       at_most = f.at_most;
@@ -93,12 +93,12 @@ long_rest_stays i more k zs lawful has =
       mcus = f.mcus;
       spelled = bits_more i.bytes more ∙ ap (λ (b : List Bool). b ++ bits more) f.spelled ∙ append_assoc f.taken f.rest (bits more);
     } in
-    (record { front = there; longest = longest_stays i more k zs lawful has.0 has.1 }, omega (arith, has.1, length-append f.rest (bits more)))
+    (record { front = there; longest = longest_stays i more k zs valid has.0 has.1 }, omega (arith, has.1, length-append f.rest (bits more)))
 
 -- so an MCU past it is never whole with more data
-pub never_stays : (i : IntervalValue) (more : List ℕ) (mcu : ℕ) → IsLawful i.head → IsNeverWhole i mcu → IsNeverWhole (with_more i more) mcu
-never_stays i more mcu lawful n =
-    let stays = long_rest_stays i more n.front n.blocks lawful (n.longest, n.long) in
+pub never_stays : (i : IntervalValue) (more : List ℕ) (mcu : ℕ) → IsValid i.head → IsNeverWhole i mcu → IsNeverWhole (with_more i more) mcu
+never_stays i more mcu valid n =
+    let stays = long_rest_stays i more n.front n.blocks valid (n.longest, n.long) in
     record { front = n.front; blocks = n.blocks; few = n.few; longest = stays.0; long = stays.1 }
 
 -- ---- the number of an interval's MCUs that are final

@@ -1,5 +1,5 @@
 pub mod Arrivals
-pub mod Behind
+pub mod After
 pub mod BetweenRows
 pub mod SourceSteps
 pub mod CutsGoOn

@@ -1,7 +1,7 @@
 -- The lines of each image of a scan.
 use Rattle.std.proofs.Common.{◌≡◌, ℕ, ◌+◌, ◌-◌, ◌*◌, ◌/◌, ◌%◌, ◌<◌, ◌≤◌, List, [], length, get_or, sym, ap, subst, ◌∙◌, arith}
 use Rattle.jr_head.specs.HeadValue.{HeadValue}
-use Rattle.jr_head.specs.Geometry.{IsLawful, blocks_of, mcus_across, mcus_down, vertical_max, vertical_of}
+use Rattle.jr_head.specs.Geometry.{IsValid, blocks_of, mcus_across, mcus_down, vertical_max, vertical_of}
 use Rattle.jr_scan.specs.ScanValue.{ScanValue}
 use Rattle.jr_scan.proofs.ScanLaws.{one_decoding, one_front}
 use Rattle.jr_paint.specs.Lines.{line_of, next_lines_of}
@@ -25,7 +25,7 @@ use Rattle.jr_rows.proofs.PaintedRows.{row_painted}
 pub one_lines : (t : ScanValue) (n : ℕ) (k m : List Mark) (f g : ℕ → ℕ → ℕ → ℕ) (first count : ℕ) → first + count ≤ t.head.height → ShowsFirst t n k f → ShowsFirst t n m g → next_lines_of t.head f first count ≡ next_lines_of t.head g first count
 one_lines t n k m f g first count high a b =
     let h = t.head in
-    let l = a.lawful in
+    let l = a.valid in
     flat_map-moved (line_of h f) (line_of h g) first first count
     (λ j lt. line_same h l f g (first + j)
     (λ c x p left.
@@ -38,10 +38,10 @@ pub of_picture : (t : ScanValue) (marks : List Mark) (f : ℕ → ℕ → ℕ �
 of_picture t marks f first count pixels high shows are =
     let n = length t.intervals in
     let b = first_decoded outcome t n (omega arith) in
-    are b.0 b.1 ∙ one_lines t n (marks_of b.0) marks (samples_of b.0) f first count high (shows_first t n b.0 b.1 shows.lawful) shows
+    are b.0 b.1 ∙ one_lines t n (marks_of b.0) marks (samples_of b.0) f first count high (shows_first t n b.0 b.1 shows.valid) shows
 
 -- a row whose data units are the image's is painted as the image
-module _ (t : ScanValue) (n row : ℕ) (groups : List (List ℕ)) (lawful : IsLawful t.head) (inside : row < mcus_down t.head)
+module _ (t : ScanValue) (n row : ℕ) (groups : List (List ℕ)) (valid : IsValid t.head) (inside : row < mcus_down t.head)
     (shown : ShowsFirstUnits t n (row * mcus_across t.head) (mcus_across t.head) (units_in t.head groups)) (b : DecodedScan) (first : DecodesFirst t n b) where
   abbrev h : HeadValue
   h = t.head
@@ -54,6 +54,6 @@ module _ (t : ScanValue) (n row : ℕ) (groups : List (List ℕ)) (lawful : IsLa
   pub row_of_board : (y count : ℕ) → first_line h row ≤ y → y + count ≤ first_line h row + line_count h row → next_lines_of h (samples_in (record { head = h; groups = groups })) y count ≡ next_lines_of h (samples_of b) y count
   row_of_board y count top few =
       let deep = 8 * vertical_max h in
-      let positive : 0 < deep = omega (arith, lawful.components.down) in
+      let positive : 0 < deep = omega (arith, valid.components.down) in
       let high : first_line h row < h.height = below_div_ceil row h.height deep positive inside in
-      row_painted b h (ap (λ (u : ScanValue). u.head) first.scan_is) lawful groups row shows_mcus y count (y - first_line h row) (omega (arith, top)) (omega (arith, few, top)) (omega (arith, few, high))
+      row_painted b h (ap (λ (u : ScanValue). u.head) first.scan_is) valid groups row shows_mcus y count (y - first_line h row) (omega (arith, top)) (omega (arith, few, top)) (omega (arith, few, high))

@@ -71,7 +71,7 @@ never_shown i f Sound not_blank p mcu n c x y held le =
 never_shown i f Damaged not_blank p mcu n c x y held le =
     let count : p.front ≡ n.front = same_longest i p.front n.front p.blocks n.blocks p.longest n.longest in
     let past : p.front * length (order_of i.head) ≤ mcu * length (order_of i.head) = mul-le-mul_right (length (order_of i.head)) (omega (arith, count, n.few)) in
-    p.behind c x y held (omega (arith, p.longest.front.mcus.0, past, le))
+    p.after c x y held (omega (arith, p.longest.front.mcus.0, past, le))
 
 -- ---- two images
 
@@ -105,7 +105,7 @@ module _ (bytes : List ℕ) (s t : ScanValue) (n : ℕ) (k m : List Mark) (f g :
       let longer = with_more (interval_of s i) d.0 in
       let there = subst (λ (v : IntervalValue). Shows (mark_in m i) v g) (interval_more s t i d.0 keeps.head d.1) (b.picture.each i) in
       let per : length (order_of h) ≡ blocks_of h = length-order 0 h.components in
-      let block = block_there h c x y a.lawful held.component in
+      let block = block_there h c x y a.valid held.component in
       let next : count * length (order_of h) ≡ within_interval h spot.mcu * blocks_of h + blocks_of h = ap (λ (p : ℕ). count * p) per ∙ grind arith in
       let lt : unit_number h spot < length zs = omega (arith, front.mcus.0, next, block) in
       let held' : Holds longer c x y = record { component = held.component; column = held.column; line = held.line; interval = held.interval } in
@@ -136,7 +136,7 @@ module _ (bytes : List ℕ) (s t : ScanValue) (n : ℕ) (k m : List Mark) (f g :
       elim (cases_lt i n) [
         | inl l ↦
             never_shown (interval_of s i) f (mark_in k i) (a.first.marked i l) (a.picture.each i) mcu never c x y held past
-            ∙ sym (never_shown longer g (mark_in m i) (b.first.marked i l) there mcu (never_stays (interval_of s i) d.0 mcu a.lawful never) c x y held' past)
+            ∙ sym (never_shown longer g (mark_in m i) (b.first.marked i l) there mcu (never_stays (interval_of s i) d.0 mcu a.valid never) c x y held' past)
         | inr r ↦
             let p = subst (λ (w : Mark). Shows w (interval_of s i) f) (a.first.blank i r) (a.picture.each i) in
             let q = subst (λ (w : Mark). Shows w longer g) (b.first.blank i r) there in
@@ -154,9 +154,9 @@ module _ (bytes : List ℕ) (s t : ScanValue) (n : ℕ) (k m : List Mark) (f g :
   LineIsSettled line = RowIsSettled bytes s (line / (8 * vertical_max h))
 
   line_there : (line : ℕ) → line < h.height → LineIsSettled line → line_of h f line ≡ line_of h g line
-  line_there line high settled = line_same h a.lawful f g line
+  line_there line high settled = line_same h a.valid f g line
       (λ c x p left.
-      let l = a.lawful in
+      let l = a.valid in
       let down = vertical_of h c in
       let q = sampled_at h c l p in
       let deep : 0 < 8 * vertical_max h = omega (arith, l.components.down) in

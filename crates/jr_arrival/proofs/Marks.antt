@@ -3,19 +3,19 @@ use Rattle.std.proofs.Common.{◌≡◌, ℕ, ◌+◌, ◌<◌, Bool, cond, leng
 use Rattle.jr_head.specs.Geometry.{mcus_down, mcus_of}
 use Rattle.jr_scan.specs.IntervalValue.{IntervalValue}
 use Rattle.jr_scan.specs.ScanValue.{ScanValue, interval_of, intervals_of}
-use Rattle.jr_scan.specs.Mcus.{TellsSound}
+use Rattle.jr_scan.specs.Mcus.{ReportsSound}
 use Rattle.jr_rows.specs.Rows.{CountsMarks, CountsRows, coded_before, intervals_before}
 use Rattle.jr_rows.specs.declared.marked.Marked.{Marked}
-use Rattle.jr_piece.proofs.UnitReading.{outcome_tells}
+use Rattle.jr_piece.proofs.UnitReading.{outcome_reports}
 use Rattle.jr_rows.proofs.ReadRows.{counts_both, counts_one}
 use Rattle.jr_rows.proofs.Countings.{all_last, none_first}
 
 -- the marks after one more interval
-pub counted : (t : ScanValue) (i : IntervalValue) (number : ℕ) (before one more : Marked) (is_sound : Bool) → number < length t.intervals → CountsMarks t (length t.intervals) 0 number before → interval_of t number ≡ i → TellsSound is_sound i
+pub counted : (t : ScanValue) (i : IntervalValue) (number : ℕ) (before one more : Marked) (is_sound : Bool) → number < length t.intervals → CountsMarks t (length t.intervals) 0 number before → interval_of t number ≡ i → ReportsSound is_sound i
     → one.sound ≡ cond is_sound 1 0 → one.damaged ≡ cond is_sound 0 1 → more.sound ≡ before.sound + one.sound → more.damaged ≡ before.damaged + one.damaged → CountsMarks t (length t.intervals) 0 (number + 1) more
-counted t i number before one more is_sound inside so_far same told s d sums sumd =
+counted t i number before one more is_sound inside so_far same stated s d sums sumd =
     let all = length t.intervals in
-    counts_both t all 0 number (number + 1) before one more so_far (counts_one t all number one inside inside is_sound s d (λ p o e. outcome_tells i is_sound told p o (e ∙ same))) sums sumd
+    counts_both t all 0 number (number + 1) before one more so_far (counts_one t all number one inside inside is_sound s d (λ p o e. outcome_reports i is_sound stated p o (e ∙ same))) sums sumd
 
 -- those of all intervals are those of all rows
 pub of_all_rows : (s : ScanValue) (m : Marked) → 0 < mcus_of s.head → 0 < intervals_of s.head → length s.intervals ≡ intervals_of s.head → CountsMarks s (length s.intervals) 0 (length s.intervals) m → CountsRows s (length s.intervals) m

@@ -18,10 +18,10 @@ row_lines t h marks f row groups pixels e inside shown paints shows =
     let g = t.head in
     let here : row < mcus_down g = subst (λ (g : HeadValue). row < mcus_down g) (sym e) inside in
     let are = subst (λ (g : HeadValue). PaintsRowLines g row groups pixels) (sym e) paints in
-    let high : first_line g row < g.height = below_div_ceil row g.height (8 * vertical_max g) (omega (arith, shows.lawful.components.down)) here in
-    let told = of_picture t marks f (first_line g row) (line_count g row) pixels (omega (arith, high)) shows
-    (λ b first. are b (ap (λ (u : ScanValue). u.head) first.scan_is) (shows_mcus t (length t.intervals) row groups shows.lawful here shown b first)) in
-    subst (λ (g : HeadValue). pixels ≡ next_lines_of g f (first_line g row) (line_count g row)) e told
+    let high : first_line g row < g.height = below_div_ceil row g.height (8 * vertical_max g) (omega (arith, shows.valid.components.down)) here in
+    let stated = of_picture t marks f (first_line g row) (line_count g row) pixels (omega (arith, high)) shows
+    (λ b first. are b (ap (λ (u : ScanValue). u.head) first.scan_is) (shows_mcus t (length t.intervals) row groups shows.valid here shown b first)) in
+    subst (λ (g : HeadValue). pixels ≡ next_lines_of g f (first_line g row) (line_count g row)) e stated
 
 -- no lines
 pub no_lines : (h : HeadValue) (f : ℕ → ℕ → ℕ → ℕ) (y n : ℕ) (pixels : List ℕ) → n ≡ 0 → take (n * line_size h) pixels ≡ next_lines_of h f y n

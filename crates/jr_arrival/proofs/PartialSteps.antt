@@ -3,7 +3,7 @@ use Rattle.std.proofs.Common.{◌≡◌, ℕ, ◌+◌, ◌<◌, ◌≤◌, ◌++
 use Rattle.std.specs.Prelude.{ℤ, Bool}
 use Rattle.std.proofs.lemmas.Bool.{cases_lt}
 use Rattle.jr_head.specs.HeadValue.{HeadValue}
-use Rattle.jr_head.specs.Geometry.{IsLawful, mcus_of}
+use Rattle.jr_head.specs.Geometry.{IsValid, mcus_of}
 use Rattle.jr_head.specs.Intervals.{intervals_of, mcus_in}
 use Rattle.jr_scan.specs.declared.place.Place.{Place}
 use Rattle.jr_scan.specs.IntervalValue.{IntervalValue}
@@ -44,7 +44,7 @@ module _ (h : HeadValue) (s : PartialSource) (is : IsPartialSource h s) (n : ℕ
   moves few reads = record {
     at = record {
       head = is.head;
-      lawful = is.lawful;
+      valid = is.valid;
       count = is.count;
       reading = record { number = is.reading.number; few = subst (λ (g : HeadValue). s.cursor.mcu + n ≤ mcus_in g s.cursor.number) (sym is.head) few; begun = is.reading.begun; reads = reads; counts = is.reading.counts };
     };
@@ -60,8 +60,8 @@ module _ (h : HeadValue) (s : PartialSource) (is : IsPartialSource h s) where
   abbrev i : IntervalValue
   i = interval_of g.scan s.cursor.number
 
-  lawful_g : IsLawful g.scan.head
-  lawful_g = subst IsLawful (sym is.head) is.lawful
+  valid_g : IsValid g.scan.head
+  valid_g = subst IsValid (sym is.head) is.valid
 
   scan_for : (t : ScanValue) → GrowsInto g t → (t.head ≡ h) × (length t.intervals ≡ intervals_of h)
   scan_for t b = (b.head ∙ is.head, b.count ∙ is.count)
@@ -80,7 +80,7 @@ module _ (h : HeadValue) (s : PartialSource) (is : IsPartialSource h s) where
     steps : Steps h (partial_source_of s) (partial_source_of (moved h s is n (Some taken.to))) n
     steps =
         let first : FirstMcus (run_from i p n) n taken.blocks = record { to = taken.to; run = taken.run; none = λ lt. absurd (omega (arith, lt)) } in
-        moves h s is n (Some taken.to) taken.few (reads_p.0 ++ taken.blocks, runs.going one_run runs_meet shorter_front i lawful_g s.cursor.mcu reads_p.0 p reads_p.1 n n taken.blocks first few_g taken.to taken.run taken.can)
+        moves h s is n (Some taken.to) taken.few (reads_p.0 ++ taken.blocks, runs.going one_run runs_meet shorter_front i valid_g s.cursor.mcu reads_p.0 p reads_p.1 n n taken.blocks first few_g taken.to taken.run taken.can)
 
     shows : ShowsMore h (partial_source_of s) keeps done n old new
     shows =
@@ -88,7 +88,7 @@ module _ (h : HeadValue) (s : PartialSource) (is : IsPartialSource h s) where
         let d = b.so_far s.cursor.number in
         let longer = with_more i d.0 in
         let e = scan_for t b in
-        let codes = whole_units h longer s.cursor.mcu n reads_p.0 taken.blocks p taken.to is.lawful is.head (next_stays i d.0 s.cursor.mcu reads_p.0 p reads_p.1) (run_is_final (run_from i p n) d.0 taken.blocks taken.to reads_p.1.can.0 taken.run) few_g in
+        let codes = whole_units h longer s.cursor.mcu n reads_p.0 taken.blocks p taken.to is.valid is.head (next_stays i d.0 s.cursor.mcu reads_p.0 p reads_p.1) (run_is_final (run_from i p n) d.0 taken.blocks taken.to reads_p.1.can.0 taken.run) few_g in
         (e.0, e.1, subst (λ (x : IntervalValue). CodesBy h x s.cursor.mcu n (unit_of h taken.blocks)) (sym (interval_more g.scan t s.cursor.number d.0 b.head d.1)) codes))
 
     pub walks_whole : Walks h (partial_source_of s) (partial_source_of (record s { cursor = d })) keeps done n old new
@@ -100,12 +100,12 @@ module _ (h : HeadValue) (s : PartialSource) (is : IsPartialSource h s) where
         let none = taken.none z in
         let here : FirstMcus (run_from i p 1) 0 [] = record { to = p; run = no_run i p (ap length reads_p.1.run.predictions); none = λ lt. none.1 } in
         let sum : s.cursor.mcu + 0 ≡ s.cursor.mcu = omega arith in
-        let all : ReadsAll g.scan s.cursor.number s.cursor.mcu (Some p) = subst (HasLongestFront i) sum (nothing_follows i s.cursor.mcu 1 reads_p.0 [] p lawful_g reads_p.1 here (omega arith) is.reading.few) in
+        let all : ReadsAll g.scan s.cursor.number s.cursor.mcu (Some p) = subst (HasLongestFront i) sum (nothing_follows i s.cursor.mcu 1 reads_p.0 [] p valid_g reads_p.1 here (omega arith) is.reading.few) in
         subst (λ (k : Cursor). ReadsAll g.scan k.number k.mcu k.place) (sym none.0) (subst (ReadsAll g.scan s.cursor.number s.cursor.mcu) (sym at) all)
 
   -- no further MCU becomes whole
-  pub gives_up : s.cursor.mcu < mcus_in h s.cursor.number → ReadsAll g.scan s.cursor.number s.cursor.mcu s.cursor.place → IsFinal g s.cursor.number s.cursor.place → Steps h (partial_source_of s) (partial_source_of (record s { cursor = record { number = s.cursor.number; mcu = s.cursor.mcu; place = None } })) 0
-  gives_up left all final =
+  pub returns_up : s.cursor.mcu < mcus_in h s.cursor.number → ReadsAll g.scan s.cursor.number s.cursor.mcu s.cursor.place → IsFinal g s.cursor.number s.cursor.place → Steps h (partial_source_of s) (partial_source_of (record s { cursor = record { number = s.cursor.number; mcu = s.cursor.mcu; place = None } })) 0
+  returns_up left all final =
       let far = far_front g s.cursor.number s.cursor.mcu s.cursor.place is.reading.reads all final in
       let none : s.cursor.mcu + 0 ≡ s.cursor.mcu = omega arith in
       let few : far.0 < mcus_in g.scan.head s.cursor.number = subst (λ (k : HeadValue). far.0 < mcus_in k s.cursor.number) (sym is.head) (omega (arith, far.2, left)) in
@@ -117,7 +117,7 @@ module _ (h : HeadValue) (s : PartialSource) (is : IsPartialSource h s) where
     | inl over ↦ subst (λ (x : IntervalValue). LongestFront x front zs) (sym (b.whole s.cursor.number over)) l.longest
     | inr long ↦
         let d = b.so_far s.cursor.number in
-        let longer = long_rest_stays i d.0 front zs lawful_g (l.longest, long) in
+        let longer = long_rest_stays i d.0 front zs valid_g (l.longest, long) in
         subst (λ (x : IntervalValue). LongestFront x front zs) (sym (interval_more g.scan t s.cursor.number d.0 b.head d.1)) longer.0
   ]
 
@@ -156,7 +156,7 @@ module _ (h : HeadValue) (s : PartialSource) (is : IsPartialSource h s) where
         record {
           at = record {
             head = is.head;
-            lawful = is.lawful;
+            valid = is.valid;
             count = is.count;
             reading = record {
               number = subst (λ (k : HeadValue). s.cursor.number + 1 < intervals_of k) (sym is.head) next.0;

@@ -5,7 +5,7 @@ use Rattle.std.proofs.lemmas.Nat.{div-mul-add}
 use Rattle.std.proofs.Math.Nat.{add-mul, div-mul-le_self, mul-le-mul_right}
 use Rattle.std.proofs.lemmas.Nat.{le-div}
 use Rattle.jr_head.specs.HeadValue.{HeadValue}
-use Rattle.jr_head.specs.Geometry.{IsLawful, mcus_across, mcus_down, mcus_of, vertical_max}
+use Rattle.jr_head.specs.Geometry.{IsValid, mcus_across, mcus_down, mcus_of, vertical_max}
 use Rattle.jr_head.specs.Intervals.{first_mcu_of}
 use Rattle.jr_paint.specs.Lines.{line_size}
 use Rattle.jr_paint.proofs.Places.{below_div_ceil, in_div_ceil}
@@ -19,7 +19,7 @@ use Rattle.jr_rows.specs.Rows.{first_line}
 use Rattle.jr_rows.proofs.PictureRows.{row_inside}
 use Rattle.jr_arrival.specs.PartialRows.{PartialRowValue, HasNoMore, IsPartialRow, ReadsTo}
 use Rattle.jr_arrival.specs.LongerFile.{IsOver}
-use Rattle.jr_arrival.specs.Settled.{GivesSettled, HasRows}
+use Rattle.jr_arrival.specs.Settled.{ReturnsSettled, HasRows}
 use Rattle.jr_arrival.proofs.Knowing.{IsLimit, front_few, limit_of, never_few, not_known}
 use Rattle.jr_arrival.proofs.SettledRows.{before_later, has_rows}
 
@@ -81,7 +81,7 @@ pub record HasLooked (part : PartialScanValue) (v : PartialRowValue) (first n mo
   pub few : n ≤ min most (part.scan.head.height - first)
   pub all : n < min most (part.scan.head.height - first) → HasNoMore part v.cursor × (v.done < mcus_across part.scan.head)
 
-module _ (part : PartialScanValue) (v : PartialRowValue) (lawful : IsLawful part.scan.head) (c : IsPartialRow part v) (first n most : ℕ) (looked : HasLooked part v first n most) where
+module _ (part : PartialScanValue) (v : PartialRowValue) (valid : IsValid part.scan.head) (c : IsPartialRow part v) (first n most : ℕ) (looked : HasLooked part v first n most) where
   abbrev s : ScanValue
   s = part.scan
 
@@ -89,10 +89,10 @@ module _ (part : PartialScanValue) (v : PartialRowValue) (lawful : IsLawful part
   deep = 8 * vertical_max s.head
 
   positive : 0 < deep
-  positive = let some = lawful.components.down in omega (arith, some)
+  positive = let some = valid.components.down in omega (arith, some)
 
   row_high : first_line s.head v.row < s.head.height
-  row_high = below_div_ceil v.row s.head.height deep positive c.stands.row
+  row_high = below_div_ceil v.row s.head.height deep positive c.lies.row
 
   -- at most the lines of the rows before the position are returned
   lines_few : (rows : ℕ) → (v.row * mcus_across s.head + v.done) / mcus_across s.head ≤ rows → 0 < mcus_across s.head → v.lines ≤ min s.head.height (rows * deep)
@@ -102,7 +102,7 @@ module _ (part : PartialScanValue) (v : PartialRowValue) (lawful : IsLawful part
         let high : v.row * deep ≤ rows * deep = mul-le-mul_right {m = v.row} {n = rows} deep row in
         omega (arith, high, c.given.none l, row_high)
     | inr g ↦
-        let whole : v.row * mcus_across s.head + v.done ≡ (v.row + 1) * mcus_across s.head + 0 = omega (arith, g, c.stands.within, add-mul v.row 1 (mcus_across s.head)) in
+        let whole : v.row * mcus_across s.head + v.done ≡ (v.row + 1) * mcus_across s.head + 0 = omega (arith, g, c.lies.within, add-mul v.row 1 (mcus_across s.head)) in
         let count : (v.row * mcus_across s.head + v.done) / mcus_across s.head ≡ v.row + 1 = ap (λ (k : ℕ). k / mcus_across s.head) whole ∙ div-mul-add (v.row + 1) (mcus_across s.head) 0 some in
         let high : (v.row + 1) * deep ≤ rows * deep = mul-le-mul_right {m = v.row + 1} {n = rows} deep (omega (arith, count, le)) in
         omega (arith, high, c.given.to, row_high, add-mul v.row 1 deep)
@@ -115,42 +115,42 @@ module _ (part : PartialScanValue) (v : PartialRowValue) (lawful : IsLawful part
   ]
 
   -- if these are the lines of final rows
-  gives : (bytes : List ℕ) (rows room : ℕ) → most ≡ room / line_size s.head → HasRows bytes s rows → v.lines ≤ min s.head.height (rows * deep) → (n < min most (s.head.height - first) → v.lines ≡ min s.head.height (rows * deep)) → GivesSettled bytes s first n room
-  gives bytes rows room is has few all = record {
+  returned : (bytes : List ℕ) (rows space : ℕ) → most ≡ space / line_size s.head → HasRows bytes s rows → v.lines ≤ min s.head.height (rows * deep) → (n < min most (s.head.height - first) → v.lines ≡ min s.head.height (rows * deep)) → ReturnsSettled bytes s first n space
+  returned bytes rows space is has few all = record {
     rows = rows;
     has = has;
     count = count_is (min s.head.height (rows * deep)) (omega arith) few all ∙ ap (λ (k : ℕ). min (min s.head.height (rows * deep) - first) k) is;
   }
 
-  module _ (bytes : List ℕ) (come : HasCome part bytes) (room : ℕ) (some : 0 < mcus_across s.head) (is : most ≡ room / line_size s.head) where
-    settled_partial : (i limit : ℕ) → s.ended ≡ EndOfFile → i + 1 ≡ part.segments → i < intervals_of s.head → IsLimit (interval_of s i) limit → GivesSettled bytes s first n room
+  module _ (bytes : List ℕ) (come : HasCome part bytes) (space : ℕ) (some : 0 < mcus_across s.head) (is : most ≡ space / line_size s.head) where
+    settled_partial : (i limit : ℕ) → s.ended ≡ EndOfFile → i + 1 ≡ part.segments → i < intervals_of s.head → IsLimit (interval_of s i) limit → ReturnsSettled bytes s first n space
     settled_partial i limit end last inside far =
         let across = mcus_across s.head in
         let place = v.row * across + v.done in
         let all = first_mcu_of s.head i + limit in
         let rows = all / across in
-        let mcus : 0 < mcus_of s.head = omega (arith, some, row_inside s.head v.row c.stands.row) in
-        let has = has_rows bytes s come.scan i end (omega (arith, last, come.segments)) inside limit far lawful some mcus in
+        let mcus : 0 < mcus_of s.head = omega (arith, some, row_inside s.head v.row c.lies.row) in
+        let has = has_rows bytes s come.scan i end (omega (arith, last, come.segments)) inside limit far valid some mcus in
         let le = reaches part v i limit c end last far inside in
-        let few = lines_few rows (le-div (place / across) all across some (omega (arith, le, c.stands.at, div-mul-le_self place across))) some in
-        gives bytes rows room is has few
+        let few = lines_few rows (le-div (place / across) all across some (omega (arith, le, c.lies.at, div-mul-le_self place across))) some in
+        returned bytes rows space is has few
         (λ lt.
         let none = looked.all lt in
-        let at : all ≡ place = sym (all_read_there part v i limit c end last far none.0) ∙ c.stands.at in
+        let at : all ≡ place = sym (all_read_there part v i limit c end last far none.0) ∙ c.lies.at in
         let row : rows ≡ v.row = ap (λ (k : ℕ). k / across) at ∙ div-mul-add v.row across v.done none.1 in
         omega (arith, c.given.none none.1, row_high, ap (λ (k : ℕ). k * deep) row))
 
-    settled_ended : s.ended ≢ EndOfFile → GivesSettled bytes s first n room
+    settled_ended : s.ended ≢ EndOfFile → ReturnsSettled bytes s first n space
     settled_ended ended =
         let down : s.head.height ≤ mcus_down s.head * deep = elim (cases_lt (mcus_down s.head * deep) s.head.height) [
           | inl l ↦ absurd (omega (arith, in_div_ceil (mcus_down s.head) s.head.height deep positive l))
           | inr g ↦ g
         ] in
         let has : HasRows bytes s (mcus_down s.head) = record { few = omega arith; settled = λ row lt m from to. inl (come.scan, inl ended); next = λ lt. absurd (omega (arith, lt)) } in
-        gives bytes (mcus_down s.head) room is has (omega (arith, down, c.given.to, row_high)) (λ lt. absurd ((looked.all lt).0.going (inl ended)))
+        returned bytes (mcus_down s.head) space is has (omega (arith, down, c.given.to, row_high)) (λ lt. absurd ((looked.all lt).0.going (inl ended)))
 
-    pub gives_settled : (i : ℕ) → i + 1 ≡ part.segments → i < intervals_of s.head → GivesSettled bytes s first n room
-    gives_settled i last inside = elim (ended_or_not s.ended) [
+    pub returns_settled : (i : ℕ) → i + 1 ≡ part.segments → i < intervals_of s.head → ReturnsSettled bytes s first n space
+    returns_settled i last inside = elim (ended_or_not s.ended) [
       | inl end ↦ let far = limit_of (interval_of s i) in settled_partial i far.0 end last inside far.1
       | inr ended ↦ settled_ended ended
     ]

@@ -6,7 +6,7 @@ use Rattle.std.proofs.lemmas.List.{append-nil}
 use Rattle.std.proofs.Math.Nat.{mul-le-mul_left}
 use Rattle.jr_code.specs.Bits.{bits}
 use Rattle.jr_head.specs.HeadValue.{HeadValue}
-use Rattle.jr_head.specs.Geometry.{IsLawful, blocks_of, order_of}
+use Rattle.jr_head.specs.Geometry.{IsValid, blocks_of, order_of}
 use Rattle.jr_head.proofs.SamplingLaws.{length-order}
 use Rattle.jr_mcu.specs.Block.{IsInDcRange}
 use Rattle.jr_mcu.proofs.LongMcus.{mcus_long}
@@ -22,8 +22,8 @@ use Rattle.jr_scan.proofs.ScanLaws.{one_run, runs_meet, shorter_front}
 use Rattle.jr_scan.proofs.CursorRuns as runs
 use Rattle.jr_arrival.specs.More.{with_more}
 use Rattle.jr_arrival.proofs.MoreData.{run_is_final}
-use Rattle.jr_arrival.specs.Meaning.{GoesOnAt, HasNoFurtherMcu, ReadsAt, behind}
-use Rattle.jr_arrival.proofs.Behind.{left_behind, none_behind, run_behind}
+use Rattle.jr_arrival.specs.Meaning.{GoesOnAt, HasNoFurtherMcu, ReadsAt, after}
+use Rattle.jr_arrival.proofs.After.{left_after, none_after, run_after}
 use Rattle.jr_arrival.proofs.Going.{its_data}
 use Rattle.jr_arrival.specs.declared.window.TheConstants.{MCU_BITS}
 use Rattle.jr_arrival.specs.LongerFile.{MayGrow}
@@ -37,7 +37,7 @@ interval n m bytes h = record { number = n; mcus = m; bytes = bytes; head = h }
 renumbered : (i m j n : ℕ) (bytes : List ℕ) (h : HeadValue) (p q : Place) (k : ℕ) (ys : List (List ℤ)) → IsRun (run_from (interval i m bytes h) p k) ys q AllRead → IsRun (run_from (interval j n bytes h) p k) ys q AllRead
 renumbered i m j n bytes h p q k ys a = record { count = a.count; few = a.few; taken = a.taken; mcus = a.mcus; spelled = a.spelled; bit = a.bit; predictions = a.predictions; ends = a.ends }
 
-module _ (whole : List ℕ) (t : ScanValue) (i mcu at left : ℕ) (found rest : List ℕ) (p : Place) (lawful : IsLawful t.head) (r : ReadsAt whole t i mcu at p) (is : r.on.rest ≡ found ++ rest) where
+module _ (whole : List ℕ) (t : ScanValue) (i mcu at left : ℕ) (found rest : List ℕ) (p : Place) (valid : IsValid t.head) (r : ReadsAt whole t i mcu at p) (is : r.on.rest ≡ found ++ rest) where
   abbrev h : HeadValue
   h = t.head
 
@@ -48,51 +48,51 @@ module _ (whole : List ℕ) (t : ScanValue) (i mcu at left : ℕ) (found rest : 
   whole_data = ap (λ (x : List ℕ). r.before ++ x) (sym is) ∙ sym (its_data whole t i at r.before r.on)
 
   -- further MCUs
-  pub run_on : (n : ℕ) (ys : List (List ℤ)) (q : Place) → p.bit ≤ 8 * length found → q.bit ≤ 8 * length found → IsRun (run_from near p n) ys q AllRead → IsRun (run_from (interval_of t i) (behind r.before p) n) ys (behind r.before q) AllRead
+  pub run_on : (n : ℕ) (ys : List (List ℤ)) (q : Place) → p.bit ≤ 8 * length found → q.bit ≤ 8 * length found → IsRun (run_from near p n) ys q AllRead → IsRun (run_from (interval_of t i) (after r.before p) n) ys (after r.before q) AllRead
   run_on n ys q from to run =
       let before = r.before in
-      let longer = run_behind (with_more near rest) before p n ys q AllRead (run_is_final (run_from near p n) rest ys q from run) in
-      subst (λ (b : List ℕ). IsRun (run_from (interval i (mcus_in h i) b h) (behind before p) n) ys (behind before q) AllRead) whole_data
-      (renumbered i left i (mcus_in h i) (before ++ (found ++ rest)) h (behind before p) (behind before q) n ys longer)
+      let longer = run_after (with_more near rest) before p n ys q AllRead (run_is_final (run_from near p n) rest ys q from run) in
+      subst (λ (b : List ℕ). IsRun (run_from (interval i (mcus_in h i) b h) (after before p) n) ys (after before q) AllRead) whole_data
+      (renumbered i left i (mcus_in h i) (before ++ (found ++ rest)) h (after before p) (after before q) n ys longer)
 
   pub reads_on : (n : ℕ) (ys : List (List ℤ)) (q : Place) → p.bit ≤ 8 * length found → q.bit ≤ 8 * length found → All IsInDcRange q.predictions → mcu + n ≤ mcus_in h i → IsRun (run_from near p n) ys q AllRead → ReadsAt whole t i (mcu + n) at q
   reads_on n ys q from to in_range few run =
       let all = interval_of t i in
       let before = r.before in
       let there = run_on n ys q from to run in
-      let can : CanReadFrom all (behind before q) = (omega (arith, to, ap length whole_data, length-append before (found ++ rest), length-append found rest), in_range) in
-      let here : FirstMcus (run_from all (behind before p) n) n ys = record { to = behind before q; run = there; none = λ lt. absurd (omega (arith, lt)) } in
-      record { before = before; on = r.on; blocks = r.blocks ++ ys; next = runs.going one_run runs_meet shorter_front all lawful mcu r.blocks (behind before p) r.next n n ys here few (behind before q) there can }
+      let can : CanReadFrom all (after before q) = (omega (arith, to, ap length whole_data, length-append before (found ++ rest), length-append found rest), in_range) in
+      let here : FirstMcus (run_from all (after before p) n) n ys = record { to = after before q; run = there; none = λ lt. absurd (omega (arith, lt)) } in
+      record { before = before; on = r.on; blocks = r.blocks ++ ys; next = runs.going one_run runs_meet shorter_front all valid mcu r.blocks (after before p) r.next n n ys here few (after before q) there can }
 
   -- or none
   pub none_on : p.bit ≤ 8 * length found → mcu ≤ mcus_in h i → HasNoMcu near p → (rest ≡ []) ⊎ (16650 ≤ length (left_at near p)) → HasNoFurtherMcu t i mcu
   none_on from few none far =
       let all = interval_of t i in
       let before = r.before in
-      let units : length (order_of h) ≤ 10 = omega (arith, length-order 0 h.components, lawful.components.blocks) in
+      let units : length (order_of h) ≤ 10 = omega (arith, length-order 0 h.components, valid.components.blocks) in
       let longer : HasNoMcu (with_more near rest) p = elim far [
         | inl e ↦ subst (λ (x : List ℕ). HasNoMcu (interval i left x h) p) (sym (ap (λ (x : List ℕ). found ++ x) e ∙ append-nil found)) none
         | inr long ↦ none_in_long near rest p units from long none
       ] in
-      let there : HasNoMcu all (behind before p) =
-      subst (λ (b : List ℕ). HasNoMcu (interval i (mcus_in h i) b h) (behind before p)) whole_data (none_behind (with_more near rest) before p longer) in
-      let here : FirstMcus (run_from all (behind before p) 1) 0 [] = record { to = behind before p; run = no_run all (behind before p) (ap length r.next.run.predictions); none = λ lt. there } in
+      let there : HasNoMcu all (after before p) =
+      subst (λ (b : List ℕ). HasNoMcu (interval i (mcus_in h i) b h) (after before p)) whole_data (none_after (with_more near rest) before p longer) in
+      let here : FirstMcus (run_from all (after before p) 1) 0 [] = record { to = after before p; run = no_run all (after before p) (ap length r.next.run.predictions); none = λ lt. there } in
       record {
         front = mcu + 0;
         blocks = r.blocks ++ [];
         few = omega arith;
-        longest = runs.longest one_run runs_meet shorter_front all lawful mcu r.blocks (behind before p) r.next 0 1 [] here (omega (arith, few)) (omega arith);
+        longest = runs.longest one_run runs_meet shorter_front all valid mcu r.blocks (after before p) r.next 0 1 [] here (omega (arith, few)) (omega arith);
       }
 
   -- which may become whole if the data end there and fewer bits are left than the maximum of an MCU
   pub grows_on : rest ≡ [] → mcu ≤ mcus_in h i → HasNoFurtherMcu t i mcu → length (left_at near p) < MCU_BITS → MayGrow (interval_of t i) mcu
   grows_on end few none short =
       let all = interval_of t i in
-      let at = behind r.before p in
+      let at = after r.before p in
       let front : Front all mcu r.blocks = front_of_run all mcu r.blocks at r.next.run few in
       let left : left_at all at ≡ left_at near p =
       ap (λ (b : List ℕ). drop (8 * length r.before + p.bit) (bits b)) (sym whole_data)
-      ∙ left_behind (with_more near rest) r.before p
+      ∙ left_after (with_more near rest) r.before p
       ∙ ap (λ (x : List ℕ). drop p.bit (bits (found ++ x))) end
       ∙ ap (λ (x : List ℕ). drop p.bit (bits x)) (append-nil found) in
       record {
@@ -108,9 +108,9 @@ reads_first whole t i at p e on =
     subst (ReadsAt whole t i 0 at) (sym e) (record { before = []; on = on; blocks = start.0; next = start.1 })
 
 -- a run of no MCUs ends where it begins
-pub nothing_read : (i : IntervalValue) (p q : Place) (ys : List (List ℤ)) → IsLawful i.head → length p.predictions ≡ 3 → IsRun (run_from i p 0) ys q AllRead → q ≡ p
-nothing_read i p q ys lawful three run =
-    (one_run (run_from i p 0) (record { blocks = ys; to = q; end = AllRead; is = run }) (record { blocks = []; to = p; end = AllRead; is = no_run i p three }) lawful).1
+pub nothing_read : (i : IntervalValue) (p q : Place) (ys : List (List ℤ)) → IsValid i.head → length p.predictions ≡ 3 → IsRun (run_from i p 0) ys q AllRead → q ≡ p
+nothing_read i p q ys valid three run =
+    (one_run (run_from i p 0) (record { blocks = ys; to = q; end = AllRead; is = run }) (record { blocks = []; to = p; end = AllRead; is = no_run i p three }) valid).1
 
 -- an interval without data has no further MCU
 pub nothing_whole : (t : ScanValue) (i mcu : ℕ) → 0 < blocks_of t.head → get_or t.intervals i [] ≡ [] → HasNoFurtherMcu t i mcu

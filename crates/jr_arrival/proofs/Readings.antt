@@ -4,11 +4,11 @@ use Rattle.std.specs.Prelude.{ℤ, true, false}
 use Rattle.std.proofs.lemmas.Bool.{cases_lt}
 use Rattle.std.proofs.Math.Nat.{add-mul}
 use Rattle.jr_head.specs.HeadValue.{HeadValue}
-use Rattle.jr_head.specs.Geometry.{IsLawful, blocks_of, mcus_across, mcus_down, vertical_max}
+use Rattle.jr_head.specs.Geometry.{IsValid, blocks_of, mcus_across, mcus_down, vertical_max}
 use Rattle.jr_scan.specs.declared.place.Place.{Place}
 use Rattle.jr_scan.specs.PartialScan.{PartialScanValue, HasCome}
 use Rattle.jr_scan.specs.IntervalValue.{IntervalValue}
-use Rattle.jr_scan.specs.Mcus.{HasLongestFront, LongestFront, TellsSound}
+use Rattle.jr_scan.specs.Mcus.{HasLongestFront, LongestFront, ReportsSound}
 use Rattle.jr_scan.specs.Run.{run_from, start_of_interval, FirstMcus, IsNext}
 use Rattle.jr_scan.specs.ScanValue.{ScanValue, interval_of, intervals_of, mcus_in}
 use Rattle.jr_scan.proofs.ScanLaws.{one_run, runs_meet, shorter_front}
@@ -23,14 +23,14 @@ use Rattle.jr_picture.specs.Samples.{samples_of}
 use Rattle.jr_rows.specs.Bands.{samples_in}
 use Rattle.jr_rows.specs.Cursors.{mcus_to}
 use Rattle.jr_rows.specs.Groups.{units_in}
-use Rattle.jr_rows.specs.Rows.{DecodesFirst, HasSampleRoom, ShowsFirstUnits, first_line, line_count}
+use Rattle.jr_rows.specs.Rows.{DecodesFirst, HasSampleSpace, ShowsFirstUnits, first_line, line_count}
 use Rattle.jr_rows.specs.RowLinesValue.{RowLinesValue}
 use Rattle.jr_rows.specs.RowsValue.{SampleRowValue}
 use Rattle.jr_rows.proofs.ReadRows.{counts_none}
 use Rattle.jr_arrival.specs.More.{with_more}
 use Rattle.jr_arrival.proofs.LinesOfPictures.{row_of_board}
 use Rattle.jr_arrival.proofs.MoreData.{run_is_final}
-use Rattle.jr_arrival.specs.PartialRows.{AreFinalLines, GrowsInto, Begins, PartialRowValue, HasGiven, HasNoMore, IsPartialRow, IsFinal, IsPartialReading, ReadsAll, ReadsTo, StandsIn, StaysLongest}
+use Rattle.jr_arrival.specs.PartialRows.{AreFinalLines, GrowsInto, Begins, PartialRowValue, HasGiven, HasNoMore, IsPartialRow, IsFinal, IsPartialReading, ReadsAll, ReadsTo, LiesIn, StaysLongest}
 use Rattle.jr_arrival.specs.PartialSources.{partial_source_of}
 use Rattle.jr_arrival.specs.Sources.{Walks}
 use Rattle.jr_arrival.specs.declared.partial_source.PartialSource.{PartialSource}
@@ -85,31 +85,31 @@ next_stays i more first zs p n = record {
 }
 
 -- a longest prefix that stays it is that of every scan that the scan may become, and stays it there
-stays_longest : (old new : PartialScanValue) (number front : ℕ) (zs : List (List ℤ)) → IsLawful old.scan.head → Grows old new → StaysLongest old number front zs → StaysLongest new number front zs
-stays_longest old new number front zs lawful b l = elim l.final [
+stays_longest : (old new : PartialScanValue) (number front : ℕ) (zs : List (List ℤ)) → IsValid old.scan.head → Grows old new → StaysLongest old number front zs → StaysLongest new number front zs
+stays_longest old new number front zs valid b l = elim l.final [
   | inl over ↦ record { longest = subst (λ (i : IntervalValue). LongestFront i front zs) (sym (b.becomes.whole number over)) l.longest; final = inl (over_stays old new number b over) }
   | inr long ↦
       let d = b.becomes.so_far number in
-      let there = long_rest_stays (interval_of old.scan number) d.0 front zs lawful (l.longest, long) in
+      let there = long_rest_stays (interval_of old.scan number) d.0 front zs valid (l.longest, long) in
       let here : HasLongRest (interval_of new.scan number) front zs = subst (λ (i : IntervalValue). HasLongRest i front zs) (sym (interval_more old.scan new.scan number d.0 b.becomes.head d.1)) there in
       record { longest = here.0; final = inr here.1 }
 ]
 
-reads_stays : (old new : PartialScanValue) (number mcu : ℕ) (place : Option Place) → IsLawful old.scan.head → Grows old new → ReadsTo old number mcu place → ReadsTo new number mcu place
-reads_stays old new number mcu (Some p) lawful b r =
+reads_stays : (old new : PartialScanValue) (number mcu : ℕ) (place : Option Place) → IsValid old.scan.head → Grows old new → ReadsTo old number mcu place → ReadsTo new number mcu place
+reads_stays old new number mcu (Some p) valid b r =
     let d = b.becomes.so_far number in
     (r.0, subst (λ (i : IntervalValue). IsNext i mcu r.0 p) (sym (interval_more old.scan new.scan number d.0 b.becomes.head d.1)) (next_stays (interval_of old.scan number) d.0 mcu r.0 p r.1))
-reads_stays old new number mcu None lawful b r = (r.0, r.1, r.2, subst (λ (h : HeadValue). r.0 < mcus_in h number) (sym b.becomes.head) r.3, stays_longest old new number r.0 r.1 lawful b r.4)
+reads_stays old new number mcu None valid b r = (r.0, r.1, r.2, subst (λ (h : HeadValue). r.0 < mcus_in h number) (sym b.becomes.head) r.3, stays_longest old new number r.0 r.1 valid b r.4)
 
-pub partial_stays : (old new : PartialScanValue) (v : PartialRowValue) → IsLawful old.scan.head → Grows old new → IsPartialRow old v → IsPartialRow new v
-partial_stays old new v lawful b c = record {
-  stands = subst (λ (h : HeadValue). StandsIn h v) (sym b.becomes.head) c.stands;
+pub partial_stays : (old new : PartialScanValue) (v : PartialRowValue) → IsValid old.scan.head → Grows old new → IsPartialRow old v → IsPartialRow new v
+partial_stays old new v valid b c = record {
+  lies = subst (λ (h : HeadValue). LiesIn h v) (sym b.becomes.head) c.lies;
   given = subst (λ (h : HeadValue). HasGiven h v) (sym b.becomes.head) c.given;
   reading = record {
     number = subst (λ (h : HeadValue). v.cursor.number < intervals_of h) (sym b.becomes.head) c.reading.number;
     few = subst (λ (h : HeadValue). v.cursor.mcu ≤ mcus_in h v.cursor.number) (sym b.becomes.head) c.reading.few;
     begun = λ i lt. over_stays old new i b (c.reading.begun i lt);
-    reads = reads_stays old new v.cursor.number v.cursor.mcu v.cursor.place lawful b c.reading.reads;
+    reads = reads_stays old new v.cursor.number v.cursor.mcu v.cursor.place valid b c.reading.reads;
     counts = λ u then. c.reading.counts u (becomes_more old new u b then);
   };
   shows = λ u then. c.shows u (becomes_more old new u b then);
@@ -124,7 +124,7 @@ reads_there part number mcu p few r = record {
 }
 
 -- without a position the interval has no decoding
-pub none_sound : (part : PartialScanValue) (number mcu : ℕ) → ReadsTo part number mcu None → TellsSound false (interval_of part.scan number)
+pub none_sound : (part : PartialScanValue) (number mcu : ℕ) → ReadsTo part number mcu None → ReportsSound false (interval_of part.scan number)
 none_sound part number mcu r = cut_short (interval_of part.scan number) r.0 r.3 (r.1, r.4.longest)
 
 -- nothing of an interval is read at its start
@@ -134,9 +134,9 @@ at_the_start i = (runs.at_start i).next start_of_interval refl
 -- ---- the end of the reading
 
 -- a reader that reads nothing has reached the longest prefix
-pub nothing_follows : (i : IntervalValue) (first left : ℕ) (zs ys : List (List ℤ)) (p : Place) → IsLawful i.head → IsNext i first zs p → FirstMcus (run_from i p left) 0 ys → 0 < left → first ≤ i.mcus → HasLongestFront i (first + 0)
-nothing_follows i first left zs ys p lawful next here some few =
-    (zs ++ ys, runs.longest one_run runs_meet shorter_front i lawful first zs p next 0 left ys here (omega (arith, few)) some)
+pub nothing_follows : (i : IntervalValue) (first left : ℕ) (zs ys : List (List ℤ)) (p : Place) → IsValid i.head → IsNext i first zs p → FirstMcus (run_from i p left) 0 ys → 0 < left → first ≤ i.mcus → HasLongestFront i (first + 0)
+nothing_follows i first left zs ys p valid next here some few =
+    (zs ++ ys, runs.longest one_run runs_meet shorter_front i valid first zs p next 0 left ys here (omega (arith, few)) some)
 
 -- the grey MCUs of an interval are past a longest prefix that stays it
 pub far_front : (part : PartialScanValue) (number mcu : ℕ) (place : Option Place) → ReadsTo part number mcu place → ReadsAll part.scan number mcu place → IsFinal part number place → (front : ℕ) × (zs : List (List ℤ)) × (front ≤ mcu) × StaysLongest part number front zs
@@ -171,11 +171,11 @@ step_row part v c some whole lines given more =
     let at : lines ≡ (v.row + 1) * deep = omega (arith, given, more, next) in
     let across : (v.row + 1) * mcus_across part.scan.head ≡ v.row * mcus_across part.scan.head + mcus_across part.scan.head = omega (arith, add-mul v.row 1 (mcus_across part.scan.head)) in
     record {
-      stands = record {
+      lies = record {
         row = in_div_ceil (v.row + 1) part.scan.head.height deep positive (omega (arith, at, more));
         within = omega arith;
-        at = omega (arith, c.stands.at, whole, across);
-        room = c.stands.room;
+        at = omega (arith, c.lies.at, whole, across);
+        space = c.lies.space;
       };
       given = record { from = omega (arith, at); to = omega (arith, at); none = λ lt. at; left = λ lt. omega (arith, at, lt, positive) };
       reading = c.reading;
@@ -186,14 +186,14 @@ step_row part v c some whole lines given more =
 pub step_lines : (part : PartialScanValue) (v : PartialRowValue) (n : ℕ) → IsPartialRow part v → v.done ≡ mcus_across part.scan.head → v.lines + n ≤ first_line part.scan.head v.row + line_count part.scan.head v.row → (v.lines + n < part.scan.head.height → v.lines + n < first_line part.scan.head v.row + line_count part.scan.head v.row)
     → IsPartialRow part (record { row = v.row; done = v.done; cursor = v.cursor; samples = v.samples; lines = v.lines + n; marked = v.marked })
 step_lines part v n c whole few left = record {
-  stands = record { row = c.stands.row; within = c.stands.within; at = c.stands.at; room = c.stands.room };
+  lies = record { row = c.lies.row; within = c.lies.within; at = c.lies.at; space = c.lies.space };
   given = record { from = omega (arith, c.given.from); to = few; none = λ lt. absurd (omega (arith, lt, whole)); left = left };
   reading = c.reading;
   shows = c.shows;
 }
 
 -- the row's samples are painted as the image's
-module _ (part : PartialScanValue) (v : PartialRowValue) (lawful : IsLawful part.scan.head) (c : IsPartialRow part v) (whole : v.done ≡ mcus_across part.scan.head) (n : ℕ) (few : v.lines + n ≤ first_line part.scan.head v.row + line_count part.scan.head v.row) (t : ScanValue) (b : GrowsInto part t) (board : DecodedScan) (first : DecodesFirst t (length t.intervals) board) where
+module _ (part : PartialScanValue) (v : PartialRowValue) (valid : IsValid part.scan.head) (c : IsPartialRow part v) (whole : v.done ≡ mcus_across part.scan.head) (n : ℕ) (few : v.lines + n ≤ first_line part.scan.head v.row + line_count part.scan.head v.row) (t : ScanValue) (b : GrowsInto part t) (board : DecodedScan) (first : DecodesFirst t (length t.intervals) board) where
   abbrev groups : List (List ℕ)
   groups = v.samples.lines.groups
 
@@ -206,14 +206,14 @@ module _ (part : PartialScanValue) (v : PartialRowValue) (lawful : IsLawful part
       let all : ShowsFirstUnits t (length t.intervals) (v.row * mcus_across t.head) (mcus_across t.head) (units_in t.head groups) =
       subst (λ (k : ℕ). ShowsFirstUnits t (length t.intervals) (v.row * mcus_across t.head) k (units_in t.head groups)) (whole ∙ ap mcus_across e) (c.shows t b) in
       let end = subst (λ (g : HeadValue). v.lines + n ≤ first_line g v.row + line_count g v.row) e few in
-      row_of_board t (length t.intervals) v.row groups (subst IsLawful e lawful) (subst (λ (g : HeadValue). v.row < mcus_down g) e c.stands.row) all board first v.lines n (subst (λ (g : HeadValue). HasGiven g v) e c.given).from end
+      row_of_board t (length t.intervals) v.row groups (subst IsValid e valid) (subst (λ (g : HeadValue). v.row < mcus_down g) e c.lies.row) all board first v.lines n (subst (λ (g : HeadValue). HasGiven g v) e c.given).from end
 
   pub lines_are : PaintedBy part.scan.head
   lines_are = subst PaintedBy b.head painted_there
 
-pub row_partial : (part : PartialScanValue) (v : PartialRowValue) → IsLawful part.scan.head → IsPartialRow part v → v.done ≡ mcus_across part.scan.head → (n : ℕ) → v.lines + n ≤ first_line part.scan.head v.row + line_count part.scan.head v.row
+pub row_partial : (part : PartialScanValue) (v : PartialRowValue) → IsValid part.scan.head → IsPartialRow part v → v.done ≡ mcus_across part.scan.head → (n : ℕ) → v.lines + n ≤ first_line part.scan.head v.row + line_count part.scan.head v.row
     → (pixels : List ℕ) → pixels ≡ next_lines_of part.scan.head (samples_in (record { head = part.scan.head; groups = v.samples.lines.groups })) v.lines n → AreFinalLines part v.lines n pixels
-row_partial part v lawful c whole n few pixels are t b board first = are ∙ lines_are part v lawful c whole n few t b board first
+row_partial part v valid c whole n few pixels are t b board first = are ∙ lines_are part v valid c whole n few t b board first
 
 -- ---- the beginning
 
@@ -225,7 +225,7 @@ begins_partial part v b down some high deep =
     let before : v.cursor.number * part.scan.head.restart ≡ 0 * part.scan.head.restart = ap (λ (n : ℕ). n * part.scan.head.restart) number in
     let top : first_line part.scan.head v.row ≡ 0 * (8 * vertical_max part.scan.head) = ap (λ (n : ℕ). n * (8 * vertical_max part.scan.head)) b.row in
     record {
-      stands = record { row = omega (arith, b.row, down); within = omega (arith, b.done); at = omega (arith, mcu, b.done, none, before); room = b.room };
+      lies = record { row = omega (arith, b.row, down); within = omega (arith, b.done); at = omega (arith, mcu, b.done, none, before); space = b.space };
       given = record { from = omega (arith, top, b.lines); to = omega (arith, b.lines); none = λ lt. omega (arith, top, b.lines); left = λ lt. omega (arith, top, b.lines, high, deep) };
       reading = record {
         number = omega (arith, number, some);
@@ -238,19 +238,19 @@ begins_partial part v b down some high deep =
     }
 
 -- what is walked of it
-pub row_walked : (s d : PartialSource) (h : HeadValue) (v : PartialRowValue) (n : ℕ) (w : SampleRowValue) → IsPartialRow s.scan.now v → s.cursor ≡ v.cursor → s.scan.now.scan.head ≡ h → HasSampleRoom h w → Walks h (partial_source_of s) (partial_source_of d) true v.done n v.samples.lines.groups w.lines.groups
+pub row_walked : (s d : PartialSource) (h : HeadValue) (v : PartialRowValue) (n : ℕ) (w : SampleRowValue) → IsPartialRow s.scan.now v → s.cursor ≡ v.cursor → s.scan.now.scan.head ≡ h → HasSampleSpace h w → Walks h (partial_source_of s) (partial_source_of d) true v.done n v.samples.lines.groups w.lines.groups
     → IsPartialRow s.scan.now (record { row = v.row; done = v.done + n; cursor = d.cursor; samples = w; lines = v.lines; marked = d.marked })
-row_walked s d h v n w c same e room walks =
+row_walked s d h v n w c same e space walks =
     let part = s.scan.now in
     let f = sym e in
-    let at_h : mcus_to h s.cursor ≡ v.row * mcus_across h + v.done = subst (λ (g : HeadValue). mcus_to g s.cursor ≡ v.row * mcus_across g + v.done) e (ap (mcus_to part.scan.head) same ∙ c.stands.at) in
+    let at_h : mcus_to h s.cursor ≡ v.row * mcus_across h + v.done = subst (λ (g : HeadValue). mcus_to g s.cursor ≡ v.row * mcus_across g + v.done) e (ap (mcus_to part.scan.head) same ∙ c.lies.at) in
     let at_d : mcus_to h d.cursor ≡ v.row * mcus_across h + (v.done + n) = omega (arith, walks.steps.passed, at_h) in
     record {
-      stands = record {
-        row = c.stands.row;
+      lies = record {
+        row = c.lies.row;
         within = subst (λ (g : HeadValue). v.done + n ≤ mcus_across g) f walks.few;
         at = subst (λ (g : HeadValue). mcus_to g d.cursor ≡ v.row * mcus_across g + (v.done + n)) f at_d;
-        room = subst (λ (g : HeadValue). HasSampleRoom g w) f room;
+        space = subst (λ (g : HeadValue). HasSampleSpace g w) f space;
       };
       given = record { from = c.given.from; to = c.given.to; none = λ lt. c.given.none (omega (arith, lt)); left = c.given.left };
       reading = subst (λ (g : PartialScanValue). IsPartialReading g d.cursor d.marked) walks.steps.part walks.steps.at.reading;
@@ -261,10 +261,10 @@ row_walked s d h v n w c same e room walks =
     }
 
 -- what is read of a row does not depend on the rest of its memory
-pub same_lines : (part : PartialScanValue) (v : PartialRowValue) (w : SampleRowValue) → IsPartialRow part v → w.lines ≡ v.samples.lines → HasSampleRoom part.scan.head w
+pub same_lines : (part : PartialScanValue) (v : PartialRowValue) (w : SampleRowValue) → IsPartialRow part v → w.lines ≡ v.samples.lines → HasSampleSpace part.scan.head w
     → IsPartialRow part (record { row = v.row; done = v.done; cursor = v.cursor; samples = w; lines = v.lines; marked = v.marked })
-same_lines part v w c same room = record {
-  stands = record { row = c.stands.row; within = c.stands.within; at = c.stands.at; room = room };
+same_lines part v w c same space = record {
+  lies = record { row = c.lies.row; within = c.lies.within; at = c.lies.at; space = space };
   given = record { from = c.given.from; to = c.given.to; none = c.given.none; left = c.given.left };
   reading = c.reading;
   shows = λ t b. subst (λ (l : RowLinesValue). ShowsFirstUnits t (length t.intervals) (v.row * mcus_across t.head) v.done (units_in t.head l.groups)) (sym same) (c.shows t b);

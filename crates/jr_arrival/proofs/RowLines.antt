@@ -9,7 +9,7 @@ use Rattle.jr_head.specs.Geometry.{mcus_down, vertical_max}
 use Rattle.jr_paint.specs.Lines.{line_size}
 use Rattle.jr_paint.proofs.Places.{below_div_ceil, in_div_ceil}
 use Rattle.jr_rows.specs.Rows.{line_count}
-use Rattle.jr_arrival.specs.Places.{lines_above, lines_between, rows_with_room}
+use Rattle.jr_arrival.specs.Places.{lines_above, lines_between, rows_with_space}
 
 module _ (h : HeadValue) (some : 0 < vertical_max h) where
   abbrev deep : ℕ
@@ -53,10 +53,10 @@ module _ (h : HeadValue) (some : 0 < vertical_max h) where
     lines = bytes / line_size h
 
     abbrev count : ℕ
-    count = rows_with_room h row bytes
+    count = rows_with_space h row bytes
 
-    pub room_few : row + count ≤ mcus_down h
-    room_few = elim (leb_tells (h.height - lines_above h row) lines) [
+    pub space_few : row + count ≤ mcus_down h
+    space_few = elim (leb_tells (h.height - lines_above h row) lines) [
       | inl t ↦ subst (λ (b : Bool). row + cond b (mcus_down h - row) (lines / deep) ≤ mcus_down h) (sym t.0) (omega (arith, le))
       | inr f ↦
           let low = div-mul-le_self lines deep in
@@ -65,8 +65,8 @@ module _ (h : HeadValue) (some : 0 < vertical_max h) where
           subst (λ (b : Bool). row + cond b (mcus_down h - row) (lines / deep) ≤ mcus_down h) (sym f.0) (omega (arith, there))
     ]
 
-    pub room_fits : lines_between h row (row + count) ≤ lines
-    room_fits = elim (leb_tells (h.height - lines_above h row) lines) [
+    pub space_fits : lines_between h row (row + count) ≤ lines
+    space_fits = elim (leb_tells (h.height - lines_above h row) lines) [
       | inl t ↦ omega (arith, t.1)
       | inr f ↦
           let low = div-mul-le_self lines deep in
@@ -77,6 +77,6 @@ module _ (h : HeadValue) (some : 0 < vertical_max h) where
     pub fits : (to : ℕ) → to ≤ row + count → lines_between h row to * line_size h ≤ bytes
     fits to few =
         let less = before_more to (row + count) few in
-        let lines_few : lines_between h row to ≤ lines = omega (arith, less, room_fits) in
+        let lines_few : lines_between h row to ≤ lines = omega (arith, less, space_fits) in
         let product = mul-le-mul_right {m = lines_between h row to} {n = lines} (line_size h) lines_few in
         omega (arith, product, div-mul-le_self bytes (line_size h))

@@ -59,12 +59,12 @@ module _ (bytes more : List ℕ) (s t : ScanValue) (heads : t.head ≡ s.head) (
   h = s.head
 
   -- what both are cut from
-  behind : drop h.scan_at (bytes ++ more) ≡ drop h.scan_at bytes ++ more
-  behind = drop-append-le h.scan_at bytes more starts
+  past : drop h.scan_at (bytes ++ more) ≡ drop h.scan_at bytes ++ more
+  past = drop-append-le h.scan_at bytes more starts
 
   cut_there : IsCut (intervals_of h) h.scan_at (drop h.scan_at bytes ++ more) b.segments t.ended
   cut_there =
-      subst (λ (f : List ℕ). IsCut (intervals_of h) h.scan_at f b.segments t.ended) behind
+      subst (λ (f : List ℕ). IsCut (intervals_of h) h.scan_at f b.segments t.ended) past
       (subst (λ (g : HeadValue). IsCut (intervals_of g) g.scan_at (drop g.scan_at (bytes ++ more)) b.segments t.ended) heads b.cut)
 
   abbrev before : IsScanOf bytes s → Cutting (intervals_of h) h.scan_at (drop h.scan_at bytes)

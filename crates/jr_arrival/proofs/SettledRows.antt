@@ -8,7 +8,7 @@ use Rattle.std.proofs.lemmas.Nat.{div-add-mod', mod_below}
 use Rattle.std.proofs.Math.Nat.{add-mul, mul-le-mul_right}
 use Rattle.jr_head.specs.HeadValue.{HeadValue}
 use Rattle.jr_code.specs.Bits.{bits}
-use Rattle.jr_head.specs.Geometry.{IsLawful, mcus_across, mcus_down, mcus_of}
+use Rattle.jr_head.specs.Geometry.{IsValid, mcus_across, mcus_down, mcus_of}
 use Rattle.jr_head.proofs.SamplingLaws.{some_there, units_some}
 use Rattle.jr_head.specs.Intervals.{first_mcu_of, interval_number, within_interval}
 use Rattle.jr_cut.specs.declared.scan_end.ScanEnd.TheVariants.{EndOfFile}
@@ -83,20 +83,20 @@ module _ (bytes : List ℕ) (s : ScanValue) (c : IsScanOf bytes s) (i : ℕ) (en
   no_data = data_at s c.segments (intervals_of h - length c.segments) (i + 1) c.intervals ∙ get_or_past c.segments (i + 1) [] (omega (arith, last))
 
   -- an interval without data has no final MCU
-  not_known_there : (j : ℕ) → IsLawful h → get_or s.intervals j [] ≡ [] → (mcu : ℕ) → IsKnown (interval_of s j) mcu → ⊥
-  not_known_there j lawful none mcu (inl w) =
-      let some = units_some h.components (some_there h.kind h.components lawful.components.count) lawful.components.sampled in
+  not_known_there : (j : ℕ) → IsValid h → get_or s.intervals j [] ≡ [] → (mcu : ℕ) → IsKnown (interval_of s j) mcu → ⊥
+  not_known_there j valid none mcu (inl w) =
+      let some = units_some h.components (some_there h.kind h.components valid.components.count) valid.components.sampled in
       let empty = nothing_whole s j 0 some none in
       let longer = empty.longest.longest (mcu + 1) w.0 w.1 in
       omega (arith, longer, empty.few)
-  not_known_there j lawful none mcu (inr n) =
+  not_known_there j valid none mcu (inr n) =
       let f = n.longest.front in
       let empty : length (bits (get_or s.intervals j [])) ≡ length (bits []) = ap (λ (b : List ℕ). length (bits b)) none in
       omega (arith, n.long, empty, ap length f.spelled, length-append f.taken f.rest)
 
   -- an MCU of it that its data do not make final is not final; past its last one none is
-  pub not_settled : (mcu : ℕ) → mcu ≤ mcus_in h i → (mcu < mcus_in h i → IsKnown (interval_of s i) mcu → ⊥) → IsLawful h → first_mcu_of h i + mcu < mcus_of h → IsSettled bytes s (first_mcu_of h i + mcu) → ⊥
-  not_settled mcu few none lawful more settled =
+  pub not_settled : (mcu : ℕ) → mcu ≤ mcus_in h i → (mcu < mcus_in h i → IsKnown (interval_of s i) mcu → ⊥) → IsValid h → first_mcu_of h i + mcu < mcus_of h → IsSettled bytes s (first_mcu_of h i + mcu) → ⊥
+  not_settled mcu few none valid more settled =
       let m = first_mcu_of h i + mcu in
       elim (cases_lt mcu (mcus_in h i)) [
         | inl l ↦
@@ -111,7 +111,7 @@ module _ (bytes : List ℕ) (s : ScanValue) (c : IsScanOf bytes s) (i : ℕ) (en
             let number : interval_number h m ≡ i + 1 = ap (interval_number h) is ∙ (interval_at h (i + 1) 0 next.0 (mcus_in_some h (i + 1) (omega (arith, more)) next.0)).0 in
             elim settled [
               | inl e ↦ not_ended (interval_number h m) (omega (arith, number)) e
-              | inr known ↦ not_known_there (i + 1) lawful no_data (within_interval h m) (subst (λ (k : ℕ). IsKnown (interval_of s k) (within_interval h m)) number known)
+              | inr known ↦ not_known_there (i + 1) valid no_data (within_interval h m) (subst (λ (k : ℕ). IsKnown (interval_of s k) (within_interval h m)) number known)
             ]
       ]
 
@@ -131,7 +131,7 @@ module _ (bytes : List ℕ) (s : ScanValue) (c : IsScanOf bytes s) (i : ℕ) (en
           ]
         ]
 
-    pub has_rows : IsLawful h → 0 < mcus_across h → 0 < mcus_of h → HasRows bytes s ((first_mcu_of h i + limit) / mcus_across h)
-    has_rows lawful across mcus =
+    pub has_rows : IsValid h → 0 < mcus_across h → 0 < mcus_of h → HasRows bytes s ((first_mcu_of h i + limit) / mcus_across h)
+    has_rows valid across mcus =
         let most = mcus_few h i limit mcus inside l.few in
-        settles_rows bytes s (first_mcu_of h i + limit) most across (λ m lt. settled_before m (omega (arith, lt, most)) lt) (not_settled limit l.few l.none lawful)
+        settles_rows bytes s (first_mcu_of h i + limit) most across (λ m lt. settled_before m (omega (arith, lt, most)) lt) (not_settled limit l.few l.none valid)

@@ -11,7 +11,7 @@ use Rattle.jr_piece.specs.Outcome.{IsOutcome}
 use Rattle.jr_piece.specs.Units.{unit_in_piece}
 use Rattle.jr_picture.specs.DecodedScan.{piece_at}
 use Rattle.jr_rows.specs.Bands.{unit_shown, unit_shown_of}
-use Rattle.jr_rows.specs.Rows.{ShowsBehind, ShowsFirstUnits}
+use Rattle.jr_rows.specs.Rows.{ShowsAfter, ShowsFirstUnits}
 use Rattle.jr_rows.proofs.IntervalPlaces.{interval_at}
 use Rattle.jr_rows.proofs.ReadRows.{posted_there, shown_more}
 
@@ -24,7 +24,7 @@ module _ (t : ScanValue) (n number mcu mcus before : ℕ) (units : List (List �
   abbrev m : ℕ
   m = blocks_of h
 
-  pub shown_there : ShowsBehind t n (number * h.restart + mcu) before mcus units
+  pub shown_there : ShowsAfter t n (number * h.restart + mcu) before mcus units
   shown_there b first k lt =
       let j = k / m in
       let near : j < mcus = (div-lt_iff_lt-mul some).1 lt in
@@ -42,7 +42,7 @@ module _ (t : ScanValue) (n number mcu mcus before : ℕ) (units : List (List �
 
 -- more of the row after the part that is shown
 pub shown_on : (t : ScanValue) (n from done more at : ℕ) (old new : List (List ℕ)) → 0 < blocks_of t.head → at ≡ from + done → ShowsFirstUnits t n from done old
-    → ((k : ℕ) → k < done * blocks_of t.head → get_or new k [] ≡ get_or old k []) → ShowsBehind t n at (done * blocks_of t.head) more new → ShowsFirstUnits t n from (done + more) new
+    → ((k : ℕ) → k < done * blocks_of t.head → get_or new k [] ≡ get_or old k []) → ShowsAfter t n at (done * blocks_of t.head) more new → ShowsFirstUnits t n from (done + more) new
 shown_on t n from done more at old new some e before kept there b first =
     shown_more (blocks_of t.head) done more from (unit_shown b) (λ k. get_or old k []) (λ k. get_or new k []) some (before b first) kept
     (λ k lt. there b first k lt ∙ ap (λ (m : ℕ). unit_shown b (m + k / blocks_of t.head) (k % blocks_of t.head)) e)

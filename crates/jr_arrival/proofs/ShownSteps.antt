@@ -2,7 +2,7 @@
 use Rattle.std.proofs.Common.{◌≡◌, ℕ, ◌+◌, ◌-◌, ◌*◌, ◌<◌, ◌≤◌, Some, None, List, length, refl, sym, ap, subst, ◌∙◌, arith}
 use Rattle.std.specs.Prelude.{ℤ, Bool, IsTrue}
 use Rattle.jr_head.specs.HeadValue.{HeadValue}
-use Rattle.jr_head.specs.Geometry.{IsLawful, blocks_of, order_of}
+use Rattle.jr_head.specs.Geometry.{IsValid, blocks_of, order_of}
 use Rattle.jr_head.specs.Intervals.{intervals_of, mcus_in}
 use Rattle.jr_head.proofs.SamplingLaws.{length-order}
 use Rattle.jr_scan.specs.declared.place.Place.{Place}
@@ -23,7 +23,7 @@ use Rattle.jr_arrival.proofs.Steps.{passes_true, run_there}
 use Rattle.jr_arrival.proofs.Windows.{window_long}
 use Rattle.jr_arrival.specs.declared.file_source.FileSource.{FileSource}
 use Rattle.jr_arrival.specs.FileSources.{IsFileSource, IsInside, in_window, source_of}
-use Rattle.jr_arrival.specs.Meaning.{behind}
+use Rattle.jr_arrival.specs.Meaning.{after}
 use Rattle.jr_arrival.specs.RowMcus.{ExtendsRow, TakesWhole}
 use Rattle.jr_arrival.specs.Sources.{HasNoneLeft, ShowsMore, SourceValue, Steps, Walks}
 
@@ -53,11 +53,11 @@ extends_shows h s keeps n done unit old new some number few adds codes keep from
     (shown_there t (length t.intervals) c.number c.mcu n (done * blocks_of t.head) (units_in t.head new) some_t number_t (omega (arith, number, it.1)) few_t (λ o same out k lt. adds_t.each k lt ∙ codes_t o same out k lt))
 
 -- whole MCUs of an interval
-pub whole_units : (h : HeadValue) (i : IntervalValue) (mcu n : ℕ) (zs ys : List (List ℤ)) (p q : Place) → IsLawful h → i.head ≡ h → IsNext i mcu zs p → IsRun (run_from i p n) ys q AllRead → mcu + n ≤ i.mcus → CodesBy h i mcu n (unit_of h ys)
-whole_units h i mcu n zs ys p q lawful e next run few =
+pub whole_units : (h : HeadValue) (i : IntervalValue) (mcu n : ℕ) (zs ys : List (List ℤ)) (p q : Place) → IsValid h → i.head ≡ h → IsNext i mcu zs p → IsRun (run_from i p n) ys q AllRead → mcu + n ≤ i.mcus → CodesBy h i mcu n (unit_of h ys)
+whole_units h i mcu n zs ys p q valid e next run few =
     subst (λ (g : HeadValue). CodesBy g i mcu n (unit_of g ys)) e
     (λ o same out k lt.
-    whole_codes i (subst IsLawful (sym e) lawful) mcu zs p next n ys q run few o same out k (omega (arith, lt, ap (λ (m : ℕ). n * m) (per_of i.head)))
+    whole_codes i (subst IsValid (sym e) valid) mcu zs p next n ys q run few o same out k (omega (arith, lt, ap (λ (m : ℕ). n * m) (per_of i.head)))
     ∙ ap (λ (m : ℕ). unit_in_piece o (mcu * m + k)) (per_of i.head))
 
 -- those of a window
@@ -75,7 +75,7 @@ module _ (h : HeadValue) (s : FileSource) (p : Place) (is : IsFileSource h s) (a
   steps = record {
     at = record { window = is.window; inside = (to, taken.can.1); is_in = record { number = is.is_in.number; few = taken.few }; over = λ ended. absurd (let wrong : Some p ≡ None = sym at ∙ is.over ended in cc) };
     part = refl;
-    right = λ whole t may. (may.0, record { from = may.1.from; means = passes_true h s p is at inside taken.lawful n taken.to taken.few taken.blocks taken.run to taken.can.1 whole t may.0 may.1 });
+    right = λ whole t may. (may.0, record { from = may.1.from; means = passes_true h s p is at inside taken.valid n taken.to taken.few taken.blocks taken.run to taken.can.1 whole t may.0 may.1 });
     passed = omega arith;
   }
 
@@ -83,10 +83,10 @@ module _ (h : HeadValue) (s : FileSource) (p : Place) (is : IsFileSource h s) (a
   shows =
       extends_shows h (source_of s) keeps n done (unit_of h taken.blocks) old new taken.units is.is_in.number taken.few taken.adds (λ whole t may.
       let e = may.0.head in
-      let r = run_there h s p is at inside taken.lawful n taken.to taken.blocks taken.run to whole t may.0 may.1 in (
+      let r = run_there h s p is at inside taken.valid n taken.to taken.blocks taken.run to whole t may.0 may.1 in (
         e,
         count_is whole t may.0.scan ∙ ap intervals_of e,
-        whole_units h (interval_of t s.cursor.number) s.cursor.mcu n r.1 taken.blocks (behind r.0 p) (behind r.0 taken.to) taken.lawful e r.2 r.3 (subst (λ (g : HeadValue). s.cursor.mcu + n ≤ mcus_in g s.cursor.number) (sym e) taken.few),
+        whole_units h (interval_of t s.cursor.number) s.cursor.mcu n r.1 taken.blocks (after r.0 p) (after r.0 taken.to) taken.valid e r.2 r.3 (subst (λ (g : HeadValue). s.cursor.mcu + n ≤ mcus_in g s.cursor.number) (sym e) taken.few),
       ))
 
   pub walks_near : Walks h (source_of s) (source_of (record s { cursor = d })) keeps done n old new

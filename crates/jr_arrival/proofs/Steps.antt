@@ -8,7 +8,7 @@ use Rattle.jr_cut.specs.Cut.{IsRaw, IsStop, IsEnding, marker}
 use Rattle.jr_cut.specs.declared.scan_end.ScanEnd.{ScanEnd}
 use Rattle.jr_cut.specs.declared.scan_end.ScanEnd.TheVariants.{EndOfFile}
 use Rattle.jr_head.specs.HeadValue.{HeadValue}
-use Rattle.jr_head.specs.Geometry.{IsLawful}
+use Rattle.jr_head.specs.Geometry.{IsValid}
 use Rattle.jr_head.specs.Intervals.{intervals_of, mcus_in}
 use Rattle.jr_mcu.specs.Block.{IsInDcRange}
 use Rattle.jr_scan.specs.declared.place.Place.{Place}
@@ -21,7 +21,7 @@ use Rattle.jr_cut.proofs.CutLaw.{ending_stop, marker_stop}
 use Rattle.jr_cut.proofs.Spellings.{one_stop}
 use Rattle.jr_arrival.specs.declared.file_source.FileSource.{FileSource}
 use Rattle.jr_arrival.specs.declared.window.Window.{Window}
-use Rattle.jr_arrival.specs.Meaning.{GoesOnAt, HasNoData, HasNoFurtherMcu, IsStuckAt, MayBe, ReadsAt, behind}
+use Rattle.jr_arrival.specs.Meaning.{GoesOnAt, HasNoData, HasNoFurtherMcu, IsStuckAt, MayBe, ReadsAt, after}
 use Rattle.jr_arrival.specs.Places.{IsIn}
 use Rattle.jr_arrival.specs.declared.window.TheConstants.{MCU_BITS}
 use Rattle.jr_arrival.specs.LongerFile.{MayGrow}
@@ -44,23 +44,23 @@ module _ (h : HeadValue) (s : FileSource) (p : Place) (is : IsFileSource h s) (a
   reads_there : (whole : List ℕ) (t : ScanValue) → IsRightIn whole t s → ReadsAt whole t s.cursor.number s.cursor.mcu (s.window.file.from + s.window.at) p
   reads_there whole t right = subst (λ (o : Option Place). MeansNext whole t s.cursor.number s.cursor.mcu (s.window.file.from + s.window.at) o s.ended) at right.means
 
-  pub passes_true : IsLawful h → (n : ℕ) (q : Place) → s.cursor.mcu + n ≤ mcus_in h s.cursor.number → (ys : List (List ℤ)) → IsRun (run_from (in_window h s) p n) ys q AllRead → q.bit ≤ 8 * (s.window.found - s.window.from) → All IsInDcRange q.predictions
+  pub passes_true : IsValid h → (n : ℕ) (q : Place) → s.cursor.mcu + n ≤ mcus_in h s.cursor.number → (ys : List (List ℤ)) → IsRun (run_from (in_window h s) p n) ys q AllRead → q.bit ≤ 8 * (s.window.found - s.window.from) → All IsInDcRange q.predictions
       → (whole : List ℕ) (t : ScanValue) → MayBe (part_of s.window.file) h whole t → IsRightIn whole t s → ReadsAt whole t s.cursor.number (s.cursor.mcu + n) (s.window.file.from + s.window.at) q
-  passes_true lawful n q few ys run to in_range whole t may right =
+  passes_true valid n q few ys run to in_range whole t may right =
       let w = is.window.spells in
       let found = data_in s.window in
       let long : length found ≡ s.window.found - s.window.from = window_long s.window is.window in
       let means = reads_there whole t right in
       let o = on_part (part_of s.window.file) h whole t may s.cursor.number s.window.at w.read means.before found means.on w.within w.spelled in
       let e = may.head in
-      reads_on whole t s.cursor.number s.cursor.mcu (s.window.file.from + s.window.at) (mcus_in h s.cursor.number - s.cursor.mcu) found o.on.rest p (subst IsLawful (sym e) lawful) means o.is n ys q (omega (arith, inside, long)) (omega (arith, to, long)) in_range
+      reads_on whole t s.cursor.number s.cursor.mcu (s.window.file.from + s.window.at) (mcus_in h s.cursor.number - s.cursor.mcu) found o.on.rest p (subst IsValid (sym e) valid) means o.is n ys q (omega (arith, inside, long)) (omega (arith, to, long)) in_range
       (subst (λ (g : HeadValue). s.cursor.mcu + n ≤ mcus_in g s.cursor.number) (sym e) few)
       (subst (λ (g : HeadValue). IsRun (run_from (record { number = s.cursor.number; mcus = mcus_in h s.cursor.number - s.cursor.mcu; bytes = found; head = g }) p n) ys q AllRead) (sym e) run)
 
   -- the run of them is one of the interval
-  pub run_there : IsLawful h → (n : ℕ) (q : Place) (ys : List (List ℤ)) → IsRun (run_from (in_window h s) p n) ys q AllRead → q.bit ≤ 8 * (s.window.found - s.window.from) → (whole : List ℕ) (t : ScanValue) → MayBe (part_of s.window.file) h whole t → IsRightIn whole t s
-      → (before : List ℕ) × (blocks : List (List ℤ)) × IsNext (interval_of t s.cursor.number) s.cursor.mcu blocks (behind before p) × IsRun (run_from (interval_of t s.cursor.number) (behind before p) n) ys (behind before q) AllRead
-  run_there lawful n q ys run to whole t may right =
+  pub run_there : IsValid h → (n : ℕ) (q : Place) (ys : List (List ℤ)) → IsRun (run_from (in_window h s) p n) ys q AllRead → q.bit ≤ 8 * (s.window.found - s.window.from) → (whole : List ℕ) (t : ScanValue) → MayBe (part_of s.window.file) h whole t → IsRightIn whole t s
+      → (before : List ℕ) × (blocks : List (List ℤ)) × IsNext (interval_of t s.cursor.number) s.cursor.mcu blocks (after before p) × IsRun (run_from (interval_of t s.cursor.number) (after before p) n) ys (after before q) AllRead
+  run_there valid n q ys run to whole t may right =
       let w = is.window.spells in
       let found = data_in s.window in
       let long : length found ≡ s.window.found - s.window.from = window_long s.window is.window in
@@ -70,7 +70,7 @@ module _ (h : HeadValue) (s : FileSource) (p : Place) (is : IsFileSource h s) (a
         means.before,
         means.blocks,
         means.next,
-        run_on whole t s.cursor.number s.cursor.mcu (s.window.file.from + s.window.at) (mcus_in h s.cursor.number - s.cursor.mcu) found o.on.rest p (subst IsLawful (sym e) lawful) means o.is n ys q (omega (arith, inside, long)) (omega (arith, to, long))
+        run_on whole t s.cursor.number s.cursor.mcu (s.window.file.from + s.window.at) (mcus_in h s.cursor.number - s.cursor.mcu) found o.on.rest p (subst IsValid (sym e) valid) means o.is n ys q (omega (arith, inside, long)) (omega (arith, to, long))
             (subst (λ (g : HeadValue). IsRun (run_from (record { number = s.cursor.number; mcus = mcus_in h s.cursor.number - s.cursor.mcu; bytes = found; head = g }) p n) ys q AllRead) (sym e) run),
       )
 
@@ -92,7 +92,7 @@ module _ (h : HeadValue) (w : Window) (byte at : ℕ) (off : IsOffset w byte at)
   pub moved : (p q : Place) → p.bit / 8 ≡ byte → q.bit ≡ p.bit % 8 → q.predictions ≡ p.predictions → ReadsAt whole t i mcu (w.file.from + w.at) p → ReadsAt whole t i mcu (w.file.from + at) q
   moved p q from bit predictions means =
       let b : 8 * length means.before + p.bit ≡ 8 * length (means.before ++ front) + q.bit = omega (arith, length-append means.before front, front_long, bit, from) in
-      let same : behind means.before p ≡ behind (means.before ++ front) q =
+      let same : after means.before p ≡ after (means.before ++ front) q =
       ap (λ (k : ℕ). (let r : Place = record { bit = k; predictions = p.predictions } in r)) b ∙ ap (λ (l : List ℤ). (let r : Place = record { bit = 8 * length (means.before ++ front) + q.bit; predictions = l } in r)) (sym predictions) in
       record { before = means.before ++ front; on = on means.before means.on; blocks = means.blocks; next = subst (IsNext (interval_of t i) mcu means.blocks) same means.next }
 
@@ -111,7 +111,7 @@ module _ (h : HeadValue) (s : FileSource) (w : IsWindow s.window) (end read : �
   there_whole : from + s.window.at + read ≡ from + end
   there_whole = omega (arith, there)
 
-  module _ (p : Place) (at : s.cursor.place ≡ Some p) (inside : p.bit ≤ 8 * (s.window.found - s.window.from)) (is_in : IsIn h number s.cursor.mcu) (lawful : IsLawful h) (none : NoneFollows h s p) (here : IsStop (drop end bytes)) (whole : List ℕ) (t : ScanValue) (may : MayBe (part_of s.window.file) h whole t) (right : IsRightIn whole t s) where
+  module _ (p : Place) (at : s.cursor.place ≡ Some p) (inside : p.bit ≤ 8 * (s.window.found - s.window.from)) (is_in : IsIn h number s.cursor.mcu) (valid : IsValid h) (none : NoneFollows h s p) (here : IsStop (drop end bytes)) (whole : List ℕ) (t : ScanValue) (may : MayBe (part_of s.window.file) h whole t) (right : IsRightIn whole t s) where
     means : ReadsAt whole t number s.cursor.mcu (from + s.window.at) p
     means = subst (λ (o : Option Place). MeansNext whole t number s.cursor.mcu (from + s.window.at) o s.ended) at right.means
 
@@ -129,7 +129,7 @@ module _ (h : HeadValue) (s : FileSource) (w : IsWindow s.window) (end read : �
     none_further : (rest : List ℕ) → means.on.rest ≡ data_in s.window ++ rest → (rest ≡ []) ⊎ (16650 ≤ length (left_at (in_window h s) p)) → HasNoFurtherMcu t number s.cursor.mcu
     none_further rest rest_is far =
         let e = may.head in
-        none_on whole t number s.cursor.mcu (from + s.window.at) left (data_in s.window) rest p (subst IsLawful (sym e) lawful) means rest_is (omega (arith, inside, window_long s.window w)) (subst (λ (g : HeadValue). s.cursor.mcu ≤ mcus_in g number) (sym e) is_in.few)
+        none_on whole t number s.cursor.mcu (from + s.window.at) left (data_in s.window) rest p (subst IsValid (sym e) valid) means rest_is (omega (arith, inside, window_long s.window w)) (subst (λ (g : HeadValue). s.cursor.mcu ≤ mcus_in g number) (sym e) is_in.few)
         (subst (λ (g : HeadValue). HasNoMcu (record { number = number; mcus = left; bytes = data_in s.window; head = g }) p) (sym e) none.none) far
 
     -- if no further MCU is whole, and at least the maximum number of bits of an MCU is left, or the data end there
@@ -156,7 +156,7 @@ module _ (h : HeadValue) (s : FileSource) (w : IsWindow s.window) (end read : �
       | inl ends ↦
           let all = all_there ends stop in
           let e = may.head in
-          grows_on whole t number s.cursor.mcu (from + s.window.at) left (data_in s.window) all.0 p (subst IsLawful (sym e) lawful) means all.1 all.2 (subst (λ (g : HeadValue). s.cursor.mcu ≤ mcus_in g number) (sym e) is_in.few) (none_further all.0 all.1 (inl all.2)) short
+          grows_on whole t number s.cursor.mcu (from + s.window.at) left (data_in s.window) all.0 p (subst IsValid (sym e) valid) means all.1 all.2 (subst (λ (g : HeadValue). s.cursor.mcu ≤ mcus_in g number) (sym e) is_in.few) (none_further all.0 all.1 (inl all.2)) short
       | inr long ↦ absurd (omega (arith, long, short))
     ]
 
@@ -178,17 +178,17 @@ module _ (h : HeadValue) (s : FileSource) (w : IsWindow s.window) (end read : �
   -- the next one begins after its marker
   pub next_true : (whole : List ℕ) (t : ScanValue) (may : MayBe (part_of s.window.file) h whole t) → s.ended ≡ false → IsRightIn whole t s → (more : ℕ) → number + 1 < intervals_of h → drop end bytes ≡ marker more (RST0 + number % 8) ++ drop (more + 2) (drop end bytes)
       → end + (more + 2) ≤ length bytes → ReadsAt whole t (number + 1) 0 (from + end + (more + 2)) start_of_interval
-  next_true whole t may over right more room starts inside =
+  next_true whole t may over right more space starts inside =
       let code = RST0 + number % 8 in
       let rest = drop (more + 2) (drop end bytes) ++ may.more in
       let begins : drop (from + end) whole ≡ marker more code ++ rest = drop_part (part_of s.window.file) h whole t may end within ∙ ap (λ (x : List ℕ). x ++ may.more) starts ∙ append_assoc (marker more code) (drop (more + 2) (drop end bytes)) may.more in
       let sum : from + end + (more + 2) ≡ from + (end + (more + 2)) = omega arith in
-      let behind_it : drop (from + end + (more + 2)) whole ≡ rest =
+      let after_it : drop (from + end + (more + 2)) whole ≡ rest =
       ap (λ (k : ℕ). drop k whole) sum ∙ drop_part (part_of s.window.file) h whole t may (end + (more + 2)) inside ∙ ap (λ (x : List ℕ). x ++ may.more) (sym (drop-drop (more + 2) end bytes)) in
       let stop : IsStop (drop (from + end) whole) = marker_stop (drop (from + end) whole) code (more, rest, begins) (λ e. omega arith) (λ e. omega arith) in
       let there = its_end whole t may stop over right in
       reads_first whole t (number + 1) (from + end + (more + 2)) start_of_interval refl
-      (next_on whole t number (from + end) there.0 there.1 there.2 more rest (subst (λ (g : HeadValue). number + 1 < intervals_of g) (sym may.head) room) begins behind_it)
+      (next_on whole t number (from + end) there.0 there.1 there.2 more rest (subst (λ (g : HeadValue). number + 1 < intervals_of g) (sym may.head) space) begins after_it)
 
   -- or the scan has ended
   pub ended_true : (whole : List ℕ) (t : ScanValue) (may : MayBe (part_of s.window.file) h whole t) → s.ended ≡ false → IsRightIn whole t s → (e : ScanEnd) → IsEnding (intervals_of h) number end (drop end bytes) e → (e ≢ EndOfFile) ⊎ (may.more ≡ []) → HasNoData t (number + 1)

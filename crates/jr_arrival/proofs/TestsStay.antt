@@ -80,12 +80,12 @@ has_code bytes more h =
 byte_same : (bytes more : List ℕ) → 0 < length (at_code bytes) → byte 0 (at_code (bytes ++ more)) ≡ byte 0 (at_code bytes)
 byte_same bytes more h = ap (byte 0) (has_code bytes more h).code ∙ get_or_append_left (at_code bytes) more 0 0 h
 
-zero_tells : (n : ℕ) (b : Bool) → (n == 0) ≡ b → 0 < n → b ≡ false
-zero_tells n false e h = refl
-zero_tells n true e h = absurd (omega (arith, h, eqb-true n 0 e))
+zero_reports : (n : ℕ) (b : Bool) → (n == 0) ≡ b → 0 < n → b ≡ false
+zero_reports n false e h = refl
+zero_reports n true e h = absurd (omega (arith, h, eqb-true n 0 e))
 
 not_zero : (n : ℕ) → 0 < n → (n == 0) ≡ false
-not_zero n h = zero_tells n (n == 0) refl h
+not_zero n h = zero_reports n (n == 0) refl h
 
 zero_is : (n : ℕ) → n ≡ 0 → (n == 0) ≡ true
 zero_is zero h = refl

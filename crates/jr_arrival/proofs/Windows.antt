@@ -15,7 +15,7 @@ use Rattle.jr_cut.proofs.Slices.{length_front, split_at}
 use Rattle.jr_arrival.proofs.Spelled.{same_spelled}
 
 pub window_long : (w : Window) → IsWindow w → length (data_in w) ≡ w.found - w.from
-window_long w is = length-take-le (w.found - w.from) (drop w.from w.room.items) (omega (arith, is.from, is.found, is.room, length-drop w.from w.room.items))
+window_long w is = length-take-le (w.found - w.from) (drop w.from w.space.items) (omega (arith, is.from, is.found, is.space, length-drop w.from w.space.items))
 
 -- at a stop there is no data
 pub stopped : (bytes found : List ℕ) (at : ℕ) → found ≡ [] → at ≤ length bytes → IsStop (drop at bytes) → Spells bytes at found true
@@ -24,18 +24,18 @@ stopped bytes found at none within stop =
     record { read = 0; within = omega (arith, within); spelled = subst (IsRaw []) (sym none) raw_none; stop = λ ends. subst (λ (k : ℕ). IsStop (drop k bytes)) (sym here) stop }
 
 -- what a window is filled with
-pub filled : (bytes room : List ℕ) (at found : ℕ) (ends : Bool) → at ≤ length bytes
-    → (read : ℕ) × (read ≤ length (take (length bytes - at) (drop at bytes))) × IsRaw (take read (take (length bytes - at) (drop at bytes))) (take found room) × (ends ≡ true → IsStop (drop read (take (length bytes - at) (drop at bytes))))
-    → Spells bytes at (take (found - 0) (drop 0 room)) ends
-filled bytes room at found ends within told =
+pub filled : (bytes space : List ℕ) (at found : ℕ) (ends : Bool) → at ≤ length bytes
+    → (read : ℕ) × (read ≤ length (take (length bytes - at) (drop at bytes))) × IsRaw (take read (take (length bytes - at) (drop at bytes))) (take found space) × (ends ≡ true → IsStop (drop read (take (length bytes - at) (drop at bytes))))
+    → Spells bytes at (take (found - 0) (drop 0 space)) ends
+filled bytes space at found ends within stated =
     let rest = rest_is bytes at in
-    let read = told.0 in
+    let read = stated.0 in
     let all : found - 0 ≡ found = omega arith in
     record {
       read = read;
-      within = omega (arith, within, told.1, ap length rest, length-drop at bytes);
-      spelled = subst (λ (k : ℕ). IsRaw (take read (drop at bytes)) (take k room)) (sym all) (subst (λ (xs : List ℕ). IsRaw (take read xs) (take found room)) rest told.2);
-      stop = λ e. subst IsStop (drop-drop read at bytes) (subst (λ (xs : List ℕ). IsStop (drop read xs)) rest (told.3 e));
+      within = omega (arith, within, stated.1, ap length rest, length-drop at bytes);
+      spelled = subst (λ (k : ℕ). IsRaw (take read (drop at bytes)) (take k space)) (sym all) (subst (λ (xs : List ℕ). IsRaw (take read xs) (take found space)) rest stated.2);
+      stop = λ e. subst IsStop (drop-drop read at bytes) (subst (λ (xs : List ℕ). IsStop (drop read xs)) rest (stated.3 e));
     }
 
 -- a bit that has come is in a window that reaches over the first byte
@@ -89,7 +89,7 @@ module _ (w : Window) (is : IsWindow w) (byte at : ℕ) (le : byte ≤ w.found -
   rest =
       let k = w.found - (w.from + byte) in
       let sum : w.found - w.from ≡ byte + k = omega (arith, is.from, le) in
-      ap (λ (n : ℕ). drop byte (take n (drop w.from w.room.items))) sum ∙ drop-take byte k (drop w.from w.room.items) ∙ ap (take k) (drop-drop byte w.from w.room.items)
+      ap (λ (n : ℕ). drop byte (take n (drop w.from w.space.items))) sum ∙ drop-take byte k (drop w.from w.space.items) ∙ ap (take k) (drop-drop byte w.from w.space.items)
 
   spells_on : Spells bytes at (data_in (trimmed w byte at)) w.ends
   spells_on =
@@ -110,7 +110,7 @@ module _ (w : Window) (is : IsWindow w) (byte at : ℕ) (le : byte ≤ w.found -
 
   pub trimmed_window : IsWindow (trimmed w byte at)
   trimmed_window = record {
-    room = is.room;
+    space = is.space;
     from = omega (arith, is.from, le);
     found = is.found;
     at = off.within;

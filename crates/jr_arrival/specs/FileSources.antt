@@ -31,11 +31,11 @@ pub record Spells (bytes : List ℕ) (at : ℕ) (found : List ℕ) (ends : Bool)
 
 -- the data in a window
 abbrev pub data_in : Window → List ℕ
-data_in w = take (w.found - w.from) (drop w.from w.room.items)
+data_in w = take (w.found - w.from) (drop w.from w.space.items)
 
 -- the window is one of the file
 pub record IsWindow (w : Window) : Type 0 where
-  pub room : length w.room.items ≡ WINDOW
+  pub space : length w.space.items ≡ WINDOW
   pub from : w.from ≤ w.found
   pub found : w.found ≤ WINDOW
   pub at : w.at ≤ length w.file.bytes.now

@@ -16,8 +16,8 @@ abbrev pub with_before : IntervalValue → List ℕ → IntervalValue
 with_before i front = record { number = i.number; mcus = i.mcus; bytes = front ++ i.bytes; head = i.head }
 
 -- the position after that data
-abbrev pub behind : List ℕ → Place → Place
-behind front p = record { bit = 8 * length front + p.bit; predictions = p.predictions }
+abbrev pub after : List ℕ → Place → Place
+after front p = record { bit = 8 * length front + p.bit; predictions = p.predictions }
 
 -- a file that has this part at its offset, and no byte after it if the file ends with it; and its scan, with that header
 pub record MayBe (x : FilePart) (h : HeadValue) (whole : List ℕ) (t : ScanValue) : Type 0 where
@@ -45,7 +45,7 @@ pub record ReadsAt (whole : List ℕ) (t : ScanValue) (i mcu at : ℕ) (p : Plac
   pub before : List ℕ
   pub on : GoesOnAt whole t i at before
   pub blocks : List (List ℤ)
-  pub next : IsNext (interval_of t i) mcu blocks (behind before p)
+  pub next : IsNext (interval_of t i) mcu blocks (after before p)
 
 -- after the given number of MCUs of interval i none is whole
 pub record HasNoFurtherMcu (t : ScanValue) (i mcu : ℕ) : Type 0 where

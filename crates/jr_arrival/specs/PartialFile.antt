@@ -5,7 +5,7 @@ use Rattle.jr_head.specs.Heads.{HeadOf}
 use Rattle.jr_paint.specs.Lines.{line_size}
 use Rattle.jr_scan.specs.PartialScan.{PartialScanValue, HasCome}
 use Rattle.jr_arrival.specs.PartialRows.{AreFinalLines, PartialRowValue}
-use Rattle.jr_arrival.specs.Settled.{GivesSettled}
+use Rattle.jr_arrival.specs.Settled.{ReturnsSettled}
 
 -- the scan, the number of bytes of its file that have come, and the row of MCUs that comes next
 pub record PartialImageValue : Type 0 where
@@ -39,6 +39,6 @@ given_of None = 0
 given_of (Some c) = c.row.lines
 
 -- a look at the scan returns lines of it
-pub record GivesFinalLines (c : PartialImageValue) (first n : ℕ) (pixels : List ℕ) : Type 0 where
-  pub settled : (bytes : List ℕ) → HasCome c.partial_scan bytes → GivesSettled bytes c.partial_scan.scan first n (length pixels)
+pub record ReturnsFinalLines (c : PartialImageValue) (first n : ℕ) (pixels : List ℕ) : Type 0 where
+  pub settled : (bytes : List ℕ) → HasCome c.partial_scan bytes → ReturnsSettled bytes c.partial_scan.scan first n (length pixels)
   pub are : AreFinalLines c.partial_scan first n (take (n * line_size c.partial_scan.scan.head) pixels)

@@ -15,7 +15,7 @@ use Rattle.jr_picture.specs.DecodedScan.{DecodedScan}
 use Rattle.jr_picture.specs.Samples.{samples_of}
 use Rattle.jr_rows.specs.Cursors.{mcus_to}
 use Rattle.jr_rows.specs.Groups.{units_in}
-use Rattle.jr_rows.specs.Rows.{CountsMarks, DecodesFirst, HasSampleRoom, ShowsFirstUnits, first_line, line_count}
+use Rattle.jr_rows.specs.Rows.{CountsMarks, DecodesFirst, HasSampleSpace, ShowsFirstUnits, first_line, line_count}
 use Rattle.jr_rows.specs.RowsValue.{SampleRowValue}
 use Rattle.jr_rows.specs.declared.marked.Marked.{Marked}
 use Rattle.jr_arrival.specs.declared.window.TheConstants.{MCU_BITS}
@@ -69,11 +69,11 @@ pub record IsPartialReading (g : PartialScanValue) (c : Cursor) (marked : Marked
   pub counts : (t : ScanValue) → GrowsInto g t → CountsMarks t (length t.intervals) 0 c.number marked
 
 -- it is at an MCU of an image with this header
-pub record StandsIn (h : HeadValue) (v : PartialRowValue) : Type 0 where
+pub record LiesIn (h : HeadValue) (v : PartialRowValue) : Type 0 where
   pub row : v.row < mcus_down h
   pub within : v.done ≤ mcus_across h
   pub at : mcus_to h v.cursor ≡ v.row * mcus_across h + v.done
-  pub room : HasSampleRoom h v.samples
+  pub space : HasSampleSpace h v.samples
 
 -- lines are returned in order, those of a row of MCUs once the row is whole
 pub record HasGiven (h : HeadValue) (v : PartialRowValue) : Type 0 where
@@ -87,14 +87,14 @@ pub record Begins (h : HeadValue) (v : PartialRowValue) : Type 0 where
   pub row : v.row ≡ 0
   pub done : v.done ≡ 0
   pub cursor : v.cursor ≡ interval_start 0
-  pub room : HasSampleRoom h v.samples
+  pub space : HasSampleSpace h v.samples
   pub lines : v.lines ≡ 0
   pub sound : v.marked.sound ≡ 0
   pub damaged : v.marked.damaged ≡ 0
 
 -- the row is that of every scan that this one may become
 pub record IsPartialRow (g : PartialScanValue) (v : PartialRowValue) : Type 0 where
-  pub stands : StandsIn g.scan.head v
+  pub lies : LiesIn g.scan.head v
   pub given : HasGiven g.scan.head v
   pub reading : IsPartialReading g v.cursor v.marked
   pub shows : (t : ScanValue) → GrowsInto g t → ShowsFirstUnits t (length t.intervals) (v.row * mcus_across t.head) v.done (units_in t.head v.samples.lines.groups)

@@ -1,7 +1,7 @@
 -- A source of MCUs over a scan whose file is still arriving.
 use Rattle.std.specs.Prelude.{◌≡◌, length}
 use Rattle.jr_head.specs.HeadValue.{HeadValue}
-use Rattle.jr_head.specs.Geometry.{IsLawful}
+use Rattle.jr_head.specs.Geometry.{IsValid}
 use Rattle.jr_head.specs.Intervals.{intervals_of}
 use Rattle.jr_scan.specs.PartialScan.{PartialScanValue}
 use Rattle.jr_arrival.specs.declared.partial_source.PartialSource.{PartialSource}
@@ -11,7 +11,7 @@ use Rattle.jr_arrival.specs.Sources.{SourceValue}
 -- its numbers are those of an MCU of an image with this header
 pub record IsPartialSource (h : HeadValue) (s : PartialSource) : Type 0 where
   pub head : s.scan.now.scan.head ≡ h
-  pub lawful : IsLawful h
+  pub valid : IsValid h
   pub count : length s.scan.now.scan.intervals ≡ intervals_of h
   pub reading : IsPartialReading s.scan.now s.cursor s.marked
 

@@ -38,11 +38,11 @@ lines_between h from to = lines_above h to - lines_above h from
 
 -- the number of rows of MCUs, starting at one, whose lines fit into the given number of bytes: all that are left, or those that fit if
 -- each has the number of lines of a row that is not the last
-abbrev pub rows_with_room : HeadValue → (row bytes : ℕ) → ℕ
-rows_with_room h row bytes = let lines = bytes / line_size h in
+abbrev pub rows_with_space : HeadValue → (row bytes : ℕ) → ℕ
+rows_with_space h row bytes = let lines = bytes / line_size h in
     if nat_le (h.height - lines_above h row) lines then mcus_down h - row else lines / (8 * vertical_max h)
 
 -- the number of rows of MCUs that are returned, starting at one, if all of the file is there: at most the number asked for, and as many as fit
 -- with their lines into the given number of bytes
 abbrev pub rows_to_give : HeadValue → (row rows bytes : ℕ) → ℕ
-rows_to_give h row rows bytes = min rows (rows_with_room h row bytes)
+rows_to_give h row rows bytes = min rows (rows_with_space h row bytes)

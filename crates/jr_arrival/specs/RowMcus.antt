@@ -1,7 +1,7 @@
 -- MCUs of a row, after those that it has.
 use Rattle.std.specs.Prelude.{◌≡◌, ℕ, ◌+◌, ◌*◌, ◌<◌, ◌≤◌, Bool, List, [], IsTrue, ℤ, Some, slice_index_or}
 use Rattle.jr_head.specs.HeadValue.{HeadValue}
-use Rattle.jr_head.specs.Geometry.{IsLawful, blocks_of, mcus_across}
+use Rattle.jr_head.specs.Geometry.{IsValid, blocks_of, mcus_across}
 use Rattle.jr_head.specs.Intervals.{mcus_in}
 use Rattle.jr_scan.specs.declared.place.Place.{Place}
 use Rattle.jr_scan.specs.declared.place.RunEnd.TheVariants.{AllRead}
@@ -36,5 +36,5 @@ pub record TakesWhole (h : HeadValue) (i : IntervalValue) (from : Place) (keeps 
   pub adds : IsTrue keeps → ExtendsRow h done more (unit_of h blocks) old new
   pub none : more ≡ 0 → (d ≡ c) × HasNoMcu i from
   -- the header is valid, and an MCU has a data unit
-  pub lawful : IsLawful h
+  pub valid : IsValid h
   pub units : 0 < blocks_of h

@@ -35,10 +35,10 @@ AreFinal bytes first count pixels = (file : List ℕ) (t : ScanValue) (marks : L
     → ShowsFirst t (length t.intervals) marks f → pixels ≡ next_lines_of t.head f first count
 
 -- the number of final lines that come next, as many as fit into the given number of bytes
-pub record GivesSettled (bytes : List ℕ) (s : ScanValue) (first n room : ℕ) : Type 0 where
+pub record ReturnsSettled (bytes : List ℕ) (s : ScanValue) (first n space : ℕ) : Type 0 where
   pub rows : ℕ
   pub has : HasRows bytes s rows
-  pub count : n ≡ min (lines_in (record { scan = s; rows = rows }) - first) (room / line_size s.head)
+  pub count : n ≡ min (lines_in (record { scan = s; rows = rows }) - first) (space / line_size s.head)
 
 -- the next lines that the bytes make final, as many as fit: n starting at this one
 pub record NextLines (bytes : List ℕ) (first n : ℕ) (pixels : List ℕ) : Type 0 where
@@ -49,5 +49,5 @@ pub record NextLines (bytes : List ℕ) (first n : ℕ) (pixels : List ℕ) : Ty
   pub are : AreFinal bytes first n (take (n * line_size settled.scan.head) pixels)
 
 -- or none, if more bytes are wanted for a header
-abbrev pub GivesNext : (bytes : List ℕ) → (first n : ℕ) → (pixels : List ℕ) → Type 0
-GivesNext bytes first n pixels = ((n ≡ 0) × WantsMore bytes) ⊎ NextLines bytes first n pixels
+abbrev pub ReturnsNext : (bytes : List ℕ) → (first n : ℕ) → (pixels : List ℕ) → Type 0
+ReturnsNext bytes first n pixels = ((n ≡ 0) × WantsMore bytes) ⊎ NextLines bytes first n pixels

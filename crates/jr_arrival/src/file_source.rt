@@ -117,7 +117,7 @@ impl<'a> FileSource<'a> {
         file: FileBytes<'a>,
         place: &RowPlace,
     ) -> Result<FileSource<'a>, Memory>
-        requires stands { IsPlaceOf head.now place.now }
+        requires lies { IsPlaceOf head.now place.now }
         ensures at { IfOk result (IsFileSource head.now) }
         ensures file { IfOk result (λ s. s.window.file ≡ file.entry) }
         ensures before { IfOk result (λ s. mcus_to head.now s.cursor ≡ place.now.row * mcus_across head.now) }
@@ -186,7 +186,7 @@ impl<'a> FileSource<'a> {
         ensures { result ≡ in_window head.now self.now }
     {
         let left = head.mcus_in(self.cursor.number) - self.cursor.mcu;
-        let data = &self.window.room[self.window.from..self.window.found];
+        let data = &self.window.space[self.window.from..self.window.found];
         IntervalRef::of(head, data, self.cursor.number, left)
     }
 
@@ -194,10 +194,10 @@ impl<'a> FileSource<'a> {
     fn take_near<K: McuSink>(&mut self, head: &Head, sink: &mut K, done: u32, place: Place) -> u32
         requires at { IsFileSource head.now self.old }
         requires within { done < mcus_across head.now }
-        requires room { K.has_room head.now sink.old }
+        requires space { K.has_space head.now sink.old }
         requires place { self.old.cursor.place ≡ Some place }
         requires some { self.old.cursor.mcu < mcus_in head.now self.old.cursor.number }
-        ensures room { K.has_room head.now sink.new }
+        ensures space { K.has_space head.now sink.new }
         ensures walks { Walks head.now (source_of self.old) (source_of self.new) K.keeps done result (K.groups sink.old) (K.groups sink.new) }
         ensures number { self.new.cursor.number ≡ self.old.cursor.number }
         ensures none { result ≡ 0 → (self.new ≡ self.old) × HasNoMcu (in_window head.now self.old) place }
@@ -221,7 +221,7 @@ impl<'a> FileSource<'a> {
         ensures waits { result ≡ false → IsOpen self.old.window }
     {
         let end = self.window.end_of_data();
-        match self.window.stop_behind(head, self.cursor.number, end) {
+        match self.window.stop_after(head, self.cursor.number, end) {
             Stop::Restart(marker) => {
                 self.window.fill(end + marker, 0);
             }

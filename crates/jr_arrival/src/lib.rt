@@ -42,9 +42,9 @@ pub use laws::{
     run_is_final, scan_is_final, too_long_is_final,
 };
 pub use partial_file::PartialFile;
-pub use place::{RowPlace, stands_at};
+pub use place::{RowPlace, is_position};
 pub use place_laws::{
-    no_mcu_in_long_data, place_in_part, place_stays, run_behind, split_segment, top_is_place,
+    no_mcu_in_long_data, place_in_part, place_stays, run_after, split_segment, top_is_place,
 };
-pub use rows::{decode_rows, lines_before, lines_between, rows_with_room, skip_rows};
+pub use rows::{decode_rows, lines_before, lines_between, rows_with_space, skip_rows};
 pub use same_lines::lines_are_one;

@@ -5,7 +5,7 @@ ghost use Rattle.jr_head.specs.HeadValue.{HeadValue};
 ghost use Rattle.jr_head.specs.Geometry.{mcus_across};
 ghost use Rattle.jr_scan.specs.McuReader.{HasEnded, HasRead};
 ghost use Rattle.jr_piece.specs.Units.{grey_unit};
-ghost use Rattle.jr_rows.specs.Rows.{HasSampleRoom};
+ghost use Rattle.jr_rows.specs.Rows.{HasSampleSpace};
 ghost use Rattle.jr_arrival.specs.RowMcus.{ExtendsRow, TakesIntoRow};
 
 use jr_head::Head;
@@ -15,7 +15,7 @@ use jr_scan::McuReader;
 /// The destination of the MCUs of a row, one after the other.
 pub(crate) trait McuSink {
     // whether it is for rows of an image with this header
-    ghost has_room: { HeadValue → Self → Type 0 };
+    ghost has_space: { HeadValue → Self → Type 0 };
 
     // whether it keeps the samples of the MCUs
     ghost keeps: { Bool };
@@ -27,8 +27,8 @@ pub(crate) trait McuSink {
     fn take(&mut self, head: &Head, reader: &mut McuReader<'_>, done: u32) -> u32
         requires head { reader.old.run.interval.head ≡ head.now }
         requires within { done < mcus_across head.now }
-        requires room { has_room head.now self.old }
-        ensures room { has_room head.now self.new }
+        requires space { has_space head.now self.old }
+        ensures space { has_space head.now self.new }
         ensures run { reader.new.run ≡ reader.old.run }
         ensures mcu { reader.new.mcu ≡ reader.old.mcu + result }
         ensures few { done + result ≤ mcus_across head.now }
@@ -39,15 +39,15 @@ pub(crate) trait McuSink {
     fn fill_grey(&mut self, head: &Head, done: u32, mcus: u32) -> u32
         requires some { 0 < mcus }
         requires within { done + mcus ≤ mcus_across head.now }
-        requires room { has_room head.now self.old }
-        ensures room { has_room head.now self.new }
+        requires space { has_space head.now self.old }
+        ensures space { has_space head.now self.new }
         ensures some { 0 < result }
         ensures few { result ≤ mcus }
         ensures grey { IsTrue keeps → ExtendsRow head.now done result (λ _. grey_unit) (groups self.old) (groups self.new) };
 }
 
 impl McuSink for SampleRow {
-    ghost has_room = { HasSampleRoom };
+    ghost has_space = { HasSampleSpace };
 
     ghost keeps = { true };
 
@@ -58,7 +58,7 @@ impl McuSink for SampleRow {
     }
 
     fn fill_grey(&mut self, head: &Head, done: u32, mcus: u32) -> u32 {
-        self.put_grey(head, done, mcus)
+        self.write_grey(head, done, mcus)
     }
 }
 
@@ -70,7 +70,7 @@ pub(crate) struct Skipped {
 }
 
 impl McuSink for Skipped {
-    ghost has_room = { λ h skipped. skipped.across ≡ mcus_across h };
+    ghost has_space = { λ h skipped. skipped.across ≡ mcus_across h };
 
     ghost keeps = { false };
 

@@ -39,8 +39,8 @@ pub(crate) trait McuSource {
         requires at { (value self.old).is_at head.now }
         requires some { (value self.old).cursor.mcu < mcus_in head.now (value self.old).cursor.number }
         requires within { done < mcus_across head.now }
-        requires room { K.has_room head.now sink.old }
-        ensures room { K.has_room head.now sink.new }
+        requires space { K.has_space head.now sink.old }
+        ensures space { K.has_space head.now sink.new }
         ensures walks { Walks head.now (value self.old) (value self.new) K.keeps done result (K.groups sink.old) (K.groups sink.new) }
         ensures number { (value self.new).cursor.number ≡ (value self.old).cursor.number }
         ensures none { result ≡ 0 → (value self.new).reads_all head.now };
@@ -76,8 +76,8 @@ pub(crate) fn take_whole<K: McuSink>(
     requires number { cursor.old.number < intervals_of head.now }
     requires some { cursor.old.mcu < mcus_in head.now cursor.old.number }
     requires within { done < mcus_across head.now }
-    requires room { K.has_room head.now sink.old }
-    ensures room { K.has_room head.now sink.new }
+    requires space { K.has_space head.now sink.old }
+    ensures space { K.has_space head.now sink.new }
     ensures taken { TakesWhole head.now interval.entry place K.keeps done result cursor.old cursor.new (K.groups sink.old) (K.groups sink.new) }
 {
     // By its contract an MCU has a data unit.

@@ -6,9 +6,9 @@ ghost use Rattle.jr_head.specs.Heads.{HeadOf, RefusalOf};
 ghost use Rattle.jr_segments.specs.declared.refusal.Refusal.TheVariants as refusal;
 ghost use Rattle.jr_rows.specs.Stream.{HasCounts};
 ghost use Rattle.jr_arrival.specs.Arrival.{IsFinalFault};
-ghost use Rattle.jr_arrival.specs.PartialFile.{GivesFinalLines, HasBegun, HoldsBytes, IsPartialFile, given_of};
+ghost use Rattle.jr_arrival.specs.PartialFile.{ReturnsFinalLines, HasBegun, HoldsBytes, IsPartialFile, given_of};
 ghost use Rattle.jr_arrival.specs.LongerFile.{HasScan};
-ghost use Rattle.jr_arrival.specs.Settled.{GivesNext, WantsMore};
+ghost use Rattle.jr_arrival.specs.Settled.{ReturnsNext, WantsMore};
 
 use crate::finished::Finished;
 use crate::partial_head::PartialHead;
@@ -72,7 +72,7 @@ fn give(partial_image: &mut Option<PartialImage>, pixels: &mut [u8]) -> u32
     ensures bytes { (n : ℕ) → IfSome partial_image.old (λ c. c.bytes ≤ n) → IfSome partial_image.new (λ c. c.bytes ≤ n) }
     ensures holds { (kept so_far : List ℕ) → HoldsBytes kept partial_image.old so_far → HoldsBytes kept partial_image.new so_far }
     ensures none { partial_image.old ≡ None → result ≡ 0 }
-    ensures given { IfSome partial_image.old (λ c. GivesFinalLines c (given_of partial_image.old) result pixels.new) }
+    ensures given { IfSome partial_image.old (λ c. ReturnsFinalLines c (given_of partial_image.old) result pixels.new) }
 {
     match partial_image {
         Some(scan) => scan.give(pixels),
@@ -193,7 +193,7 @@ impl PartialFile {
     ///
     /// The refusal of every file that the bytes can become. `Memory` if allocation fails; then no line is copied.
     pub fn next_lines(&mut self, alloc: Global, pixels: &mut [u8]) -> Result<u32, Refusal>
-        ensures given { IfOk result (λ n. (bytes : List ℕ) → IsPartialFile self.old bytes → GivesNext bytes (given_of self.old.partial_image) n pixels.new) }
+        ensures given { IfOk result (λ n. (bytes : List ℕ) → IsPartialFile self.old bytes → ReturnsNext bytes (given_of self.old.partial_image) n pixels.new) }
         ensures lines { IfOk result (λ n. given_of self.new.partial_image ≡ given_of self.old.partial_image + n) }
         ensures partial_file { (bytes : List ℕ) → IsPartialFile self.old bytes → IsPartialFile self.new bytes }
         ensures refusal { IfErr result (λ f. f ≢ refusal.Memory → (bytes : List ℕ) → IsPartialFile self.old bytes → RefusalOf bytes f) }

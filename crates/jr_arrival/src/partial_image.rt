@@ -11,7 +11,7 @@ ghost use Rattle.jr_rows.specs.Stream.{HasCounts};
 ghost use Rattle.jr_arrival.specs.Arrival.{IsFinalFault};
 ghost use Rattle.jr_arrival.specs.PartialFile.{HasBegun};
 ghost use Rattle.jr_arrival.specs.PartialRows.{AreFinalLines, HasNoMore};
-ghost use Rattle.jr_arrival.specs.Settled.{GivesSettled, WantsMore};
+ghost use Rattle.jr_arrival.specs.Settled.{ReturnsSettled, WantsMore};
 
 use crate::finished::Finished;
 use crate::partial_head::PartialHead;
@@ -59,7 +59,7 @@ impl PartialImage {
         let scan = PartialScan::of(alloc, head, kept)?;
         // By their contracts there is an interval, and the header is valid.
         let _some = scan.intervals();
-        let _lawful = scan.head();
+        let _valid = scan.head();
         Ok(PartialImage {
             scan,
             bytes: bytes.len(),
@@ -102,7 +102,7 @@ impl PartialImage {
         ensures memory { IfErr result (λ _. self.new ≡ self.old) }
     {
         // By its contract the header is valid.
-        let _lawful = self.scan.head();
+        let _valid = self.scan.head();
         self.scan.push(more)?;
         self.bytes += more.len();
         Ok(())
@@ -135,7 +135,7 @@ impl PartialImage {
         ensures scan { self.new.partial_scan ≡ self.old.partial_scan }
         ensures bytes { self.new.bytes ≡ self.old.bytes }
         ensures lines { self.new.row.lines ≡ self.old.row.lines + result }
-        ensures settled { (bytes : List ℕ) → HasCome self.old.partial_scan bytes → GivesSettled bytes self.old.partial_scan.scan self.old.row.lines result (length pixels.old) }
+        ensures settled { (bytes : List ℕ) → HasCome self.old.partial_scan bytes → ReturnsSettled bytes self.old.partial_scan.scan self.old.row.lines result (length pixels.old) }
         ensures given { AreFinalLines self.old.partial_scan self.old.row.lines result (take (result * line_size self.old.partial_scan.scan.head) pixels.new) }
         ensures long { length pixels.new ≡ length pixels.old }
     {

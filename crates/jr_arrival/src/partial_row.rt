@@ -17,7 +17,7 @@ use std::alloc::Global;
 use std::marker::Model;
 
 /// Returns the number of lines of an image starting at `first` that fit into `bytes` bytes.
-fn lines_with_room(head: &Head, first: u32, bytes: usize) -> u32
+fn lines_with_space(head: &Head, first: u32, bytes: usize) -> u32
     ensures value { result ≡ min (bytes / line_size head.now) (head.now.height - first) }
     ensures fits { result * line_size head.now ≤ bytes }
 {
@@ -143,7 +143,7 @@ impl PartialRow {
         requires partial_row { IsPartialRow scan.now self.old }
         requires whole { self.old.done ≡ mcus_across scan.now.scan.head }
         requires inside { self.old.lines + count ≤ first_line scan.now.scan.head self.old.row + line_count scan.now.scan.head self.old.row }
-        requires room { length pixels.old ≡ count * line_size scan.now.scan.head }
+        requires space { length pixels.old ≡ count * line_size scan.now.scan.head }
         ensures partial_row { IsPartialRow scan.now self.new }
         ensures lines { self.new.lines ≡ self.old.lines + count }
         ensures painted { AreFinalLines scan.now self.old.lines count pixels.new }
@@ -167,15 +167,15 @@ impl PartialRow {
         ensures long { length pixels.new ≡ length pixels.old }
     {
         let line = shape_of(scan.head()).line;
-        let room = lines_with_room(scan.head(), self.lines, pixels.len());
+        let space = lines_with_space(scan.head(), self.lines, pixels.len());
         let mut given = 0;
-        'lines: while given < room {
+        'lines: while given < space {
             if !self.decode(scan) {
                 return given;
             }
-            let some = self.lines_left(scan).min(room - given);
-            let from = bytes_to(given, room, line);
-            let to = bytes_to(given + some, room, line);
+            let some = self.lines_left(scan).min(space - given);
+            let from = bytes_to(given, space, line);
+            let to = bytes_to(given + some, space, line);
             self.paint(scan, some, &mut pixels[from..to]);
             given += some;
         }

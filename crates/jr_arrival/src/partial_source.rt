@@ -5,7 +5,7 @@ ghost use Rattle.jr_head.specs.Intervals.{mcus_in};
 ghost use Rattle.jr_scan.specs.PartialScan.{PartialScanValue};
 ghost use Rattle.jr_scan.specs.Run.{left_at};
 ghost use Rattle.jr_scan.specs.ScanValue.{ScanValue, interval_of};
-ghost use Rattle.jr_scan.specs.Mcus.{TellsSound};
+ghost use Rattle.jr_scan.specs.Mcus.{ReportsSound};
 ghost use Rattle.jr_rows.specs.Rows.{CountsMarks};
 ghost use Rattle.jr_arrival.specs.LongerFile.{IsOver};
 ghost use Rattle.jr_arrival.specs.PartialRows.{GrowsInto, IsFinal, IsPartialReading, ReadsTo};
@@ -46,7 +46,7 @@ pub(crate) fn is_sound(scan: &PartialScan, cursor: Cursor) -> bool
     requires number { cursor.number < length scan.now.scan.intervals }
     requires few { cursor.mcu ≤ mcus_in scan.now.scan.head cursor.number }
     requires reads { ReadsTo scan.now cursor.number cursor.mcu cursor.place }
-    ensures { TellsSound result (interval_of scan.now.scan cursor.number) }
+    ensures { ReportsSound result (interval_of scan.now.scan cursor.number) }
 {
     let Some(_) = cursor.place else {
         return false;

@@ -28,7 +28,7 @@ pub struct RowPlace {
 }
 
 /// Returns whether a position has numbers of an image with this header: a row, and the interval and MCU that begin it.
-pub fn stands_at(head: &Head, place: &RowPlace) -> bool
+pub fn is_position(head: &Head, place: &RowPlace) -> bool
     ensures there { result ≡ true → IsPlaceOf head.now place.now }
     ensures not_there { result ≡ false → IsPlaceOf head.now place.now → ⊥ }
 {

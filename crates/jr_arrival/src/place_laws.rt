@@ -11,15 +11,15 @@ ghost use Rattle.jr_scan.specs.ScanValue.{ScanValue, IsScanOf};
 ghost use Rattle.jr_arrival.specs.More.{with_more};
 ghost use Rattle.jr_arrival.specs.declared.place.RowPlace.{RowPlace};
 ghost use Rattle.jr_head.specs.HeadValue.{HeadValue};
-ghost use Rattle.jr_arrival.specs.Meaning.{IsPlaceIn, MayBe, behind, offset_in, top, with_before};
+ghost use Rattle.jr_arrival.specs.Meaning.{IsPlaceIn, MayBe, after, offset_in, top, with_before};
 ghost use Rattle.jr_arrival.specs.Parts.{FilePart, part_at};
 
 use jr_scan::Place;
 
 /// States that a run of MCUs is that of the interval with other data before it, starting at the bits after that data.
-pub fn run_behind()
+pub fn run_after()
     ensures { (i : IntervalValue) (front : List ℕ) (p : Place) (k : ℕ) (zs : List (List ℤ)) (to : Place) (end : RunEnd) → IsRun (run_from i p k) zs to end
-        → IsRun (run_from (with_before i front) (behind front p) k) zs (behind front to) end }
+        → IsRun (run_from (with_before i front) (after front p) k) zs (after front to) end }
 {}
 
 /// States that if 16,650 bits begin with no whole MCU of at most ten data units, none begins them whatever data follow.

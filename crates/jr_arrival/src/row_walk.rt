@@ -14,9 +14,9 @@ use jr_rows::shape_of;
 fn walk_grey<S: McuSource, K: McuSink>(source: &mut S, head: &Head, sink: &mut K, done: u32) -> u32
     requires at { (S.value source.old).is_at head.now }
     requires within { done < mcus_across head.now }
-    requires room { K.has_room head.now sink.old }
+    requires space { K.has_space head.now sink.old }
     requires none { HasNoneLeft head.now (S.value source.old) }
-    ensures room { K.has_room head.now sink.new }
+    ensures space { K.has_space head.now sink.new }
     ensures walks { Walks head.now (S.value source.old) (S.value source.new) K.keeps done result (K.groups sink.old) (K.groups sink.new) }
     ensures some { 0 < result }
 {
@@ -35,9 +35,9 @@ fn walk_grey<S: McuSource, K: McuSink>(source: &mut S, head: &Head, sink: &mut K
 fn walk_some<S: McuSource, K: McuSink>(source: &mut S, head: &Head, sink: &mut K, done: u32) -> u32
     requires at { (S.value source.old).is_at head.now }
     requires within { done < mcus_across head.now }
-    requires room { K.has_room head.now sink.old }
+    requires space { K.has_space head.now sink.old }
     requires more { mcus_to head.now (S.value source.old).cursor < mcus_of head.now }
-    ensures room { K.has_room head.now sink.new }
+    ensures space { K.has_space head.now sink.new }
     ensures walks { Walks head.now (S.value source.old) (S.value source.new) K.keeps done result (K.groups sink.old) (K.groups sink.new) }
     ensures waits { result ≡ 0 → (S.value source.new).waits head.now }
 {
@@ -66,8 +66,8 @@ pub(crate) fn walk_row<S: McuSource, K: McuSink>(
     requires row { row < mcus_down head.now }
     requires within { done ≤ mcus_across head.now }
     requires before { mcus_to head.now (S.value source.old).cursor ≡ row * mcus_across head.now + done }
-    requires room { K.has_room head.now sink.old }
-    ensures room { K.has_room head.now sink.new }
+    requires space { K.has_space head.now sink.old }
+    ensures space { K.has_space head.now sink.new }
     ensures walks { Walks head.now (S.value source.old) (S.value source.new) K.keeps done result (K.groups sink.old) (K.groups sink.new) }
     ensures waits { done + result < mcus_across head.now → (S.value source.new).waits head.now }
 {

@@ -8,7 +8,7 @@ ghost use Rattle.jr_rows.specs.Rows.{line_count};
 ghost use Rattle.jr_scan.specs.ScanValue.{ScanValue};
 ghost use Rattle.jr_arrival.specs.Meaning.{IsPlaceIn, MayBe};
 ghost use Rattle.jr_arrival.specs.Parts.{part_of};
-ghost use Rattle.jr_arrival.specs.Places.{IsPlaceOf, lines_above, lines_between, rows_to_give, rows_with_room};
+ghost use Rattle.jr_arrival.specs.Places.{IsPlaceOf, lines_above, lines_between, rows_to_give, rows_with_space};
 
 use crate::file_bytes::FileBytes;
 use crate::file_source::FileSource;
@@ -40,9 +40,9 @@ pub fn lines_between(head: &Head, from: u32, to: u32) -> u32
 }
 
 /// Returns the number of rows of MCUs starting at `row` that fit with their lines into `bytes` bytes.
-pub fn rows_with_room(head: &Head, row: u32, bytes: usize) -> u32
+pub fn rows_with_space(head: &Head, row: u32, bytes: usize) -> u32
     requires { row ≤ mcus_down head.now }
-    ensures value { result ≡ rows_with_room head.now row bytes }
+    ensures value { result ≡ rows_with_space head.now row bytes }
     ensures few { row + result ≤ mcus_down head.now }
     ensures fits { lines_between head.now row (row + result) * line_size head.now ≤ bytes }
 {
@@ -67,19 +67,19 @@ fn end_of_rows(head: &Head, row: u32, rows: u32, bytes: usize) -> u32
 {
     head.assert_invariant();
     let _few = shape_of(head);
-    row + rows.min(rows_with_room(head, row, bytes))
+    row + rows.min(rows_with_space(head, row, bytes))
 }
 
-/// Returns where the lines of a row of MCUs are in `room` bytes, into which they fit, if those of row `first` are the
+/// Returns where the lines of a row of MCUs are in `space` bytes, into which they fit, if those of row `first` are the
 /// first.
-fn span_of_row(head: &Head, first: u32, row: u32, room: usize) -> (usize, usize)
+fn span_of_row(head: &Head, first: u32, row: u32, space: usize) -> (usize, usize)
     requires order { first ≤ row }
     requires row { row < mcus_down head.now }
-    requires room { lines_between head.now first (row + 1) * line_size head.now ≤ room }
+    requires space { lines_between head.now first (row + 1) * line_size head.now ≤ space }
     ensures from { result.0 ≡ lines_between head.now first row * line_size head.now }
     ensures to { result.1 ≡ lines_between head.now first (row + 1) * line_size head.now }
     ensures count { result.1 ≡ result.0 + line_count head.now row * line_size head.now }
-    ensures within { result.1 ≤ room }
+    ensures within { result.1 ≤ space }
 {
     head.assert_invariant();
     let line = shape_of(head).line;
@@ -100,8 +100,8 @@ pub fn decode_rows(
     rows: u32,
     pixels: &mut [u8],
 ) -> Result<RowPlace, Memory>
-    requires stands { IsPlaceOf head.now place.now }
-    ensures stands { IfOk result (IsPlaceOf head.now) }
+    requires lies { IsPlaceOf head.now place.now }
+    ensures lies { IfOk result (IsPlaceOf head.now) }
     ensures on { IfOk result (λ p. place.now.row ≤ p.row) }
     ensures few { IfOk result (λ p. p.row ≤ place.now.row + rows_to_give head.now place.now.row rows (length pixels.old)) }
     ensures all { file.entry.are_all ≡ true → IfOk result (λ p. p.row ≡ place.now.row + rows_to_give head.now place.now.row rows (length pixels.old)) }
@@ -141,8 +141,8 @@ pub fn skip_rows(
     place: &RowPlace,
     rows: u32,
 ) -> Result<RowPlace, Memory>
-    requires stands { IsPlaceOf head.now place.now }
-    ensures stands { IfOk result (IsPlaceOf head.now) }
+    requires lies { IsPlaceOf head.now place.now }
+    ensures lies { IfOk result (IsPlaceOf head.now) }
     ensures on { IfOk result (λ p. place.now.row ≤ p.row) }
     ensures few { IfOk result (λ p. p.row ≤ place.now.row + min rows (mcus_down head.now - place.now.row)) }
     ensures all { file.entry.are_all ≡ true → IfOk result (λ p. p.row ≡ place.now.row + min rows (mcus_down head.now - place.now.row)) }

@@ -31,8 +31,8 @@ pub(crate) const MCU_BITS: u64 = 16650;
 #[derive(Drop)]
 pub(crate) struct Window<'a> {
     pub file: FileBytes<'a>,
-    /// Its bytes of data are `room[from..found]`.
-    pub room: Vec<u8>,
+    /// Its bytes of data are `space[from..found]`.
+    pub space: Vec<u8>,
     pub from: usize,
     pub found: usize,
     /// Offset in the file's bytes of the first byte of data; after the interval's data if none follow.
@@ -57,12 +57,12 @@ fn next_reach(at: usize, reach: usize, passed: usize) -> usize
 impl<'a> Window<'a> {
     /// Returns a window that is not filled yet. It allocates.
     pub(crate) fn empty(alloc: Global, file: FileBytes<'a>) -> Result<Window<'a>, Memory>
-        ensures room { IfOk result (λ w. length w.room.items ≡ WINDOW) }
+        ensures space { IfOk result (λ w. length w.space.items ≡ WINDOW) }
         ensures file { IfOk result (λ w. w.file ≡ file.entry) }
     {
         Ok(Window {
             file,
-            room: vec![in alloc; 0; WINDOW]?,
+            space: vec![in alloc; 0; WINDOW]?,
             from: 0,
             found: 0,
             at: 0,
@@ -74,7 +74,7 @@ impl<'a> Window<'a> {
     /// Fills the window starting at an offset of the file's bytes, where `bit` bits of the first byte of data are used.
     /// Returns where they end in it.
     pub(crate) fn fill(&mut self, at: usize, bit: u64) -> u64
-        requires room { length self.old.room.items ≡ WINDOW }
+        requires space { length self.old.space.items ≡ WINDOW }
         requires at { at ≤ length self.old.file.bytes.now }
         ensures window { IsWindow self.new }
         ensures file { self.new.file ≡ self.old.file }
@@ -87,7 +87,7 @@ impl<'a> Window<'a> {
         let raw = &self.file.bytes[at..];
         let least = spelled_length(raw, bit.min(1) as usize);
         let most = self.reach.saturating_sub(at).max(REACH).max(least);
-        let part = unstuff_some(raw, most, &mut self.room);
+        let part = unstuff_some(raw, most, &mut self.space);
         self.at = at;
         self.reach = at.saturating_add(most);
         self.from = 0;
@@ -197,7 +197,7 @@ impl<'a> Window<'a> {
     }
 
     /// Returns what follows the data of interval `number`, which end there; its offset is that in the file's bytes.
-    pub(crate) fn stop_behind(&self, head: &Head, number: u32, end: usize) -> Stop
+    pub(crate) fn stop_after(&self, head: &Head, number: u32, end: usize) -> Stop
         requires number { number < intervals_of head.now }
         requires within { end ≤ length self.now.file.bytes.now }
         requires stop { IsStop (drop end self.now.file.bytes.now) }

@@ -9,7 +9,7 @@ use Rattle.atomic_table.specs.Table.{State, Me, step, keeps, stepped, Allows, Sp
 use Rattle.atomic_table.proofs.Lists.{at_set, at_snoc}
 use Rattle.jr_cells.specs.declared.claims.SeatView.{SeatView}
 use Rattle.jr_cells.specs.Count.{total, times, once_below}
-use Rattle.jr_cells.specs.Draws.{view, Fits, Dealt, Told}
+use Rattle.jr_cells.specs.Draws.{view, Fits, Dealt, Stated}
 
 module _ {X : Type 0} (f : X → ℕ) where
   pub total_set : (l : List X) (i : ℕ) (v w : X) → get_elem? l i ≡ some v → total f (set l i w) + f v ≡ total f l + f w
@@ -58,18 +58,18 @@ placed n k s r id v w c at m up once drawn seats over fit =
     }
 
 -- Word 0 stays far below 2 ^ 64
-roomy : (n k : ℕ) (s : State (Unit {0}) SeatView) → Dealt n k s → get_or s.words 0 0 + 1 < 2 ^ 64
-roomy n k s r =
+ample : (n k : ℕ) (s : State (Unit {0}) SeatView) → Dealt n k s → get_or s.words 0 0 + 1 < 2 ^ 64
+ample n k s r =
     let a = total_le (λ (u : SeatView). u.ended) (λ (u : SeatView). u.seats) s.views (λ i v e. (r.each i v e).ended) in
     let b = r.over in let d = r.seats in let e = r.few in let f = r.fits in omega arith
 
-pub claims : (n k slots id : ℕ) (me : Me (Unit {0}) SeatView) → me.0.seats ≡ 1 → me.0.ended ≡ 0 → Allows (Dealt n k) slots id me 0 (λ w. (w + 1) % 2 ^ 64) (Told (step slots 0 1 0 none) me)
+pub claims : (n k slots id : ℕ) (me : Me (Unit {0}) SeatView) → me.0.seats ≡ 1 → me.0.ended ≡ 0 → Allows (Dealt n k) slots id me 0 (λ w. (w + 1) % 2 ^ 64) (Stated (step slots 0 1 0 none) me)
 claims n k slots id me one going s r _ at small =
     let v = me.0 in
     let x : ℕ = get_or s.words 0 0 in
     let f = r.each id v at in
     let limit : v.limit ≡ n = f.limit (omega arith) in
-    let room : x + 1 < 2 ^ 64 = roomy n k s r in
+    let space : x + 1 < 2 ^ 64 = ample n k s r in
     let next : x + 1 ≡ (x + 1) % 2 ^ 64 = omega arith in
     let P : ℕ → SeatView → Type 0 = λ m w. Dealt n k (stepped s 0 m id me.1 w keeps) in
     dite (dec_le n x)

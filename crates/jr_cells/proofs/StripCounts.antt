@@ -19,5 +19,5 @@ no_more mcus each some = go (div_ceil mcus each) (omega arith)
     go (suc n) h = omega (arith, begins_within mcus each n some (omega (arith, h)), le-mul_of_pos_right n some)
 
 -- if memory suffices for that number of MCUs, it suffices for the cells
-pub room_of_cells : (cells mcus each room : ℕ) → cells ≤ mcus → mcus * each ≤ room → cells * each ≤ room
-room_of_cells cells mcus each room few h = let up : cells * each ≤ mcus * each = mul-le-mul_right each few in omega (arith, up, h)
+pub space_of_cells : (cells mcus each space : ℕ) → cells ≤ mcus → mcus * each ≤ space → cells * each ≤ space
+space_of_cells cells mcus each space few h = let up : cells * each ≤ mcus * each = mul-le-mul_right each few in omega (arith, up, h)

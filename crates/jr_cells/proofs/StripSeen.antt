@@ -7,7 +7,7 @@ use Rattle.std.proofs.lemmas.Bool.{eq-eqb, ne_eqb}
 use Rattle.jr_piece.specs.StripValue.{StripValue}
 use Rattle.jr_cells.specs.StripCellsValue.{StripCellsValue, StripSightValue}
 use Rattle.jr_cells.specs.Notes.{names_of, known_of, KnowAt, KnowNothingAt, KeepAll, KeepOthers, NotesAgree, counted}
-use Rattle.jr_cells.specs.StripSights.{StripNote, stands_at, strip_in_cell, strips_of, KnowsStrip, KnowsNoStrip, KnowsAllStrips, AgreeOnStrips}
+use Rattle.jr_cells.specs.StripSights.{StripNote, is_position, strip_in_cell, strips_of, KnowsStrip, KnowsNoStrip, KnowsAllStrips, AgreeOnStrips}
 use Rattle.jr_cells.proofs.Noted.{length-known, length-names, as_many}
 use Rattle.jr_cells.proofs.Counted.{there, counts_there, later, agreed, fresh, unseen}
 
@@ -33,18 +33,18 @@ module _ (number each : ℕ) where
   pub fresh_strips : (ns : List StripNote) (n : ℕ) → known_of ns ≡ replicate n None → strips_of number each ns ≡ replicate n None
   fresh_strips ns n e = ap (λ ks. counted in_cell 0 ks) e ∙ fresh in_cell empty 0 n
 
-  stands : (first : ℕ) (s : StripValue) → s.interval.number ≡ number → s.first ≡ first → stands_at number first s ≡ true
-  stands first s e f = ap (λ (b : Bool). b && (s.first == first)) (eq-eqb s.interval.number number e) ∙ eq-eqb s.first first f
+  lies : (first : ℕ) (s : StripValue) → s.interval.number ≡ number → s.first ≡ first → is_position number first s ≡ true
+  lies first s e f = ap (λ (b : Bool). b && (s.first == first)) (eq-eqb s.interval.number number e) ∙ eq-eqb s.first first f
 
-  stands_not : (first : ℕ) (s : StripValue) → (s.interval.number ≢ number) ⊎ ((s.interval.number ≡ number) × (s.first ≢ first)) → stands_at number first s ≡ false
-  stands_not first s (inl e) = ap (λ (b : Bool). b && (s.first == first)) (ne_eqb s.interval.number number e)
-  stands_not first s (inr e) = ap (λ (b : Bool). b && (s.first == first)) (eq-eqb s.interval.number number e.0) ∙ ne_eqb s.first first e.1
+  lies_not : (first : ℕ) (s : StripValue) → (s.interval.number ≢ number) ⊎ ((s.interval.number ≡ number) × (s.first ≢ first)) → is_position number first s ≡ false
+  lies_not first s (inl e) = ap (λ (b : Bool). b && (s.first == first)) (ne_eqb s.interval.number number e)
+  lies_not first s (inr e) = ap (λ (b : Bool). b && (s.first == first)) (eq-eqb s.interval.number number e.0) ∙ ne_eqb s.first first e.1
 
   -- a strip of the interval that notes know is known if it starts at its cell's MCU
   pub known_strip : (ns : List StripNote) (place : ℕ) (s : Arc StripValue Global) → KnowAt ns place s → (arc_value s).interval.number ≡ number → (arc_value s).first ≡ place * each
       → KnowsStrip (seen ns) place (arc_value s)
   known_strip ns place s k e f =
-      counts_there in_cell empty (known_of ns) place s (arc_value s) k (ap (λ (b : Bool). cond b (Some (arc_value s)) None) (stands (place * each) (arc_value s) e f))
+      counts_there in_cell empty (known_of ns) place s (arc_value s) k (ap (λ (b : Bool). cond b (Some (arc_value s)) None) (lies (place * each) (arc_value s) e f))
 
   -- such a strip that was published (`hang`) is known
   pub hung : {E : Type 0} (ns : List StripNote) (place : ℕ) (s : Arc StripValue Global) (r : Result (Unit {0}) E) → (arc_value s).interval.number ≡ number → (arc_value s).first ≡ place * each
@@ -64,7 +64,7 @@ module _ (number each : ℕ) where
       → ((arc_value s).interval.number ≢ number) ⊎ (((arc_value s).interval.number ≡ number) × ((arc_value s).first ≢ place * each)) → (seen new ≡ seen old) × KnowsNoStrip (seen old) place
   strange_strip old new place s names keep others k e =
       let long : length (known_of new) ≡ length (known_of old) = length-known new ∙ as_many new (names_of old) names ∙ length-names old ∙ sym (length-known old) in
-      let not : in_cell place (Some s) ≡ None = ap (λ (b : Bool). cond b (Some (arc_value s)) None) (stands_not (place * each) (arc_value s) e) in
+      let not : in_cell place (Some s) ≡ None = ap (λ (b : Bool). cond b (Some (arc_value s)) None) (lies_not (place * each) (arc_value s) e) in
       let u = unseen in_cell empty (known_of old) (known_of new) place s long keep others k not in
       (λ j. record { cells = record { number = number; each = each; cells = names j }; strips = u.0 j }, u.1)
 

@@ -32,8 +32,8 @@ pub record Dealt (n k : ℕ) (s : State (Unit {0}) SeatView) : Type 0 where
   pub each : (id : ℕ) (v : SeatView) → get_elem? s.views id ≡ some v → Fits n k (slice_index s.words 0) v
 
 -- the result of a claim: a number below the limit is drawn, otherwise the seat has ended
-abbrev pub Told : Step (Unit {0}) → Me (Unit {0}) SeatView → ℕ → Me (Unit {0}) SeatView → Type 0
-Told step me found next =
+abbrev pub Stated : Step (Unit {0}) → Me (Unit {0}) SeatView → ℕ → Me (Unit {0}) SeatView → Type 0
+Stated step me found next =
     (next.1 ≡ me.1)
     × MatchBool (nat_lt found me.0.limit)
     ((next.0 ≡ view me.0.limit me.0.all (me.0.drawn ++ found ∷ []) me.0.seats me.0.ended) × (length me.0.drawn < me.0.limit))

@@ -13,13 +13,13 @@ abbrev pub StripNote : Type 0
 StripNote = Note (Arc StripValue Global)
 
 -- the strip is of the interval of this number, and begins with this MCU
-abbrev pub stands_at : ℕ → ℕ → StripValue → Bool
-stands_at number first s = (s.interval.number == number) && (s.first == first)
+abbrev pub is_position : ℕ → ℕ → StripValue → Bool
+is_position number first s = (s.interval.number == number) && (s.first == first)
 
 -- a strip counts only if it is at that position
 abbrev pub strip_in_cell : ℕ → ℕ → Option (Arc StripValue Global) → Option StripValue
 strip_in_cell number first None = None
-strip_in_cell number first (Some s) = cond (stands_at number first (arc_value s)) (Some (arc_value s)) None
+strip_in_cell number first (Some s) = cond (is_position number first (arc_value s)) (Some (arc_value s)) None
 
 -- the strips that notes know in the cells, starting at the first
 abbrev pub strips_of : ℕ → ℕ → List StripNote → List (Option StripValue)

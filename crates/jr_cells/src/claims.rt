@@ -37,9 +37,9 @@ impl TableRule<(), SeatView, (u64, u64)> for Rules {
 pub struct Claim;
 
 impl Play<(), SeatView> for Claim {
-    ghost use Rattle.jr_cells.specs.Draws.{Told};
+    ghost use Rattle.jr_cells.specs.Draws.{Stated};
 
-    ghost then = { Told };
+    ghost then = { Stated };
 }
 
 // One seat is cut off.

@@ -13,7 +13,7 @@ use Rattle.std.proofs.lemmas.List.Sums.{sum_by-append, sum_by-cons, sum_by_more,
 use Rattle.std.proofs.lemmas.Option.{slice_get_within, get_or_from_slice_get}
 use Rattle.std.proofs.Math.Nat.{mul_assoc, mul_comm, add-mul, pow-suc, lt_of_mul-lt-mul_right, mul-div_left, mul-lt-mul_of_pos_right, mod-eq_of_lt}
 use Rattle.jr_code.specs.Bits.{number, bits_of}
-use Rattle.jr_code.specs.Code.{Table, IsWord, IsLawfulTable, lengths_from, lengths, room, space}
+use Rattle.jr_code.specs.Code.{Table, IsWord, IsValidTable, lengths_from, lengths, extent, space}
 use Rattle.jr_code.proofs.BitLemmas.{number_below, length-bits_of, number-bits_of, number-append, slice_get-append_left, slice_get-append_right}
 
 pub length-lengths : (l : ℕ) (cs : List ℕ) → length (lengths_from l cs) ≡ sum cs
@@ -28,16 +28,16 @@ lengths-append l (x ∷ xs) ys =
     ap (λ t. replicate x l ++ t) (lengths-append (l + 1) xs ys ∙ ap (λ n. lengths_from (l + 1) xs ++ lengths_from n ys) e)
     ∙ sym (append_assoc (replicate x l) (lengths_from (l + 1) xs) (lengths_from (l + suc (length xs)) ys))
 
-space-replicate : (c l : ℕ) → space (replicate c l) ≡ c * room l
+space-replicate : (c l : ℕ) → space (replicate c l) ≡ c * extent l
 unfolding space
 space-replicate zero l = omega arith
 space-replicate (suc c) l =
-    let ih : space (replicate c l) ≡ c * room l = space-replicate c l in
-    sum_by-cons room l (replicate c l) ∙ omega (arith, add-mul 1 c (room l))
+    let ih : space (replicate c l) ≡ c * extent l = space-replicate c l in
+    sum_by-cons extent l (replicate c l) ∙ omega (arith, add-mul 1 c (extent l))
 
 pub space-append : (xs ys : List ℕ) → space (xs ++ ys) ≡ space xs + space ys
 unfolding space
-space-append xs ys = sum_by-append room xs ys
+space-append xs ys = sum_by-append extent xs ys
 
 -- the codes of one length follow each other, after all shorter ones
 pub lengths_split : (cs : List ℕ) (i : ℕ) → i < length cs
@@ -49,7 +49,7 @@ lengths_split cs i h =
     ap lengths (sym whole) ∙ lengths-append 1 (take i cs) (get_or cs i 0 ∷ drop (i + 1) cs) ∙ rw (e, f) refl
 
 pub space_more : (cs : List ℕ) (i : ℕ) → i < length cs
-    → space (lengths (take (i + 1) cs)) ≡ space (lengths (take i cs)) + get_or cs i 0 * room (i + 1)
+    → space (lengths (take (i + 1) cs)) ≡ space (lengths (take i cs)) + get_or cs i 0 * extent (i + 1)
 space_more cs i h =
     let e : 1 + length (take i cs) ≡ i + 1 = omega (arith, length-take-le i cs) in
     ap (λ t. space (lengths t)) (take_more cs i 0 h)
@@ -60,9 +60,9 @@ space_more cs i h =
     ∙ ap (λ n. space (lengths (take i cs)) + n) (space-replicate (get_or cs i 0) (i + 1))
 
 -- the k-th code of i + 1 bits: its position, and the space before it
-pub record Stands (cs : List ℕ) (i k place : ℕ) : Type 0 where
+pub record Lies (cs : List ℕ) (i k place : ℕ) : Type 0 where
   pub long : slice_get (lengths cs) place ≡ Some (i + 1)
-  pub before : space (take place (lengths cs)) ≡ space (lengths (take i cs)) + k * room (i + 1)
+  pub before : space (take place (lengths cs)) ≡ space (lengths (take i cs)) + k * extent (i + 1)
 
 take-replicate_front : (k c l : ℕ) (ys : List ℕ) → k ≤ c → take k (replicate c l ++ ys) ≡ replicate k l
 take-replicate_front zero c l ys h = refl
@@ -79,8 +79,8 @@ take-append_past [] ys n k e = ap (λ m. take m ys) (omega (arith, e))
 take-append_past (x ∷ xs) ys zero k e = absurd (omega (arith, e))
 take-append_past (x ∷ xs) ys (suc n) k e = ap (λ t. x ∷ t) (take-append_past xs ys n k (omega (arith, e)))
 
-pub stands : (cs : List ℕ) (i k place : ℕ) → i < length cs → k < get_or cs i 0 → place ≡ sum (take i cs) + k → Stands cs i k place
-stands cs i k place h small e =
+pub lies : (cs : List ℕ) (i k place : ℕ) → i < length cs → k < get_or cs i 0 → place ≡ sum (take i cs) + k → Lies cs i k place
+lies cs i k place h small e =
     let front = lengths (take i cs) in
     let mid = replicate (get_or cs i 0) (i + 1) in
     let rest = lengths_from (i + 2) (drop (i + 1) cs) in
@@ -118,10 +118,10 @@ found (c ∷ cs) place h = ⊎_elim
 -- the space of all shorter codes is a multiple of that of a code of i bits
 pub record Whole (cs : List ℕ) (i : ℕ) : Type 0 where
   pub times : ℕ
-  pub is : space (lengths (take i cs)) ≡ times * room i
+  pub is : space (lengths (take i cs)) ≡ times * extent i
 
-pub room_halves : (i : ℕ) → i < 16 → room i ≡ 2 * room (i + 1)
-room_halves i h =
+pub extent_halves : (i : ℕ) → i < 16 → extent i ≡ 2 * extent (i + 1)
+extent_halves i h =
     let e : 16 - i ≡ suc (16 - (i + 1)) = omega arith in
     ap (λ n. 2 ^ n) e ∙ pow-suc 2 (16 - (i + 1)) ∙ mul_comm (2 ^ (16 - (i + 1))) 2
 
@@ -140,14 +140,14 @@ whole cs (suc i) h short =
     record {
       times = 2 * w.times + get_or cs i 0;
       is = rw (← e) (space_more cs i (omega arith)
-          ∙ ap (λ n. n + get_or cs i 0 * room (i + 1)) (w.is ∙ ap (λ n. w.times * n) (room_halves i (omega arith)))
-          ∙ doubled w.times (room (i + 1)) (get_or cs i 0));
+          ∙ ap (λ n. n + get_or cs i 0 * extent (i + 1)) (w.is ∙ ap (λ n. w.times * n) (extent_halves i (omega arith)))
+          ∙ doubled w.times (extent (i + 1)) (get_or cs i 0));
     }
 
 -- ---- the codes
 
-pub room_pos : (l : ℕ) → 0 < room l
-room_pos l = pow_pos (16 - l)
+pub extent_pos : (l : ℕ) → 0 < extent l
+extent_pos l = pow_pos (16 - l)
 
 -- a code of i + 1 bits, by its number among those
 pub record Spelled (t : Table) (word : List Bool) (i k place : ℕ) : Type 0 where
@@ -156,12 +156,12 @@ pub record Spelled (t : Table) (word : List Bool) (i k place : ℕ) : Type 0 whe
   pub at : place ≡ sum (take i t.counts) + k
   pub long : length word ≡ i + 1
   pub times : ℕ
-  pub before : space (lengths (take i t.counts)) ≡ times * room i
+  pub before : space (lengths (take i t.counts)) ≡ times * extent i
   pub is : number word ≡ 2 * times + k
-  pub exact : number word * room (length word) ≡ space (take place (lengths t.counts))
+  pub exact : number word * extent (length word) ≡ space (take place (lengths t.counts))
 
-pub div_room : (n l : ℕ) → n * room l / room l ≡ n
-div_room n l = mul-div_left n (room_pos l)
+pub div_extent : (n l : ℕ) → n * extent l / extent l ≡ n
+div_extent n l = mul-div_left n (extent_pos l)
 
 pub same_times : (a b r : ℕ) → 0 < r → a * r ≡ b * r → a ≡ b
 same_times a b r h e = sym (mul-div_left a h) ∙ ap (λ n. n / r) e ∙ mul-div_left b h
@@ -173,15 +173,15 @@ pub spelled : (t : Table) (word : List Bool) (s : ℕ) (w : IsWord t word s) →
 spelled t word s w =
     let inside : w.place < sum t.counts = omega (arith, slice_get_within (lengths t.counts) w.place (length word) w.long, length-lengths 1 t.counts) in
     let f = found t.counts w.place inside in
-    let st = stands t.counts f.i f.k w.place f.within f.small f.at in
+    let st = lies t.counts f.i f.k w.place f.within f.small f.at in
     let long : length word ≡ f.i + 1 = same_some (length word) (f.i + 1) (slice_get (lengths t.counts) w.place) w.long st.long in
     let wh = whole t.counts f.i (omega (arith, f.within)) (omega (arith, long, w.short)) in
-    let sum_is : space (take w.place (lengths t.counts)) ≡ (2 * wh.times + f.k) * room (f.i + 1) =
-    st.before ∙ ap (λ n. n + f.k * room (f.i + 1)) (wh.is ∙ ap (λ n. wh.times * n) (room_halves f.i (omega (arith, long, w.short))))
-    ∙ doubled wh.times (room (f.i + 1)) f.k in
+    let sum_is : space (take w.place (lengths t.counts)) ≡ (2 * wh.times + f.k) * extent (f.i + 1) =
+    st.before ∙ ap (λ n. n + f.k * extent (f.i + 1)) (wh.is ∙ ap (λ n. wh.times * n) (extent_halves f.i (omega (arith, long, w.short))))
+    ∙ doubled wh.times (extent (f.i + 1)) f.k in
     let is : number word ≡ 2 * wh.times + f.k =
-    w.written ∙ ap (λ n. n / room (length word)) sum_is ∙ ap (λ l. (2 * wh.times + f.k) * room (f.i + 1) / room l) long
-    ∙ div_room (2 * wh.times + f.k) (f.i + 1) in (
+    w.written ∙ ap (λ n. n / extent (length word)) sum_is ∙ ap (λ l. (2 * wh.times + f.k) * extent (f.i + 1) / extent l) long
+    ∙ div_extent (2 * wh.times + f.k) (f.i + 1) in (
       f.i,
       f.k,
       record {
@@ -192,45 +192,45 @@ spelled t word s w =
         times = wh.times;
         before = wh.is;
         is = is;
-        exact = ap (λ l. number word * room l) long ∙ ap (λ n. n * room (f.i + 1)) is ∙ sym sum_is;
+        exact = ap (λ l. number word * extent l) long ∙ ap (λ n. n * extent (f.i + 1)) is ∙ sym sum_is;
       },
     )
 
 -- a code's space lies before each later position
-space_later : (ls : List ℕ) (p q l : ℕ) → p < q → slice_get ls p ≡ Some l → space (take p ls) + room l ≤ space (take q ls)
+space_later : (ls : List ℕ) (p q l : ℕ) → p < q → slice_get ls p ≡ Some l → space (take p ls) + extent l ≤ space (take q ls)
 unfolding space
 space_later ls p q l h e =
     let inside : p < length ls = slice_get_within ls p l e in
-    let more : sum_by room (take (p + 1) ls) ≡ sum_by room (take p ls) + room (get_or ls p 0) = sum_by_more room ls p 0 inside in
-    let here : room (get_or ls p 0) ≡ room l = ap room (get_or_from_slice_get ls p l 0 e) in
+    let more : sum_by extent (take (p + 1) ls) ≡ sum_by extent (take p ls) + extent (get_or ls p 0) = sum_by_more extent ls p 0 inside in
+    let here : extent (get_or ls p 0) ≡ extent l = ap extent (get_or_from_slice_get ls p l 0 e) in
     let front : take (p + 1) (take q ls) ≡ take (p + 1) ls = take-take (p + 1) q ls (omega arith) in
-    let le : sum_by room (take (p + 1) (take q ls)) ≤ sum_by room (take q ls) = sum_by-take-le room (take q ls) (p + 1) in
-    omega (arith, ap (λ t. sum_by room t) front)
+    let le : sum_by extent (take (p + 1) (take q ls)) ≤ sum_by extent (take q ls) = sum_by-take-le extent (take q ls) (p + 1) in
+    omega (arith, ap (λ t. sum_by extent t) front)
 
 -- the space of a code is a multiple of that of a longer one
-room_inside : (a z : ℕ) → a + z ≤ 16 → room a ≡ 2 ^ z * room (a + z)
-room_inside a z h =
+extent_inside : (a z : ℕ) → a + z ≤ 16 → extent a ≡ 2 ^ z * extent (a + z)
+extent_inside a z h =
     let e : 16 - a ≡ z + (16 - (a + z)) = omega arith in
     ap (λ n. 2 ^ n) e ∙ pow-add 2 z (16 - (a + z))
 
-pub room_all : (l : ℕ) → l ≤ 16 → 65536 ≡ 2 ^ l * room l
-room_all l h =
+pub extent_all : (l : ℕ) → l ≤ 16 → 65536 ≡ 2 ^ l * extent l
+extent_all l h =
     let e : 0 + l ≡ l = omega arith in
-    room_inside 0 l (omega arith) ∙ ap (λ n. 2 ^ l * room n) e
+    extent_inside 0 l (omega arith) ∙ ap (λ n. 2 ^ l * extent n) e
 
 -- where the space of the longer code begins
 number_inside : (a z : List Bool) → length a + length z ≤ 16
-    → (number (a ++ z) * room (length (a ++ z)) ≡ number a * room (length a) + number z * room (length a + length z))
-    × (number z * room (length a + length z) < room (length a))
+    → (number (a ++ z) * extent (length (a ++ z)) ≡ number a * extent (length a) + number z * extent (length a + length z))
+    × (number z * extent (length a + length z) < extent (length a))
 number_inside a z h =
-    let r = room (length a + length z) in
+    let r = extent (length a + length z) in
     let e : length (a ++ z) ≡ length a + length z = length-append a z in
-    let whole_room : room (length a) ≡ 2 ^ length z * room (length a + length z) = room_inside (length a) (length z) h in
-    let small : number z * room (length a + length z) < 2 ^ length z * room (length a + length z) = mul-lt-mul_of_pos_right (number_below z) (room_pos (length a + length z)) in (
-      ap (λ l. number (a ++ z) * room l) e
+    let whole_extent : extent (length a) ≡ 2 ^ length z * extent (length a + length z) = extent_inside (length a) (length z) h in
+    let small : number z * extent (length a + length z) < 2 ^ length z * extent (length a + length z) = mul-lt-mul_of_pos_right (number_below z) (extent_pos (length a + length z)) in (
+      ap (λ l. number (a ++ z) * extent l) e
           ∙ ap (λ n. n * r) (number-append a z)
           ∙ add-mul (number a * 2 ^ length z) (number z) r
-          ∙ ap (λ n. n + number z * r) (mul_assoc (number a) (2 ^ length z) r ∙ ap (λ n. number a * n) (sym whole_room)),
+          ∙ ap (λ n. n + number z * r) (mul_assoc (number a) (2 ^ length z) r ∙ ap (λ n. number a * n) (sym whole_extent)),
       omega arith,
     )
 
@@ -243,7 +243,7 @@ same_place t a z s u v w =
     let second = (spelled t (a ++ z) u w).2 in
     ⊎_elim (λ e. e) (λ o. ⊎_elim
     (λ lt. absurd (omega (arith, n.0, n.1, first.exact, second.exact, space_later (lengths t.counts) v.place w.place (length a) lt v.long)))
-    (λ gt. absurd (omega (arith, n.0, n.1, first.exact, second.exact, room_pos (length (a ++ z)), space_later (lengths t.counts) w.place v.place (length (a ++ z)) gt w.long)))
+    (λ gt. absurd (omega (arith, n.0, n.1, first.exact, second.exact, extent_pos (length (a ++ z)), space_later (lengths t.counts) w.place v.place (length (a ++ z)) gt w.long)))
     o)
     (cases_order v.place w.place)
 
@@ -286,26 +286,26 @@ one_word t a b x y s u v w e = ⊎_elim
     (cases_lt (length a) (length b))
 
 -- each position of a valid table has a code
-pub word_exists : (t : Table) (place s : ℕ) → IsLawfulTable t.counts t.symbols → slice_get t.symbols place ≡ Some s
+pub word_exists : (t : Table) (place s : ℕ) → IsValidTable t.counts t.symbols → slice_get t.symbols place ≡ Some s
     → (word : List Bool) × (w : IsWord t word s) × (w.place ≡ place)
 unfolding space
-word_exists t place s lawful known =
-    let inside : place < sum t.counts = omega (arith, slice_get_within t.symbols place s known, lawful.each) in
+word_exists t place s valid known =
+    let inside : place < sum t.counts = omega (arith, slice_get_within t.symbols place s known, valid.each) in
     let f = found t.counts place inside in
-    let st = stands t.counts f.i f.k place f.within f.small f.at in
-    let short : f.i < 16 = omega (arith, f.within, lawful.sixteen) in
+    let st = lies t.counts f.i f.k place f.within f.small f.at in
+    let short : f.i < 16 = omega (arith, f.within, valid.sixteen) in
     let wh = whole t.counts f.i (omega (arith, f.within)) (omega (arith, short)) in
     let v = 2 * wh.times + f.k in
-    let r = room (f.i + 1) in
-    let sum_is : sum_by room (take place (lengths t.counts)) ≡ v * room (f.i + 1) =
-    st.before ∙ ap (λ n. n + f.k * room (f.i + 1)) (wh.is ∙ ap (λ n. wh.times * n) (room_halves f.i short))
-    ∙ doubled wh.times (room (f.i + 1)) f.k in
+    let r = extent (f.i + 1) in
+    let sum_is : sum_by extent (take place (lengths t.counts)) ≡ v * extent (f.i + 1) =
+    st.before ∙ ap (λ n. n + f.k * extent (f.i + 1)) (wh.is ∙ ap (λ n. wh.times * n) (extent_halves f.i short))
+    ∙ doubled wh.times (extent (f.i + 1)) f.k in
     let there : place < length (lengths t.counts) = slice_get_within (lengths t.counts) place (f.i + 1) st.long in
-    let own : room (get_or (lengths t.counts) place 0) ≡ room (f.i + 1) = ap room (get_or_from_slice_get (lengths t.counts) place (f.i + 1) 0 st.long) in
-    let le : sum_by room (take place (lengths t.counts)) + room (get_or (lengths t.counts) place 0) ≤ sum_by room (lengths t.counts) = sum_by_more_le room (lengths t.counts) place 0 there in
-    let all : 65536 ≡ 2 ^ (f.i + 1) * room (f.i + 1) = room_all (f.i + 1) (omega (arith, short)) in
-    let below : v * room (f.i + 1) < 2 ^ (f.i + 1) * room (f.i + 1) = omega (arith, lawful.roomy, room_pos (f.i + 1)) in
-    let fits : v < 2 ^ (f.i + 1) = lt_of_mul-lt-mul_right (room (f.i + 1)) below in
+    let own : extent (get_or (lengths t.counts) place 0) ≡ extent (f.i + 1) = ap extent (get_or_from_slice_get (lengths t.counts) place (f.i + 1) 0 st.long) in
+    let le : sum_by extent (take place (lengths t.counts)) + extent (get_or (lengths t.counts) place 0) ≤ sum_by extent (lengths t.counts) = sum_by_more_le extent (lengths t.counts) place 0 there in
+    let all : 65536 ≡ 2 ^ (f.i + 1) * extent (f.i + 1) = extent_all (f.i + 1) (omega (arith, short)) in
+    let below : v * extent (f.i + 1) < 2 ^ (f.i + 1) * extent (f.i + 1) = omega (arith, valid.ample, extent_pos (f.i + 1)) in
+    let fits : v < 2 ^ (f.i + 1) = lt_of_mul-lt-mul_right (extent (f.i + 1)) below in
     let long : length (bits_of (f.i + 1) v) ≡ f.i + 1 = length-bits_of (f.i + 1) v in (
       bits_of (f.i + 1) v,
       record {
@@ -314,7 +314,7 @@ word_exists t place s lawful known =
         long = st.long ∙ ap (λ n. Some n) (sym long);
         short = omega (arith, long, short);
         written = number-bits_of (f.i + 1) v ∙ mod-eq_of_lt fits
-            ∙ sym (ap (λ n. n / room (length (bits_of (f.i + 1) v))) sum_is ∙ ap (λ l. v * room (f.i + 1) / room l) long ∙ div_room v (f.i + 1));
+            ∙ sym (ap (λ n. n / extent (length (bits_of (f.i + 1) v))) sum_is ∙ ap (λ l. v * extent (f.i + 1) / extent l) long ∙ div_extent v (f.i + 1));
       },
       refl,
     )

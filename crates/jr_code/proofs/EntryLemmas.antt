@@ -7,11 +7,11 @@ use Rattle.std.proofs.lemmas.Option.{slice_get_within}
 use Rattle.std.proofs.lemmas.List.{get_or-replicate, length-take, length-take-le, append-nil, take_all, take-append-drop, take_at}
 use Rattle.std.proofs.Math.Nat.{mul_comm, mul-div_left, mul-le-mul_right, le_of_mul-le-mul_right, add-mul, mod-eq_of_lt}
 use Rattle.jr_code.specs.Bits.{number, bits_of}
-use Rattle.jr_code.specs.Code.{Table, IsWord, IsLawfulTable, IsEntryTo, AreEntriesTo, AreEntries, IsEntry, ArePairs, IsPackedPair, nothing, outside, lengths_from, lengths, room, space}
+use Rattle.jr_code.specs.Code.{Table, IsWord, IsValidTable, IsEntryTo, AreEntriesTo, AreEntries, IsEntry, ArePairs, IsPackedPair, nothing, outside, lengths_from, lengths, extent, space}
 use Rattle.jr_code.specs.declared.packed.Packed.{Packed}
 use Rattle.jr_code.proofs.BitLemmas.{length-bits_of, number-bits_of, slice_get-append_left, slice_get-append_right}
 use Rattle.jr_code.proofs.RegisterLemmas.{take-held}
-use Rattle.jr_code.proofs.CodeLemmas.{lengths-append, space-append, room_all, room_pos, same_times, spelled}
+use Rattle.jr_code.proofs.CodeLemmas.{lengths-append, space-append, extent_all, extent_pos, same_times, spelled}
 use Rattle.jr_code.proofs.ReadLemmas.{word_found, word_not_empty, full_more}
 
 -- the number of the windows of n bits that begin with a code
@@ -46,39 +46,39 @@ take-bits_of long n b h = ap (λ t. take long t) (sym (append-nil (bits_of n b))
 -- ---- the codes of i + 1 bits, if `end` is past the greatest of i bits
 
 -- the codes of the first i lengths fit into the code space
-room_within : (t : Table) (i : ℕ) → IsLawfulTable t.counts t.symbols → space (lengths (take i t.counts)) ≤ 65536
-room_within t i lawful =
+extent_within : (t : Table) (i : ℕ) → IsValidTable t.counts t.symbols → space (lengths (take i t.counts)) ≤ 65536
+extent_within t i valid =
     let split : space (lengths t.counts) ≡ space (lengths (take i t.counts)) + space (lengths_from (1 + length (take i t.counts)) (drop i t.counts)) =
     ap (λ c. space (lengths c)) (sym (take-append-drop i t.counts)) ∙ ap space (lengths-append 1 (take i t.counts) (drop i t.counts))
     ∙ space-append (lengths (take i t.counts)) (lengths_from (1 + length (take i t.counts)) (drop i t.counts)) in
-    omega (arith, lawful.roomy)
+    omega (arith, valid.ample)
 
-pub words_fit : (t : Table) (i end : ℕ) → IsLawfulTable t.counts t.symbols → i < 16 → end * room i ≡ space (lengths (take i t.counts)) → 2 * end + get_or t.counts i 0 ≤ 2 ^ (i + 1)
-words_fit t i end lawful short full =
+pub words_fit : (t : Table) (i end : ℕ) → IsValidTable t.counts t.symbols → i < 16 → end * extent i ≡ space (lengths (take i t.counts)) → 2 * end + get_or t.counts i 0 ≤ 2 ^ (i + 1)
+words_fit t i end valid short full =
     let after = 2 * end + get_or t.counts i 0 in
-    let more : (2 * end + get_or t.counts i 0) * room (i + 1) ≡ space (lengths (take (i + 1) t.counts)) =
-    full_more t i end (get_or t.counts i 0) (2 * end + get_or t.counts i 0) short (omega (arith, lawful.sixteen)) full refl refl in
-    let all : 65536 ≡ 2 ^ (i + 1) * room (i + 1) = room_all (i + 1) (omega arith) in
-    let le : (2 * end + get_or t.counts i 0) * room (i + 1) ≤ 2 ^ (i + 1) * room (i + 1) = omega (arith, room_within t (i + 1) lawful) in
-    le_of_mul-le-mul_right le (room_pos (i + 1))
+    let more : (2 * end + get_or t.counts i 0) * extent (i + 1) ≡ space (lengths (take (i + 1) t.counts)) =
+    full_more t i end (get_or t.counts i 0) (2 * end + get_or t.counts i 0) short (omega (arith, valid.sixteen)) full refl refl in
+    let all : 65536 ≡ 2 ^ (i + 1) * extent (i + 1) = extent_all (i + 1) (omega arith) in
+    let le : (2 * end + get_or t.counts i 0) * extent (i + 1) ≤ 2 ^ (i + 1) * extent (i + 1) = omega (arith, extent_within t (i + 1) valid) in
+    le_of_mul-le-mul_right le (extent_pos (i + 1))
 
-pub word_of : (t : Table) (i end k s : ℕ) → IsLawfulTable t.counts t.symbols → i < 16 → end * room i ≡ space (lengths (take i t.counts)) → k < get_or t.counts i 0
+pub word_of : (t : Table) (i end k s : ℕ) → IsValidTable t.counts t.symbols → i < 16 → end * extent i ≡ space (lengths (take i t.counts)) → k < get_or t.counts i 0
     → slice_get t.symbols (sum (take i t.counts) + k) ≡ Some s → IsWord t (bits_of (i + 1) (2 * end + k)) s
-word_of t i end k s lawful short full small known =
+word_of t i end k s valid short full small known =
     let bs = bits_of (i + 1) (2 * end + k) in
     let long : length (bits_of (i + 1) (2 * end + k)) ≡ i + 1 = length-bits_of (i + 1) (2 * end + k) in
     let same : take (i + 1) (bits_of (i + 1) (2 * end + k)) ≡ bits_of (i + 1) (2 * end + k) = take_all (i + 1) (bits_of (i + 1) (2 * end + k)) (omega (arith, long)) in
-    let below : 2 * end + k < 2 ^ (i + 1) = omega (arith, words_fit t i end lawful short full) in
+    let below : 2 * end + k < 2 ^ (i + 1) = omega (arith, words_fit t i end valid short full) in
     subst (λ b. IsWord t b s) same
-    (word_found t bs i (2 * end + k) end k s short (omega (arith, lawful.sixteen)) (omega (arith, long)) full
+    (word_found t bs i (2 * end + k) end k s short (omega (arith, valid.sixteen)) (omega (arith, long)) full
     (ap number same ∙ number-bits_of (i + 1) (2 * end + k) ∙ mod-eq_of_lt below) refl small known)
 
-pub word_among : (t : Table) (i end : ℕ) → end * room i ≡ space (lengths (take i t.counts)) → (word : List Bool) (s : ℕ) → IsWord t word s → length word ≡ i + 1
+pub word_among : (t : Table) (i end : ℕ) → end * extent i ≡ space (lengths (take i t.counts)) → (word : List Bool) (s : ℕ) → IsWord t word s → length word ≡ i + 1
     → (k : ℕ) × (k < get_or t.counts i 0) × (number word ≡ 2 * end + k)
 word_among t i end full word s w long =
     let sp = spelled t word s w in
     let same : sp.0 ≡ i = omega (arith, sp.2.long, long) in
-    let times : end ≡ sp.2.times = same_times end sp.2.times (room i) (room_pos i) (full ∙ ap (λ n. space (lengths (take n t.counts))) (sym same) ∙ sp.2.before ∙ ap (λ n. sp.2.times * room n) same) in
+    let times : end ≡ sp.2.times = same_times end sp.2.times (extent i) (extent_pos i) (full ∙ ap (λ n. space (lengths (take n t.counts))) (sym same) ∙ sp.2.before ∙ ap (λ n. sp.2.times * extent n) same) in
     (sp.1, omega (arith, sp.2.small, ap (λ n. get_or t.counts n 0) same), omega (arith, sp.2.is, times))
 
 -- an element of a part of a list

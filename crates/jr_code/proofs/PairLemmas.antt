@@ -25,13 +25,13 @@ taken_apart t bs s n m v is size enough is_value = record {
 -- a code, after it bits of which the first are its additional bits, and what is left
 pub word_apart : (t : Table) (bs mid new : List Bool) (s n m : ℕ) (v : ℤ) → IsWord t (take n bs) s → mid ≡ drop n bs → m ≡ s % 16 → m ≤ length mid → v ≡ value (take m mid) → new ≡ drop m mid
     → TakesExtended t s v bs new
-word_apart t bs mid new s n m v is left size enough is_value behind = record {
+word_apart t bs mid new s n m v is left size enough is_value after = record {
   word = take n bs;
   extra = take m mid;
   is = is;
   count = length-take-le m mid enough ∙ size;
   value_is = is_value;
-  split = sym (take-append-drop n bs) ∙ ap (λ b. take n bs ++ b) (sym left ∙ sym (take-append-drop m mid) ∙ ap (λ b. take m mid ++ b) (sym behind));
+  split = sym (take-append-drop n bs) ∙ ap (λ b. take n bs ++ b) (sym left ∙ sym (take-append-drop m mid) ∙ ap (λ b. take m mid ++ b) (sym after));
 }
 
 -- what the first bits begin with, all bits begin with
@@ -50,7 +50,7 @@ taken_more t bs more s n v fits x = record {
 pub pair_held : (t : Table) (w s n m : ℕ) (v : ℤ) → IsWord t (take n (bits_of 11 w)) s → m ≡ s % 16 → n + m ≤ 11 → v ≡ extend m (w / 2 ^ (11 - (n + m)) % 2 ^ m)
     → (n + m ≤ 11) × TakesExtended t s v (bits_of 11 w) (drop (n + m) (bits_of 11 w))
 pair_held t w s n m v is size short is_value =
-    let behind = 11 - n in
+    let after = 11 - n in
     let all : bits_of 11 w ++ [] ≡ bits_of 11 w = append-nil (bits_of 11 w) in
     let left : drop n (bits_of 11 w) ≡ bits_of (11 - n) w ++ [] = ap (λ b. drop n b) (sym all) ∙ sym (drop-held n 11 w [] (omega arith)) in
     let e : 11 - n - m ≡ 11 - (n + m) = omega arith in

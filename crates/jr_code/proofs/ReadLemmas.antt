@@ -8,41 +8,41 @@ use Rattle.std.proofs.lemmas.List.Sums.{sum_by_more_le}
 use Rattle.std.proofs.lemmas.Option.{slice_get_read}
 use Rattle.std.proofs.Math.Nat.{mul_assoc, mul_comm, le-mul_of_pos_right, pow-le-pow_right, mod-eq_of_lt}
 use Rattle.jr_code.specs.Bits.{number, bits_of, window_of}
-use Rattle.jr_code.specs.Code.{IsEntry, Table, HasNoFirstWord, IsFirstWordWhereWhole, IsWord, IsLawfulTable, lengths_from, lengths, room, space}
+use Rattle.jr_code.specs.Code.{IsEntry, Table, HasNoFirstWord, IsFirstWordWhereWhole, IsWord, IsValidTable, lengths_from, lengths, extent, space}
 use Rattle.jr_code.proofs.BitLemmas.{length-bits_of, number-bits_of}
 use Rattle.jr_code.proofs.RegisterLemmas.{take-held}
-use Rattle.jr_code.proofs.CodeLemmas.{lengths-append, space-append, space_more, stands, room_halves, doubled, whole, room_pos, div_room, same_times, spelled, one_word}
+use Rattle.jr_code.proofs.CodeLemmas.{lengths-append, space-append, space_more, lies, extent_halves, doubled, whole, extent_pos, div_extent, same_times, spelled, one_word}
 
 -- ---- the codes of one length
 
 -- `code` is the number of the first i + 1 bits; `end` is past the greatest code of i bits
 pub word_found : (t : Table) (bs : List Bool) (i code end k s : ℕ) → i < 16 → i < length t.counts → i < length bs
-    → end * room i ≡ space (lengths (take i t.counts)) → number (take (i + 1) bs) ≡ code → code ≡ 2 * end + k → k < get_or t.counts i 0
+    → end * extent i ≡ space (lengths (take i t.counts)) → number (take (i + 1) bs) ≡ code → code ≡ 2 * end + k → k < get_or t.counts i 0
     → slice_get t.symbols (sum (take i t.counts) + k) ≡ Some s → IsWord t (take (i + 1) bs) s
 word_found t bs i code end k s short within enough full is split small known =
     let place = sum (take i t.counts) + k in
-    let st = stands t.counts i k place within small refl in
+    let st = lies t.counts i k place within small refl in
     let long : length (take (i + 1) bs) ≡ i + 1 = length-take-le (i + 1) bs (omega arith) in
-    let sum_is : space (take place (lengths t.counts)) ≡ (2 * end + k) * room (i + 1) =
-    st.before ∙ ap (λ n. n + k * room (i + 1)) (sym full ∙ ap (λ n. end * n) (room_halves i short)) ∙ doubled end (room (i + 1)) k in
+    let sum_is : space (take place (lengths t.counts)) ≡ (2 * end + k) * extent (i + 1) =
+    st.before ∙ ap (λ n. n + k * extent (i + 1)) (sym full ∙ ap (λ n. end * n) (extent_halves i short)) ∙ doubled end (extent (i + 1)) k in
     record {
       place = place;
       known = known;
       long = st.long ∙ ap (λ n. Some n) (sym long);
       short = omega arith;
-      written = is ∙ split ∙ sym (ap (λ n. n / room (length (take (i + 1) bs))) sum_is ∙ ap (λ l. (2 * end + k) * room (i + 1) / room l) long ∙ div_room (2 * end + k) (i + 1));
+      written = is ∙ split ∙ sym (ap (λ n. n / extent (length (take (i + 1) bs))) sum_is ∙ ap (λ l. (2 * end + k) * extent (i + 1) / extent l) long ∙ div_extent (2 * end + k) (i + 1));
     }
 
 -- no prefix of i + 1 bits is a code, if their number is past the greatest of them
 pub none_here : (t : Table) (bs word rest : List Bool) (i code end s : ℕ)
-    → end * room i ≡ space (lengths (take i t.counts)) → number (take (i + 1) bs) ≡ code → ((k : ℕ) → k < get_or t.counts i 0 → code ≡ 2 * end + k → ⊥)
+    → end * extent i ≡ space (lengths (take i t.counts)) → number (take (i + 1) bs) ≡ code → ((k : ℕ) → k < get_or t.counts i 0 → code ≡ 2 * end + k → ⊥)
     → IsWord t word s → bs ≡ word ++ rest → i < length word → i + 1 < length word
 none_here t bs word rest i code end s full is past w begins longer =
     ⊎_elim (λ e.
     let sp = spelled t word s w in
     let same : sp.0 ≡ i = omega (arith, sp.2.long, e) in
     let front : take (i + 1) bs ≡ word = ap (λ b. take (i + 1) b) begins ∙ take_at word rest (i + 1) (sym e) in
-    let times : end ≡ sp.2.times = same_times end sp.2.times (room i) (room_pos i) (full ∙ ap (λ n. space (lengths (take n t.counts))) (sym same) ∙ sp.2.before ∙ ap (λ n. sp.2.times * room n) same) in
+    let times : end ≡ sp.2.times = same_times end sp.2.times (extent i) (extent_pos i) (full ∙ ap (λ n. space (lengths (take n t.counts))) (sym same) ∙ sp.2.before ∙ ap (λ n. sp.2.times * extent n) same) in
     absurd (past sp.1 (omega (arith, sp.2.small, ap (λ n. get_or t.counts n 0) same)) (omega (arith, is, sp.2.is, ap number front, times))))
     (λ o. ⊎_elim (λ lt. lt) (λ gt. absurd (omega (arith, gt, longer))) o)
     (cases_order (i + 1) (length word))
@@ -58,22 +58,22 @@ known_there t symbols i k at s same each within small place read =
     let inside : at < length symbols = omega (arith, ap length same) in
     rw (← place, ← same) (slice_get_read symbols (length symbols) at s refl inside read)
 
-pub full_more : (t : Table) (i end count after : ℕ) → i < 16 → i < length t.counts → end * room i ≡ space (lengths (take i t.counts)) → count ≡ get_or t.counts i 0
-    → after ≡ 2 * end + count → after * room (i + 1) ≡ space (lengths (take (i + 1) t.counts))
+pub full_more : (t : Table) (i end count after : ℕ) → i < 16 → i < length t.counts → end * extent i ≡ space (lengths (take i t.counts)) → count ≡ get_or t.counts i 0
+    → after ≡ 2 * end + count → after * extent (i + 1) ≡ space (lengths (take (i + 1) t.counts))
 full_more t i end count after short within full is e =
-    ap (λ n. n * room (i + 1)) e ∙ sym (doubled end (room (i + 1)) count)
-    ∙ ap (λ n. end * n + count * room (i + 1)) (sym (room_halves i short))
-    ∙ ap (λ n. n + count * room (i + 1)) full
-    ∙ ap (λ n. space (lengths (take i t.counts)) + n * room (i + 1)) is
+    ap (λ n. n * extent (i + 1)) e ∙ sym (doubled end (extent (i + 1)) count)
+    ∙ ap (λ n. end * n + count * extent (i + 1)) (sym (extent_halves i short))
+    ∙ ap (λ n. n + count * extent (i + 1)) full
+    ∙ ap (λ n. space (lengths (take i t.counts)) + n * extent (i + 1)) is
     ∙ sym (space_more t.counts i within)
 
 -- a count shifted is the space of its codes
-pub shifted : (count i : ℕ) → count ≤ 255 → i < 16 → (count * 2 ^ (15 - i) % 4294967296 ≡ count * room (i + 1)) × (count * room (i + 1) ≤ 8355840)
+pub shifted : (count i : ℕ) → count ≤ 255 → i < 16 → (count * 2 ^ (15 - i) % 4294967296 ≡ count * extent (i + 1)) × (count * extent (i + 1) ≤ 8355840)
 shifted count i small h =
     let e : 15 - i ≡ 16 - (i + 1) = omega arith in
     let few : 15 - i ≤ 15 = omega arith in
     let pow : 2 ^ (15 - i) ≤ 2 ^ 15 = pow-le-pow_right (lit< tt) few in
-    let same : count * 2 ^ (15 - i) ≡ count * room (i + 1) = ap (λ n. count * 2 ^ n) e in
+    let same : count * 2 ^ (15 - i) ≡ count * extent (i + 1) = ap (λ n. count * 2 ^ n) e in
     let le : count * 2 ^ (15 - i) ≤ 255 * 2 ^ 15 = mul-le count (2 ^ (15 - i)) 255 (2 ^ 15) small pow in
     (mod-eq_of_lt (omega arith) ∙ same, omega arith)
 
@@ -120,41 +120,41 @@ pub record Longer (t : Table) (window k : ℕ) : Type 0 where
   pub none : (word rest : List Bool) (s : ℕ) → IsWord t word s → bits_of 16 window ≡ word ++ rest → 8 < length word → 8 + k < length word
 
 -- the least code of i + 1 bits is twice the end of those of i bits
-first_is : (t : Table) (i first : ℕ) → i < 16 → i < length t.counts → first * room (i + 1) ≡ space (lengths (take i t.counts))
-    → (end : ℕ) × (first ≡ 2 * end) × (end * room i ≡ space (lengths (take i t.counts)))
+first_is : (t : Table) (i first : ℕ) → i < 16 → i < length t.counts → first * extent (i + 1) ≡ space (lengths (take i t.counts))
+    → (end : ℕ) × (first ≡ 2 * end) × (end * extent i ≡ space (lengths (take i t.counts)))
 first_is t i first short within e =
     let wh = whole t.counts i (omega (arith, within)) (omega (arith, short)) in
-    let r = room (i + 1) in
-    let twice : first * room (i + 1) ≡ 2 * wh.times * room (i + 1) =
-    e ∙ wh.is ∙ ap (λ n. wh.times * n) (room_halves i short) ∙ sym (mul_assoc wh.times 2 (room (i + 1))) ∙ ap (λ n. n * room (i + 1)) (mul_comm wh.times 2) in
-    (wh.times, same_times first (2 * wh.times) (room (i + 1)) (room_pos (i + 1)) twice, sym wh.is)
+    let r = extent (i + 1) in
+    let twice : first * extent (i + 1) ≡ 2 * wh.times * extent (i + 1) =
+    e ∙ wh.is ∙ ap (λ n. wh.times * n) (extent_halves i short) ∙ sym (mul_assoc wh.times 2 (extent (i + 1))) ∙ ap (λ n. n * extent (i + 1)) (mul_comm wh.times 2) in
+    (wh.times, same_times first (2 * wh.times) (extent (i + 1)) (extent_pos (i + 1)) twice, sym wh.is)
 
 -- twice that end is the least code of the next length
-pub first_of : (t : Table) (k end : ℕ) → k < 8 → end * room (k + 8) ≡ space (lengths (take (k + 8) t.counts)) → 2 * end * room (k + 9) ≡ space (lengths (take (k + 8) t.counts))
+pub first_of : (t : Table) (k end : ℕ) → k < 8 → end * extent (k + 8) ≡ space (lengths (take (k + 8) t.counts)) → 2 * end * extent (k + 9) ≡ space (lengths (take (k + 8) t.counts))
 first_of t k end short e =
     let nine : k + 8 + 1 ≡ k + 9 = omega arith in
-    ap (λ n. n * room (k + 9)) (mul_comm 2 end) ∙ mul_assoc end 2 (room (k + 9)) ∙ ap (λ l. end * (2 * room l)) (sym nine)
-    ∙ ap (λ n. end * n) (sym (room_halves (k + 8) (omega (arith, short)))) ∙ e
+    ap (λ n. n * extent (k + 9)) (mul_comm 2 end) ∙ mul_assoc end 2 (extent (k + 9)) ∙ ap (λ l. end * (2 * extent l)) (sym nine)
+    ∙ ap (λ n. end * n) (sym (extent_halves (k + 8) (omega (arith, short)))) ∙ e
 
-pub long_found : (t : Table) (w k first m s : ℕ) → w < 65536 → k < 8 → k + 8 < length t.counts → first * room (k + 9) ≡ space (lengths (take (k + 8) t.counts))
+pub long_found : (t : Table) (w k first m s : ℕ) → w < 65536 → k < 8 → k + 8 < length t.counts → first * extent (k + 9) ≡ space (lengths (take (k + 8) t.counts))
     → w / 2 ^ (7 - k) ≡ first + m → m < get_or t.counts (k + 8) 0 → slice_get t.symbols (sum (take (k + 8) t.counts) + m) ≡ Some s
     → IsWord t (take (k + 9) (bits_of 16 w)) s
 long_found t w k first m s fits short within e code small known =
     let nine : k + 8 + 1 ≡ k + 9 = omega arith in
     let shift : 16 - (k + 9) ≡ 7 - k = omega arith in
-    let f = first_is t (k + 8) first (omega (arith, short)) within (ap (λ l. first * room l) nine ∙ e) in
+    let f = first_is t (k + 8) first (omega (arith, short)) within (ap (λ l. first * extent l) nine ∙ e) in
     let number_is : number (take (k + 8 + 1) (bits_of 16 w)) ≡ first + m =
     ap (λ l. number (take l (bits_of 16 w))) nine ∙ number_window (k + 9) w (omega (arith, short)) fits ∙ ap (λ j. w / 2 ^ j) shift ∙ code in
     subst (λ l. IsWord t (take l (bits_of 16 w)) s) nine
     (word_found t (bits_of 16 w) (k + 8) (first + m) f.0 m s (omega (arith, short)) within (omega (arith, short, length-bits_of 16 w)) f.2 number_is (omega (arith, f.1)) small known)
 
-pub long_none : (t : Table) (w k first : ℕ) → w < 65536 → k < 8 → k + 8 < length t.counts → first * room (k + 9) ≡ space (lengths (take (k + 8) t.counts))
+pub long_none : (t : Table) (w k first : ℕ) → w < 65536 → k < 8 → k + 8 < length t.counts → first * extent (k + 9) ≡ space (lengths (take (k + 8) t.counts))
     → ((m : ℕ) → m < get_or t.counts (k + 8) 0 → w / 2 ^ (7 - k) ≡ first + m → ⊥)
     → (word rest : List Bool) (s : ℕ) → IsWord t word s → bits_of 16 w ≡ word ++ rest → 8 + k < length word → 8 + (k + 1) < length word
 long_none t w k first fits short within e past word rest s is begins longer =
     let nine : k + 8 + 1 ≡ k + 9 = omega arith in
     let shift : 16 - (k + 9) ≡ 7 - k = omega arith in
-    let f = first_is t (k + 8) first (omega (arith, short)) within (ap (λ l. first * room l) nine ∙ e) in
+    let f = first_is t (k + 8) first (omega (arith, short)) within (ap (λ l. first * extent l) nine ∙ e) in
     let number_is : number (take (k + 8 + 1) (bits_of 16 w)) ≡ w / 2 ^ (7 - k) =
     ap (λ l. number (take l (bits_of 16 w))) nine ∙ number_window (k + 9) w (omega (arith, short)) fits ∙ ap (λ j. w / 2 ^ j) shift in
     omega (
@@ -206,9 +206,9 @@ pub place_within : (t : Table) (i shorter k : ℕ) → sum t.counts ≡ length t
     → shorter + k < length t.symbols
 place_within t i shorter k each within is small = omega (arith, each, is, small, sum_by_more_le (λ n. n) t.counts i 0 within)
 
-pub end_below : (t : Table) (i end : ℕ) → IsLawfulTable t.counts t.symbols → end * room i ≡ space (lengths (take i t.counts)) → end ≤ 65536
-end_below t i end lawful full =
+pub end_below : (t : Table) (i end : ℕ) → IsValidTable t.counts t.symbols → end * extent i ≡ space (lengths (take i t.counts)) → end ≤ 65536
+end_below t i end valid full =
     let split : space (lengths t.counts) ≡ space (lengths (take i t.counts)) + space (lengths_from (1 + length (take i t.counts)) (drop i t.counts)) =
     ap (λ c. space (lengths c)) (sym (take-append-drop i t.counts)) ∙ ap space (lengths-append 1 (take i t.counts) (drop i t.counts))
     ∙ space-append (lengths (take i t.counts)) (lengths_from (1 + length (take i t.counts)) (drop i t.counts)) in
-    omega (arith, lawful.roomy, le-mul_of_pos_right end (room_pos i))
+    omega (arith, valid.ample, le-mul_of_pos_right end (extent_pos i))

@@ -138,8 +138,8 @@ window_whole n v count held rest h few e =
     let long : length (take n bs) ≡ n = length-take-le n bs enough in
     ap (λ m. bits_of n m) e ∙ bits_of-number n (take n bs) long ∙ sym (take-append-le n bs (replicate n false) enough)
 
-zeros_behind : (count held : ℕ) → count ≤ 64 → held % 2 ^ (64 - count) ≡ 0 → drop count (bits_of 64 held) ≡ replicate (64 - count) false
-zeros_behind count held few clean =
+zeros_after : (count held : ℕ) → count ≤ 64 → held % 2 ^ (64 - count) ≡ 0 → drop count (bits_of 64 held) ≡ replicate (64 - count) false
+zeros_after count held few clean =
     let none : 0 % 2 ^ (64 - count) ≡ 0 = mod-eq_of_lt (pow_pos (64 - count)) in
     ap (λ t. drop count t) (sym (append-nil (bits_of 64 held))) ∙ sym (drop-held count 64 held [] few)
     ∙ append-nil (bits_of (64 - count) held) ∙ bits_of-congr (64 - count) held 0 (clean ∙ sym none) ∙ bits_of-zero (64 - count)
@@ -155,7 +155,7 @@ pub window_is : (n count held : ℕ) (rest : List ℕ) → n ≤ 16 → count �
 window_is n count held rest short few clean none =
     let all : upper_bits count held ++ bits rest ≡ upper_bits count held = ap (λ r. upper_bits count held ++ bits r) none ∙ append-nil (upper_bits count held) in
     let whole : bits_of 64 held ≡ upper_bits count held ++ replicate (64 - count) false =
-    sym (take-append-drop count (bits_of 64 held)) ∙ ap (λ t. upper_bits count held ++ t) (zeros_behind count held few clean) in
+    sym (take-append-drop count (bits_of 64 held)) ∙ ap (λ t. upper_bits count held ++ t) (zeros_after count held few clean) in
     sym (first_is n held (omega (arith, short)))
     ∙ ap (λ t. take n t) whole
     ∙ take_zeros (upper_bits count held) n (64 - count) n (omega (arith, length-first count held few, short, few)) (omega arith)
@@ -172,9 +172,9 @@ shifted_out n count held h few =
     ∙ ap (λ k. held * 2 ^ n / 2 ^ k % 2 ^ (count - n)) (sym more)
     ∙ ap (λ m. m % 2 ^ (count - n)) (sym (shr-shr (held * 2 ^ n) n (64 - count)) ∙ ap (λ m. m / 2 ^ (64 - count)) (shl-shr held n))
 
-pub front_behind : (n count held : ℕ) (rest : List ℕ) → n ≤ count → count ≤ 64
+pub front_after : (n count held : ℕ) (rest : List ℕ) → n ≤ count → count ≤ 64
     → upper_bits (count - n) (held * 2 ^ n % 2 ^ 64) ++ bits rest ≡ drop n (upper_bits count held ++ bits rest)
-front_behind n count held rest h few =
+front_after n count held rest h few =
     let g : 0 + (count - n) ≡ count - n = omega arith in
     let left : upper_bits (count - n) (held * 2 ^ n % 2 ^ 64) ≡ bits_of (count - n) (held / 2 ^ (64 - count)) =
     first_is (count - n) (held * 2 ^ n % 2 ^ 64) (omega (arith, few))
@@ -185,8 +185,8 @@ front_behind n count held rest h few =
     ∙ drop-held n count (held / 2 ^ (64 - count)) rest h
     ∙ ap (λ t. drop n (t ++ bits rest)) (sym (first_is count held few))
 
-pub clean_behind : (n count held : ℕ) → n ≤ count → count ≤ 64 → held % 2 ^ (64 - count) ≡ 0 → held * 2 ^ n % 2 ^ 64 % 2 ^ (64 - (count - n)) ≡ 0
-clean_behind n count held h few clean =
+pub clean_after : (n count held : ℕ) → n ≤ count → count ≤ 64 → held % 2 ^ (64 - count) ≡ 0 → held * 2 ^ n % 2 ^ 64 % 2 ^ (64 - (count - n)) ≡ 0
+clean_after n count held h few clean =
     let whole : count - n + (64 - (count - n)) ≡ 64 = omega arith in
     let more : 64 - count + n ≡ 64 - (count - n) = omega arith in
     ap (λ k. held * 2 ^ n % 2 ^ k % 2 ^ (64 - (count - n))) (sym whole)

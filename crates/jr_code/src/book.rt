@@ -3,7 +3,7 @@
 ghost use Rattle.std.specs.Prelude.{◌≡◌, ◌≢◌, ◌<◌, ◌≤◌, ◌-◌, ◌%◌, ◌^◌, ◌↔◌, ◌++◌, ℕ, List, Bool, IsTrue, length, IfSome, IfNone, IfOk, OnOk, sum};
 ghost use Rattle.std.proofs.Common.{rules};
 ghost use Rattle.std.specs.Cmp.Rules.{comparing};
-ghost use Rattle.jr_code.specs.Code.{same_table, Table, IsWord, IsLawfulTable, HasTooMany, IsOverfull, AreEntries, ArePairs, TakesExtended, HasNoExtended, TakesPlaces, HasNoPlaces, GoesOn, IsInFront, IsPrefixFree, unpacked, places_in};
+ghost use Rattle.jr_code.specs.Code.{same_table, Table, IsWord, IsValidTable, HasTooMany, IsOverfull, AreEntries, ArePairs, TakesExtended, HasNoExtended, TakesPlaces, HasNoPlaces, GoesOn, IsInFront, IsPrefixFree, unpacked, places_in};
 ghost use Rattle.jr_code.specs.Bits.{upper_bits};
 ghost use Rattle.jr_code.specs.Register.{bits_in};
 
@@ -26,13 +26,13 @@ pub struct CodeBook {
 }
 
 impl Model for CodeBook {
-    ghost use Rattle.jr_code.specs.Code.{Table, IsLawfulTable, ArePairs};
+    ghost use Rattle.jr_code.specs.Code.{Table, IsValidTable, ArePairs};
 
     ghost Value = { Table };
 
     ghost view = { λ b. b.words };
 
-    ghost invariant = { λ b. ArePairs b.words b.pairs × IsLawfulTable b.words.counts b.words.symbols };
+    ghost invariant = { λ b. ArePairs b.words b.pairs × IsValidTable b.words.counts b.words.symbols };
 }
 
 impl PartialEq for CodeBook {
@@ -58,7 +58,7 @@ impl CodeBook {
     /// empty.
     pub fn new(alloc: Global, counts: &[u8; 16], symbols: &[u8]) -> Result<CodeBook, CodeFault>
         ensures book { IfOk result (λ b. b ≡ record { counts = counts.now; symbols = symbols.now }) }
-        ensures lawful { OnOk result (IsLawfulTable counts.now symbols.now) }
+        ensures valid { OnOk result (IsValidTable counts.now symbols.now) }
         ensures too_many { (result ≡ Err CodeFault.TooMany) ↔ HasTooMany counts.now symbols.now }
         ensures overfull { (result ≡ Err CodeFault.Overfull) ↔ (IsOverfull counts.now × ¬ HasTooMany counts.now symbols.now) }
     {
@@ -78,7 +78,7 @@ impl CodeBook {
         requires each { sum counts.now ≡ length symbols.now }
         requires few { length symbols.now ≤ 256 }
         ensures book { IfOk result (λ b. b ≡ record { counts = counts.now; symbols = symbols.now }) }
-        ensures lawful { OnOk result (IsLawfulTable counts.now symbols.now) }
+        ensures valid { OnOk result (IsValidTable counts.now symbols.now) }
         ensures enough { result ≢ Err CodeFault.TooMany }
         ensures overfull { (result ≡ Err CodeFault.Overfull) ↔ IsOverfull counts.now }
     {
@@ -87,7 +87,7 @@ impl CodeBook {
 
     /// Asserts, for callers that rest on it, that the book is a valid table (T.81, Annex C).
     pub fn assert_invariant(&self)
-        ensures { IsLawfulTable self.now.counts self.now.symbols }
+        ensures { IsValidTable self.now.counts self.now.symbols }
     {
         let _ = &self.words;
     }
@@ -157,12 +157,12 @@ impl CodeBook {
     {
         let code = self.pair(bits.register);
         if code.long() <= bits.register.count {
-            bits.register = bits.register.behind(code.long());
+            bits.register = bits.register.after(code.long());
             return Some(code);
         }
         let register = bits.register.refilled();
         let code = self.rare_places(register.held, register.count)?;
-        bits.register = register.behind(code.long());
+        bits.register = register.after(code.long());
         Some(code)
     }
 
@@ -177,11 +177,11 @@ impl CodeBook {
         let next = self.pair(bits.register);
         let register = bits.register.refilled();
         if next.long() <= bits.register.count {
-            bits.register = register.behind(next.long());
+            bits.register = register.after(next.long());
             return Some(next);
         }
         let next = self.rare_places(register.held, register.count)?;
-        bits.register = register.behind(next.long());
+        bits.register = register.after(next.long());
         Some(next)
     }
 

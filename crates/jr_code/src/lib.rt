@@ -13,7 +13,7 @@ mod words;
 pub use bits::Bits;
 pub use book::CodeBook;
 pub use jr_base::Memory;
-pub use laws::{each_place_has_a_word, one_word, same_table_tells};
+pub use laws::{each_place_has_a_word, one_word, same_table_reads};
 pub use packed::Packed;
 pub use table::{CodeFault, CodeTable, word_count};
 pub use word_book::WordBook;

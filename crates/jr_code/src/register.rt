@@ -129,7 +129,7 @@ impl<'a> Register<'a> {
 
     /// Returns the bits after the next n.
     #[inline(always)]
-    pub(crate) fn behind(self, n: u32) -> Register<'a>
+    pub(crate) fn after(self, n: u32) -> Register<'a>
         requires { n ≤ self.count }
         ensures { bits_in result ≡ drop n (bits_in self.entry) }
     {

@@ -1,7 +1,7 @@
 //! Code tables as a file defines them.
 
 ghost use Rattle.std.specs.Prelude.{◌≡◌, ◌≢◌, ◌≤◌, ◌↔◌, IsTrue, length, IfOk, OnOk, sum};
-ghost use Rattle.jr_code.specs.Code.{same_table, IsLawfulTable, IsOverfull, space, lengths};
+ghost use Rattle.jr_code.specs.Code.{same_table, IsValidTable, IsOverfull, space, lengths};
 
 use crate::book::CodeBook;
 use crate::word_book::WordBook;
@@ -33,13 +33,13 @@ pub struct CodeTable {
 }
 
 impl Model for CodeTable {
-    ghost use Rattle.jr_code.specs.Code.{Table, IsLawfulTable};
+    ghost use Rattle.jr_code.specs.Code.{Table, IsValidTable};
 
     ghost Value = { Table };
 
     ghost view = { λ b. record { counts = b.counts; symbols = b.symbols.items } };
 
-    ghost invariant = { λ b. IsLawfulTable b.counts b.symbols.items };
+    ghost invariant = { λ b. IsValidTable b.counts b.symbols.items };
 }
 
 impl CodeTable {
@@ -53,7 +53,7 @@ impl CodeTable {
         requires each { sum counts.now ≡ length symbols.now }
         requires few { length symbols.now ≤ 256 }
         ensures table { IfOk result (λ t. t ≡ record { counts = counts.now; symbols = symbols.now }) }
-        ensures lawful { OnOk result (IsLawfulTable counts.now symbols.now) }
+        ensures valid { OnOk result (IsValidTable counts.now symbols.now) }
         ensures enough { result ≢ Err CodeFault.TooMany }
         ensures overfull { (result ≡ Err CodeFault.Overfull) ↔ IsOverfull counts.now }
     {
@@ -84,14 +84,14 @@ impl CodeTable {
 
     /// Asserts, for callers that rest on it, that the table is valid (T.81, Annex C).
     pub(crate) fn assert_invariant(&self)
-        ensures { IsLawfulTable self.now.counts self.now.symbols }
+        ensures { IsValidTable self.now.counts self.now.symbols }
     {
         let _ = &self.counts;
     }
 
     /// Returns whether both have the same counts and symbols.
     pub(crate) fn is_same(&self, other: &CodeTable) -> bool
-        ensures tells { result ≡ same_table self.now other.now }
+        ensures reports { result ≡ same_table self.now other.now }
         ensures same { IsTrue result ↔ (self.now ≡ other.now) }
     {
         self.counts == other.counts && self.symbols.as_slice() == other.symbols.as_slice()

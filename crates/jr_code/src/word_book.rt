@@ -3,7 +3,7 @@
 ghost use Rattle.std.specs.Prelude.{◌≡◌, ◌≢◌, ◌<◌, ◌≤◌, ◌-◌, ◌%◌, ◌^◌, ◌↔◌, ◌++◌, ℕ, List, Bool, IsTrue, [], IfSome, IfNone, IfOk, take};
 ghost use Rattle.std.proofs.Common.{rules};
 ghost use Rattle.std.specs.Cmp.Rules.{comparing};
-ghost use Rattle.jr_code.specs.Code.{same_table, IsWord, IsLawfulTable, AreEntries, AreLong, IsFirstWordWhereWhole, HasNoFirstWord, TakesExtended, HasNoExtended, IsInFront, IsPrefixFree};
+ghost use Rattle.jr_code.specs.Code.{same_table, IsWord, IsValidTable, AreEntries, AreLong, IsFirstWordWhereWhole, HasNoFirstWord, TakesExtended, HasNoExtended, IsInFront, IsPrefixFree};
 ghost use Rattle.jr_code.specs.Bits.{upper_bits};
 ghost use Rattle.jr_code.specs.Register.{bits_in};
 
@@ -26,13 +26,13 @@ pub struct WordBook {
 }
 
 impl Model for WordBook {
-    ghost use Rattle.jr_code.specs.Code.{Table, IsLawfulTable, AreEntries, AreLong};
+    ghost use Rattle.jr_code.specs.Code.{Table, IsValidTable, AreEntries, AreLong};
 
     ghost Value = { Table };
 
     ghost view = { λ b. b.table };
 
-    ghost invariant = { λ b. AreEntries b.table b.entries × AreLong b.table b.long × IsLawfulTable b.table.counts b.table.symbols };
+    ghost invariant = { λ b. AreEntries b.table b.entries × AreLong b.table b.long × IsValidTable b.table.counts b.table.symbols };
 }
 
 impl PartialEq for WordBook {
@@ -48,7 +48,7 @@ impl PartialEq for WordBook {
 impl WordBook {
     /// Returns whether both have the same counts and symbols.
     pub fn is_same(&self, other: &WordBook) -> bool
-        ensures tells { result ≡ same_table self.now other.now }
+        ensures reports { result ≡ same_table self.now other.now }
         ensures same { IsTrue result ↔ (self.now ≡ other.now) }
     {
         self.table.is_same(&other.table)
@@ -56,7 +56,7 @@ impl WordBook {
 
     /// Asserts, for callers that rest on it, that the book is a valid table (T.81, Annex C).
     pub fn assert_invariant(&self)
-        ensures { IsLawfulTable self.now.counts self.now.symbols }
+        ensures { IsValidTable self.now.counts self.now.symbols }
     {
         let _ = &self.table;
     }
@@ -109,12 +109,12 @@ impl WordBook {
         if register.count >= 32
             && let Some((symbol, long)) = self.short_word(register)
         {
-            bits.register = register.behind(u32::from(long));
+            bits.register = register.after(u32::from(long));
             return Some(symbol);
         }
         let (symbol, long) = self.rare_word(register.held, register.count)?;
         let count = u32::from(long);
-        bits.register = register.behind(count);
+        bits.register = register.after(count);
         Some(symbol)
     }
 
@@ -131,7 +131,7 @@ impl WordBook {
             && let Some((symbol, long)) = self.short_word(register)
         {
             let mut rest = Bits {
-                register: register.behind(u32::from(long)),
+                register: register.after(u32::from(long)),
             };
             let value = rest.extra(u32::from(symbol % 16))?;
             *bits = rest;
@@ -140,7 +140,7 @@ impl WordBook {
         let both = self.rare_pair(register.held, register.count)?;
         let count = u32::from(both.long);
         let value = i32::from(both.value);
-        bits.register = register.behind(count);
+        bits.register = register.after(count);
         Some((both.symbol, value))
     }
 
@@ -161,7 +161,7 @@ impl WordBook {
             count,
         };
         let mut rest = Bits {
-            register: register.behind(u32::from(long)),
+            register: register.after(u32::from(long)),
         };
         let size = symbol % 16;
         let count = u32::from(size);

@@ -2,7 +2,7 @@
 
 ghost use Rattle.std.specs.Prelude.{◌≡◌, ◌≢◌, ◌<◌, ◌≤◌, ◌+◌, ◌-◌, ◌*◌, ◌/◌, ◌%◌, ◌^◌, ℕ, List, Bool, Some, None, slice_get, slice_index_or, length, IfSome, IfNone, take, sum, pos, negsuc, ◌≤ℤ◌};
 ghost use Rattle.jr_code.specs.Bits.{bits_of, number};
-ghost use Rattle.jr_code.specs.Code.{Table, IsWord, HasShortWordsOnly, AreEntries, AreEntriesTo, ArePairs, IsPair, AreLong, room, space, lengths};
+ghost use Rattle.jr_code.specs.Code.{Table, IsWord, HasShortWordsOnly, AreEntries, AreEntriesTo, ArePairs, IsPair, AreLong, extent, space, lengths};
 
 use crate::bits::extend;
 use crate::packed::{LOOKED_UP, Packed, WINDOWS, places_of};
@@ -112,7 +112,7 @@ impl CodeTable {
     /// Returns what follows the greatest code of that length, and the number of codes that are not longer.
     fn up_to(&self, length: usize) -> (u32, u32)
         requires { length ≤ 16 }
-        ensures end { result.0 * room length ≡ space (lengths (take length self.now.counts)) }
+        ensures end { result.0 * extent length ≡ space (lengths (take length self.now.counts)) }
         ensures words { result.1 ≡ sum (take length self.now.counts) }
         ensures small { result.0 ≤ 65536 }
     {

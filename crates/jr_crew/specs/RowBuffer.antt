@@ -2,27 +2,27 @@
 use Rattle.std.specs.Prelude.{ℕ, ◌*◌, ◌<◌, ◌≤◌, List, length, take, Option}
 use Rattle.jr_head.specs.Geometry.{mcus_down, vertical_max}
 use Rattle.jr_scan.specs.FirstIntervalsValue.{FirstIntervalsValue}
-use Rattle.jr_paint.specs.Lines.{line_room, line_size}
+use Rattle.jr_paint.specs.Lines.{line_space, line_size}
 use Rattle.jr_work.specs.Guessing.{OfPart}
 use Rattle.jr_crew.specs.RowBufferValue.{CodedRowValue, PaintedValue}
-use Rattle.jr_rows.specs.Rows.{AreRead, CountsRow, HasRowRoom, HasSampleRoom, ShowsLines, line_count}
+use Rattle.jr_rows.specs.Rows.{AreRead, CountsRow, HasRowSpace, HasSampleSpace, ShowsLines, line_count}
 use Rattle.jr_rows.specs.RowsValue.{RowValue, SampleRowValue}
 
 -- the lines of a row of MCUs fit
-abbrev pub HasRoom : Option FirstIntervalsValue → List ℕ → Type 0
-HasRoom known pixels = OfPart known (λ part. 8 * vertical_max part.scan.head * line_size part.scan.head ≤ length pixels)
+abbrev pub HasPixelSpace : Option FirstIntervalsValue → List ℕ → Type 0
+HasPixelSpace known pixels = OfPart known (λ part. 8 * vertical_max part.scan.head * line_size part.scan.head ≤ length pixels)
 
 -- the scratch space for painting its lines is there
-abbrev pub HasLineRoom : Option FirstIntervalsValue → ℕ → Type 0
-HasLineRoom known n = OfPart known (λ part. line_room part.scan.head ≤ n)
+abbrev pub HasLineSpace : Option FirstIntervalsValue → ℕ → Type 0
+HasLineSpace known n = OfPart known (λ part. line_space part.scan.head ≤ n)
 
 -- its samples, some of its blocks and the scratch space for painting its lines fit
 abbrev pub HasSamples : Option FirstIntervalsValue → SampleRowValue → Type 0
-HasSamples known work = OfPart known (λ part. HasSampleRoom part.scan.head work)
+HasSamples known work = OfPart known (λ part. HasSampleSpace part.scan.head work)
 
 -- its blocks and samples fit
 abbrev pub HasWork : Option FirstIntervalsValue → RowValue → Type 0
-HasWork known work = OfPart known (λ part. HasRowRoom part.scan.head work)
+HasWork known work = OfPart known (λ part. HasRowSpace part.scan.head work)
 
 -- the blocks of a row of MCUs of the scan, and the marks of the intervals that end in it
 pub record ReadsRow (part : FirstIntervalsValue) (c : CodedRowValue) : Type 0 where

@@ -5,7 +5,7 @@ ghost use Rattle.jr_scan.specs.Guesses.{AreGuessesOf};
 ghost use Rattle.jr_scan.specs.ScanValue.{interval_of};
 ghost use Rattle.jr_rows.specs.Rows.{AreRowsOf};
 
-use crate::paint_room::PaintRoom;
+use crate::paint_space::PaintSpace;
 use crate::row_buffer::{CodedRow, Painted, RowBuffer};
 use jr_picture::Gate;
 use jr_rows::{IntervalGuesses, Rows, announce, intervals_of_row, shape_of};
@@ -58,7 +58,7 @@ impl<S: OneScan> Baton<S> {
     }
 
     /// Returns the rows after the next one, which can be read before it if rows are whole intervals.
-    pub(crate) fn behind(&self, part: &FirstIntervals<'_>) -> Option<Baton<S>>
+    pub(crate) fn after(&self, part: &FirstIntervals<'_>) -> Option<Baton<S>>
         requires { S.part ≡ Some part.now }
     {
         let head = part.scan().head();
@@ -109,8 +109,8 @@ impl<S: OneScan> Baton<S> {
         let mut rows = self.rows;
         announce(part.scan(), part.limit(), rows.row(), gate);
         rows.skip(part, Some(&self.guesses));
-        let behind = baton_over(part, rows);
-        (self, behind)
+        let after = baton_over(part, rows);
+        (self, after)
     }
 
     /// Decodes and paints the next row, whose intervals were reported to the gate.
@@ -118,12 +118,12 @@ impl<S: OneScan> Baton<S> {
         self,
         part: &FirstIntervals<'_>,
         buffer: RowBuffer<S>,
-        room: &mut PaintRoom<S>,
+        space: &mut PaintSpace<S>,
     ) -> Painted<S>
         requires { S.part ≡ Some part.now }
     {
         let mut rows = self.rows;
-        let painted = buffer.decode(part, &mut rows, Some(&self.guesses), room);
+        let painted = buffer.decode(part, &mut rows, Some(&self.guesses), space);
         drop(rows);
         painted
     }
@@ -142,12 +142,12 @@ impl<S: OneScan> Baton<S> {
         alloc: Global,
         part: &FirstIntervals<'_>,
         buffer: RowBuffer<S>,
-        room: &mut PaintRoom<S>,
+        space: &mut PaintSpace<S>,
     ) -> (Result<CodedRow<S>, Painted<S>>, Option<Baton<S>>)
         requires { S.part ≡ Some part.now }
     {
         let mut rows = self.rows;
-        let read = buffer.read(alloc, part, &mut rows, Some(&self.guesses), room);
+        let read = buffer.read(alloc, part, &mut rows, Some(&self.guesses), space);
         (read, baton_over(part, rows))
     }
 }

@@ -3,7 +3,7 @@
 ghost use Rattle.std.specs.Prelude.{◌≡◌};
 
 use crate::crew::Crew;
-use crate::paint_room::PaintRoom;
+use crate::paint_space::PaintSpace;
 use jr_picture::Gate;
 use jr_rows::{Marked, RowPainter, shape_of};
 use jr_work::OneScan;
@@ -19,7 +19,7 @@ pub(crate) struct Caller<'a, 'b, R: Wait, G: Gate, S: OneScan> {
     rt: &'b R,
     gate: &'b G,
     row: u32,
-    room: PaintRoom<S>,
+    space: PaintSpace<S>,
 }
 
 impl<'a, 'b, R: Wait, G: Gate, S: OneScan> Model for Caller<'a, 'b, R, G, S> {
@@ -39,7 +39,7 @@ impl<'a, 'b, R: Wait, G: Gate, S: OneScan> Caller<'a, 'b, R, G, S> {
         crew: &'b Crew<'a, S>,
         rt: &'b R,
         gate: &'b G,
-        room: PaintRoom<S>,
+        space: PaintSpace<S>,
     ) -> Caller<'a, 'b, R, G, S>
         ensures { result ≡ record { scan = crew.now.scan; limit = crew.now.limit; row = 0 } }
     {
@@ -50,7 +50,7 @@ impl<'a, 'b, R: Wait, G: Gate, S: OneScan> Caller<'a, 'b, R, G, S> {
             rt,
             gate,
             row: 0,
-            room,
+            space,
         }
     }
 
@@ -59,12 +59,12 @@ impl<'a, 'b, R: Wait, G: Gate, S: OneScan> Caller<'a, 'b, R, G, S> {
         ensures { self.new ≡ self.old }
     {
         let (crew, rt, gate, row) = (self.crew, self.rt, self.gate, self.row);
-        let room = &mut self.room;
+        let space = &mut self.space;
         for _ in 0..MAX_TASKS {
             let Some(task) = crew.task_before(rt, row) else {
                 return;
             };
-            crew.run(rt, gate, task, room);
+            crew.run(rt, gate, task, space);
         }
     }
 }
@@ -78,7 +78,7 @@ impl<R: Wait, G: Gate, S: OneScan> RowPainter for Caller<'_, '_, R, G, S> {
         // By its contract a row's number fits.
         let _rows = shape_of(crew.part().scan().head()).down;
         let painted = crew.painted(rt, self.row);
-        let (marked, buffer) = painted.put_into(crew.part(), pixels, from, to);
+        let (marked, buffer) = painted.store_into(crew.part(), pixels, from, to);
         crew.give_back(rt, buffer);
         self.row += 1;
         marked

@@ -3,15 +3,15 @@
 ghost use Rattle.std.specs.Prelude.{◌≡◌, ◌*◌, ◌≤◌, Some, length, IfOk};
 ghost use Rattle.jr_head.specs.Geometry.{vertical_max};
 ghost use Rattle.jr_paint.specs.Lines.{line_size};
-ghost use Rattle.jr_paint.specs.declared.header.TheConstants.{HEADER_ROOM};
+ghost use Rattle.jr_paint.specs.declared.header.TheConstants.{HEADER_SPACE};
 
 use crate::baton::Baton;
-use crate::paint_room::PaintRoom;
+use crate::paint_space::PaintSpace;
 use crate::row_buffer::{Painted, RowBuffer};
 use crate::row_work::{BegunRow, RowWork, UnfinishedRow};
 use jr_base::Memory;
 use jr_picture::Gate;
-use jr_rows::{intervals_of_row, room_for};
+use jr_rows::{intervals_of_row, space_for};
 use jr_scan::FirstIntervals;
 use jr_work::tuning::ROW_BUFFERS_OF_WORKER;
 use jr_work::{OneScan, SharedWork, Task, WorkQueue};
@@ -72,9 +72,9 @@ impl<'a, S: OneScan> Crew<'a, S> {
         &self,
         rt: &R,
         buffers: u32,
-    ) -> Result<(PaintRoom<S>, Vec<u8>), Memory>
+    ) -> Result<(PaintSpace<S>, Vec<u8>), Memory>
         ensures lines { IfOk result (λ r. 8 * vertical_max self.now.scan.head * line_size self.now.scan.head ≤ length r.1.items) }
-        ensures header { IfOk result (λ r. HEADER_ROOM ≤ length r.1.items) }
+        ensures header { IfOk result (λ r. HEADER_SPACE ≤ length r.1.items) }
     {
         for _ in 0..buffers {
             let Ok(buffer) = RowBuffer::open(self.alloc, &self.part) else {
@@ -83,14 +83,14 @@ impl<'a, S: OneScan> Crew<'a, S> {
             self.give_back(rt, buffer);
         }
         let head = self.part.scan().head();
-        let Ok(pixels) = vec![in self.alloc; 0; room_for(head)] else {
+        let Ok(pixels) = vec![in self.alloc; 0; space_for(head)] else {
             return Err(Memory);
         };
-        let Ok(room) = PaintRoom::open(self.alloc, &self.part) else {
+        let Ok(space) = PaintSpace::open(self.alloc, &self.part) else {
             return Err(Memory);
         };
         self.shared.start(rt, &self.part, Baton::of(&self.part));
-        Ok((room, pixels))
+        Ok((space, pixels))
     }
 
     /// Returns the part of the scan that is decoded.
@@ -127,9 +127,9 @@ impl<'a, S: OneScan> Crew<'a, S> {
     }
 
     /// Keeps a painted row.
-    fn put_painted<R: Wait>(&self, rt: &R, painted: Painted<S>) {
+    fn store_painted<R: Wait>(&self, rt: &R, painted: Painted<S>) {
         let mut queue = self.shared.queue.lock(rt);
-        let is_next = queue.work.put_painted(painted);
+        let is_next = queue.work.store_painted(painted);
         if is_next && queue.is_awaited {
             self.shared.for_caller.notify_one();
         }
@@ -137,43 +137,49 @@ impl<'a, S: OneScan> Crew<'a, S> {
 
     /// Reads a row, and paints it if rows are whole intervals or memory for its blocks cannot be
     /// allocated; otherwise it waits for a free thread.
-    fn read<R: Wait, G: Gate>(&self, rt: &R, gate: &G, row: BegunRow<S>, room: &mut PaintRoom<S>) {
+    fn read<R: Wait, G: Gate>(
+        &self,
+        rt: &R,
+        gate: &G,
+        row: BegunRow<S>,
+        space: &mut PaintSpace<S>,
+    ) {
         let part = &self.part;
         row.baton.announce(part, gate);
         if intervals_of_row(part.scan().head()).is_some() {
-            if row.baton.behind(part).is_none() {
-                self.shared.put(rt, part, None, None);
+            if row.baton.after(part).is_none() {
+                self.shared.store(rt, part, None, None);
             }
-            return self.finish(rt, UnfinishedRow::Skipped(row), room);
+            return self.finish(rt, UnfinishedRow::Skipped(row), space);
         }
         let BegunRow { baton, buffer } = row;
-        let (read, behind) = baton.read(self.alloc, part, buffer, room);
+        let (read, after) = baton.read(self.alloc, part, buffer, space);
         match read {
             Ok(coded) => self
                 .shared
-                .put(rt, part, Some(UnfinishedRow::Coded(coded)), behind),
+                .store(rt, part, Some(UnfinishedRow::Coded(coded)), after),
             Err(painted) => {
-                self.shared.put(rt, part, None, behind);
-                self.put_painted(rt, painted);
+                self.shared.store(rt, part, None, after);
+                self.store_painted(rt, painted);
             }
         }
     }
 
     /// Paints a row; if it was skipped, whose intervals were reported to the gate, reads it first.
-    fn finish<R: Wait>(&self, rt: &R, row: UnfinishedRow<S>, room: &mut PaintRoom<S>) {
+    fn finish<R: Wait>(&self, rt: &R, row: UnfinishedRow<S>, space: &mut PaintSpace<S>) {
         let painted = match row {
-            UnfinishedRow::Skipped(row) => row.baton.finish(&self.part, row.buffer, room),
-            UnfinishedRow::Coded(coded) => coded.paint(&self.part, room),
+            UnfinishedRow::Skipped(row) => row.baton.finish(&self.part, row.buffer, space),
+            UnfinishedRow::Coded(coded) => coded.paint(&self.part, space),
         };
-        self.put_painted(rt, painted);
+        self.store_painted(rt, painted);
     }
 
     /// Skips a row, which then waits for a free thread.
     fn skip<R: Wait, G: Gate>(&self, rt: &R, gate: &G, row: BegunRow<S>) {
         let BegunRow { baton, buffer } = row;
-        let (baton, behind) = baton.skip(&self.part, gate);
+        let (baton, after) = baton.skip(&self.part, gate);
         let skipped = UnfinishedRow::Skipped(BegunRow { baton, buffer });
-        self.shared.put(rt, &self.part, Some(skipped), behind);
+        self.shared.store(rt, &self.part, Some(skipped), after);
     }
 
     /// Performs a task.
@@ -182,21 +188,21 @@ impl<'a, S: OneScan> Crew<'a, S> {
         rt: &R,
         gate: &G,
         task: Task<S, RowWork<S>>,
-        room: &mut PaintRoom<S>,
+        space: &mut PaintSpace<S>,
     ) {
         match task {
             Task::Begin(row, true) => self.skip(rt, gate, row),
-            Task::Begin(row, false) => self.read(rt, gate, row, room),
-            Task::Finish(row) => self.finish(rt, row, room),
+            Task::Begin(row, false) => self.read(rt, gate, row, space),
+            Task::Finish(row) => self.finish(rt, row, space),
             Task::Assist(assist) => self.shared.assist(rt, self.alloc, &self.part, assist),
         }
     }
 
     /// Performs one task if one is ready.
-    fn do_ready<R: Wait, G: Gate>(&self, rt: &R, gate: &G, room: &mut PaintRoom<S>) {
+    fn do_ready<R: Wait, G: Gate>(&self, rt: &R, gate: &G, space: &mut PaintSpace<S>) {
         let task = self.shared.queue.lock(rt).task(&self.part);
         if let Some(task) = task {
-            self.run(rt, gate, task, room);
+            self.run(rt, gate, task, space);
         }
     }
 
@@ -206,19 +212,19 @@ impl<'a, S: OneScan> Crew<'a, S> {
         &self,
         rt: &R,
         gate: &G,
-    ) -> Result<PaintRoom<S>, Memory> {
-        let Ok(mut room) = PaintRoom::open(self.alloc, &self.part) else {
+    ) -> Result<PaintSpace<S>, Memory> {
+        let Ok(mut space) = PaintSpace::open(self.alloc, &self.part) else {
             return Err(Memory);
         };
         for _ in 0..ROW_BUFFERS_OF_WORKER {
-            self.do_ready(rt, gate, &mut room);
-            self.do_ready(rt, gate, &mut room);
+            self.do_ready(rt, gate, &mut space);
+            self.do_ready(rt, gate, &mut space);
             let is_lacking = self.shared.queue.lock(rt).work.lacks_buffer();
             if is_lacking && let Ok(buffer) = RowBuffer::open(self.alloc, &self.part) {
                 self.give_back(rt, buffer);
             }
         }
-        Ok(room)
+        Ok(space)
     }
 
     /// Waits until a row is painted, and returns it.

@@ -6,7 +6,7 @@ mod baton;
 mod caller;
 mod crew;
 mod crew_size;
-mod paint_room;
+mod paint_space;
 mod row;
 mod row_buffer;
 mod row_work;

@@ -2,11 +2,11 @@
 
 ghost use Rattle.std.specs.Prelude.{◌≡◌, ◌*◌, ◌<◌, ◌≤◌, length, take, IfOk, IfSome};
 ghost use Rattle.jr_head.specs.Geometry.{mcus_across, mcus_down, vertical_max};
-ghost use Rattle.jr_paint.specs.Lines.{line_room, line_size};
+ghost use Rattle.jr_paint.specs.Lines.{line_space, line_size};
 ghost use Rattle.jr_picture.specs.DecodedScan.{DecodedScan};
 ghost use Rattle.jr_rows.specs.Bands.{ShowsMcus};
 ghost use Rattle.jr_rows.specs.Groups.{units_in};
-ghost use Rattle.jr_rows.specs.Rows.{DecodesFirst, HasRowRoom, AreRead, ShowsLines, line_count};
+ghost use Rattle.jr_rows.specs.Rows.{DecodesFirst, HasRowSpace, AreRead, ShowsLines, line_count};
 
 use jr_base::{Coefficients, Memory};
 use jr_head::Head;
@@ -34,8 +34,8 @@ impl Row {
     /// Returns the memory that is kept for a row of an image with this header; allocates it if none
     /// is.
     pub(crate) fn open(alloc: Global, head: &Head, kept: Option<Row>) -> Result<Row, Memory>
-        requires { IfSome kept (HasRowRoom head.now) }
-        ensures { IfOk result (HasRowRoom head.now) }
+        requires { IfSome kept (HasRowSpace head.now) }
+        ensures { IfOk result (HasRowSpace head.now) }
     {
         if let Some(row) = kept {
             return Ok(row);
@@ -53,10 +53,10 @@ impl Row {
     /// Transforms the decoded MCUs of the row that is read; the others are blank.
     fn transform(&mut self, scan: &Scan, limit: u32, row: u32)
         requires row { row < mcus_down scan.now.head }
-        requires room { HasRowRoom scan.now.head self.old }
+        requires space { HasRowSpace scan.now.head self.old }
         requires read { AreRead scan.now limit row self.old.blocks }
         ensures blocks { self.new.blocks ≡ self.old.blocks }
-        ensures room { HasRowRoom scan.now.head self.new }
+        ensures space { HasRowSpace scan.now.head self.new }
         ensures units { (b : DecodedScan) → DecodesFirst scan.now limit b → ShowsMcus b (row * mcus_across scan.now.head) (units_in scan.now.head self.new.lines.groups) }
     {
         let head = scan.head();
@@ -71,15 +71,15 @@ impl Row {
         &mut self,
         part: &FirstIntervals<'_>,
         row: u32,
-        room: &mut [u8],
+        space: &mut [u8],
         pixels: &mut [u8],
     )
-        requires lines { line_room part.now.scan.head ≤ length room.old }
+        requires lines { line_space part.now.scan.head ≤ length space.old }
         requires row { row < mcus_down part.now.scan.head }
-        requires room { HasRowRoom part.now.scan.head self.old }
+        requires space { HasRowSpace part.now.scan.head self.old }
         requires read { AreRead part.now.scan part.now.limit row self.old.blocks }
         requires pixels { 8 * vertical_max part.now.scan.head * line_size part.now.scan.head ≤ length pixels.old }
-        ensures room { HasRowRoom part.now.scan.head self.new }
+        ensures space { HasRowSpace part.now.scan.head self.new }
         ensures lines { ShowsLines part.now.scan part.now.limit row (take (line_count part.now.scan.head row * line_size part.now.scan.head) pixels.new) }
     {
         let (scan, limit) = (part.scan(), part.limit());
@@ -87,6 +87,6 @@ impl Row {
         let (_y, count) = lines_of(head, row);
         let size = count as usize * shape_of(head).line;
         self.transform(scan, limit, row);
-        paint_row(head, &self.lines, row, room, &mut pixels[..size]);
+        paint_row(head, &self.lines, row, space, &mut pixels[..size]);
     }
 }

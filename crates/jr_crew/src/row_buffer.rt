@@ -4,9 +4,9 @@ ghost use Rattle.std.specs.Prelude.{◌≡◌, ◌+◌, ◌-◌, ◌*◌, ◌<�
 ghost use Rattle.jr_head.specs.Geometry.{mcus_down, vertical_max};
 ghost use Rattle.jr_paint.specs.Lines.{line_size};
 ghost use Rattle.jr_rows.specs.Cursors.{AreGuessesIn};
-ghost use Rattle.jr_rows.specs.Rows.{AreRowsOf, CountsRow, HasSampleRoom, ShowsLines, line_count};
+ghost use Rattle.jr_rows.specs.Rows.{AreRowsOf, CountsRow, HasSampleSpace, ShowsLines, line_count};
 
-use crate::paint_room::PaintRoom;
+use crate::paint_space::PaintSpace;
 use crate::row::Row;
 use jr_base::Memory;
 use jr_rows::{IntervalGuesses, Marked, Rows, SampleRow, bytes_of_row, lines_of, shape_of};
@@ -27,11 +27,11 @@ fn decode_first(
     requires rows { AreRowsOf part.now rows.old }
     requires same { IfSome guesses (λ g. AreGuessesIn part.now.scan g.now) }
     requires row { rows.old.row < mcus_down part.now.scan.head }
-    requires room { HasSampleRoom part.now.scan.head work.old }
+    requires space { HasSampleSpace part.now.scan.head work.old }
     requires pixels { 8 * vertical_max part.now.scan.head * line_size part.now.scan.head ≤ length pixels.old }
     ensures rows { AreRowsOf part.now rows.new }
     ensures row { rows.new.row ≡ rows.old.row + 1 }
-    ensures room { HasSampleRoom part.now.scan.head work.new }
+    ensures space { HasSampleSpace part.now.scan.head work.new }
     ensures lines { ShowsLines part.now.scan part.now.limit rows.old.row (take (line_count part.now.scan.head rows.old.row * line_size part.now.scan.head) pixels.new) }
     ensures counts { CountsRow part.now.scan part.now.limit rows.old.row result }
 {
@@ -55,13 +55,13 @@ pub struct RowBuffer<S: OneScan> {
 impl<S: OneScan> Model for RowBuffer<S> {
     ghost use Rattle.std.specs.Prelude.{IfSome};
     ghost use Rattle.jr_crew.specs.RowBufferValue.{RowBufferValue};
-    ghost use Rattle.jr_crew.specs.RowBuffer.{HasRoom, HasWork};
+    ghost use Rattle.jr_crew.specs.RowBuffer.{HasPixelSpace, HasWork};
 
     ghost Value = { RowBufferValue };
 
     ghost view = { λ b. record { work = b.work; pixels = b.pixels.items } };
 
-    ghost invariant = { λ b. IfSome b.work (HasWork S.part) × HasRoom S.part b.pixels.items };
+    ghost invariant = { λ b. IfSome b.work (HasWork S.part) × HasPixelSpace S.part b.pixels.items };
 }
 
 impl<S: OneScan> RowBuffer<S> {
@@ -90,7 +90,7 @@ impl<S: OneScan> RowBuffer<S> {
         part: &FirstIntervals<'_>,
         rows: &mut Rows,
         guesses: Option<&IntervalGuesses>,
-        room: &mut PaintRoom<S>,
+        space: &mut PaintSpace<S>,
     ) -> Painted<S>
         requires part { S.part ≡ Some part.now }
         requires rows { AreRowsOf part.now rows.old }
@@ -101,7 +101,7 @@ impl<S: OneScan> RowBuffer<S> {
     {
         let row = rows.row();
         let mut pixels = self.pixels;
-        let marked = decode_first(&mut room.work, part, rows, guesses, &mut pixels);
+        let marked = decode_first(&mut space.work, part, rows, guesses, &mut pixels);
         Painted {
             row,
             marked,
@@ -119,7 +119,7 @@ impl<S: OneScan> RowBuffer<S> {
         part: &FirstIntervals<'_>,
         rows: &mut Rows,
         guesses: Option<&IntervalGuesses>,
-        room: &mut PaintRoom<S>,
+        space: &mut PaintSpace<S>,
     ) -> Result<CodedRow<S>, Painted<S>>
         requires part { S.part ≡ Some part.now }
         requires rows { AreRowsOf part.now rows.old }
@@ -137,7 +137,7 @@ impl<S: OneScan> RowBuffer<S> {
                 pixels,
                 of,
             };
-            return Err(buffer.decode(part, rows, guesses, room));
+            return Err(buffer.decode(part, rows, guesses, space));
         };
         let row = rows.row();
         let marked = rows.read(part, guesses, &mut work.blocks);
@@ -164,23 +164,23 @@ pub struct CodedRow<S: OneScan> {
 
 impl<S: OneScan> Model for CodedRow<S> {
     ghost use Rattle.jr_crew.specs.RowBufferValue.{CodedRowValue};
-    ghost use Rattle.jr_crew.specs.RowBuffer.{HasRoom, HasWork, IsRead};
+    ghost use Rattle.jr_crew.specs.RowBuffer.{HasPixelSpace, HasWork, IsRead};
 
     ghost Value = { CodedRowValue };
 
     ghost view = { λ c. record { row = c.row; marked = c.marked; work = c.work } };
 
-    ghost invariant = { λ c. HasWork S.part c.work × HasRoom S.part c.pixels.items × IsRead S.part (record { row = c.row; marked = c.marked; work = c.work }) };
+    ghost invariant = { λ c. HasWork S.part c.work × HasPixelSpace S.part c.pixels.items × IsRead S.part (record { row = c.row; marked = c.marked; work = c.work }) };
 }
 
 impl<S: OneScan> CodedRow<S> {
     /// Transforms and paints the row.
-    pub fn paint(self, part: &FirstIntervals<'_>, room: &mut PaintRoom<S>) -> Painted<S>
+    pub fn paint(self, part: &FirstIntervals<'_>, space: &mut PaintSpace<S>) -> Painted<S>
         requires { S.part ≡ Some part.now }
         ensures { result.row ≡ self.row }
     {
         let (mut work, mut pixels) = (self.work, self.pixels);
-        work.paint(part, self.row, &mut room.bytes, &mut pixels);
+        work.paint(part, self.row, &mut space.bytes, &mut pixels);
         Painted {
             row: self.row,
             marked: self.marked,
@@ -205,13 +205,13 @@ pub struct Painted<S: OneScan> {
 impl<S: OneScan> Model for Painted<S> {
     ghost use Rattle.std.specs.Prelude.{IfSome};
     ghost use Rattle.jr_crew.specs.RowBufferValue.{PaintedValue};
-    ghost use Rattle.jr_crew.specs.RowBuffer.{HasRoom, HasWork, IsPainted};
+    ghost use Rattle.jr_crew.specs.RowBuffer.{HasPixelSpace, HasWork, IsPainted};
 
     ghost Value = { PaintedValue };
 
     ghost view = { λ p. record { row = p.row; marked = p.marked; pixels = p.pixels.items } };
 
-    ghost invariant = { λ p. IfSome p.work (HasWork S.part) × HasRoom S.part p.pixels.items × IsPainted S.part (record { row = p.row; marked = p.marked; pixels = p.pixels.items }) };
+    ghost invariant = { λ p. IfSome p.work (HasWork S.part) × HasPixelSpace S.part p.pixels.items × IsPainted S.part (record { row = p.row; marked = p.marked; pixels = p.pixels.items }) };
 }
 
 impl<S: OneScan> Painted<S> {
@@ -225,7 +225,7 @@ impl<S: OneScan> Painted<S> {
     /// Copies the lines, which fit into the slice.
     fn copy_to(&self, part: &FirstIntervals<'_>, pixels: &mut [u8])
         requires part { S.part ≡ Some part.now }
-        requires room { length pixels.old ≡ line_count part.now.scan.head self.now.row * line_size part.now.scan.head }
+        requires space { length pixels.old ≡ line_count part.now.scan.head self.now.row * line_size part.now.scan.head }
         ensures lines { ShowsLines part.now.scan part.now.limit self.now.row pixels.new }
     {
         pixels.copy_from_slice(&self.pixels[..pixels.len()]);
@@ -243,7 +243,7 @@ impl<S: OneScan> Painted<S> {
     /// Writes the lines between two byte offsets, which have exactly that space. If these are all bytes from the start,
     /// it exchanges the buffers instead of copying. Returns the marks of the intervals that end in the row, and the
     /// row buffer, to be used again.
-    pub fn put_into(
+    pub fn store_into(
         self,
         part: &FirstIntervals<'_>,
         pixels: &mut Vec<u8>,
@@ -251,7 +251,7 @@ impl<S: OneScan> Painted<S> {
         to: usize,
     ) -> (Marked, RowBuffer<S>)
         requires part { S.part ≡ Some part.now }
-        requires room { to ≡ from + line_count part.now.scan.head self.row * line_size part.now.scan.head }
+        requires space { to ≡ from + line_count part.now.scan.head self.row * line_size part.now.scan.head }
         requires within { to ≤ length pixels.old.items }
         ensures long { length pixels.new.items ≡ length pixels.old.items }
         ensures kept { take from pixels.new.items ≡ take from pixels.old.items }

@@ -92,7 +92,7 @@ impl<S: OneScan> RowWork<S> {
     }
 
     /// Keeps a painted row. Returns whether it is the one that is written next.
-    pub(crate) fn put_painted(&mut self, painted: Painted<S>) -> bool {
+    pub(crate) fn store_painted(&mut self, painted: Painted<S>) -> bool {
         let row = painted.row();
         let slot = row as usize % self.painted.len();
         drop(replace(&mut self.painted[slot], Some(painted)));
@@ -153,10 +153,10 @@ impl<S: OneScan> Work<S> for RowWork<S> {
             drop(baton);
             return None;
         };
-        let behind = baton.behind(part);
+        let after = baton.after(part);
         let number = guesses.number();
         let baton = baton.with_guesses(part, number, guesses.for_next(part, number));
-        Some((BegunRow { baton, buffer }, behind))
+        Some((BegunRow { baton, buffer }, after))
     }
 
     fn spare(&mut self) -> Option<RowBuffer<S>> {

@@ -4,12 +4,12 @@ ghost use Rattle.std.specs.Prelude.{◌≡◌, ◌*◌, ◌≤◌, length, false
 ghost use Rattle.jr_base.specs.Tally.{has_failed};
 ghost use Rattle.jr_head.specs.Geometry.{vertical_max};
 ghost use Rattle.jr_paint.specs.Lines.{line_size};
-ghost use Rattle.jr_paint.specs.declared.header.TheConstants.{HEADER_ROOM};
+ghost use Rattle.jr_paint.specs.declared.header.TheConstants.{HEADER_SPACE};
 ghost use Rattle.jr_rows.specs.Stream.{IsSentBy};
 
 use crate::caller::Caller;
 use crate::crew::Crew;
-use crate::paint_room::PaintRoom;
+use crate::paint_space::PaintSpace;
 use jr_base::{Tally, WriteFault};
 use jr_picture::Gate;
 use jr_rows::{Marked, write_rows};
@@ -23,20 +23,20 @@ fn send<R: Wait, W: Write, G: Gate, S: OneScan>(
     crew: &Crew<'_, S>,
     rt: &R,
     gate: &G,
-    room: PaintRoom<S>,
+    space: PaintSpace<S>,
     pixels: Vec<u8>,
     out: &mut Tally<W>,
 ) -> Result<Marked, WriteFault>
     requires unfailed { has_failed out.old ≡ false }
     requires pixels { 8 * vertical_max crew.now.scan.head * line_size crew.now.scan.head ≤ length pixels.items }
-    requires header { HEADER_ROOM ≤ length pixels.items }
+    requires header { HEADER_SPACE ≤ length pixels.items }
     ensures { IsSentBy W.contents crew.now out.old out.new result }
 {
     let scan = crew.part().scan();
     // By their contracts a scan has the number of intervals that its header says, and no more are decoded.
     let _counts = (scan.intervals(), crew.part().limit());
     let mut pixels = pixels;
-    let mut caller = Caller::of(crew, rt, gate, room);
+    let mut caller = Caller::of(crew, rt, gate, space);
     let sent = write_rows(scan.head(), &mut caller, &mut pixels, out);
     drop(caller);
     sent
@@ -55,14 +55,14 @@ impl<'s, 'a, R: Wait, G: Gate, S: OneScan> Help for Helping<'s, 'a, R, G, S> {
     /// fails, the others work without this thread.
     fn help(&self) {
         let (crew, rt, gate) = (self.crew, self.rt, self.gate);
-        let Ok(mut room) = crew.prepare(rt, gate) else {
+        let Ok(mut space) = crew.prepare(rt, gate) else {
             return;
         };
         for _ in 0..MAX_TASKS {
             let Some(task) = crew.task(rt) else {
                 return;
             };
-            crew.run(rt, gate, task, &mut room);
+            crew.run(rt, gate, task, &mut space);
         }
     }
 }
@@ -85,7 +85,7 @@ impl<'s, 'w, 'a, R: Wait, W: Write, G: Gate, S: OneScan> Beside
 
     ghost may = { λ s. has_failed s.out.now ≡ false };
 
-    ghost gives = { λ s r. IfSome r.0 (IsSentBy W.contents s.crew.now s.out.now r.1.now) × IfNone r.0 (r.1.now ≡ s.out.now) × (r.1.ghost_name ≡ s.out.ghost_name) };
+    ghost returned = { λ s r. IfSome r.0 (IsSentBy W.contents s.crew.now s.out.now r.1.now) × IfNone r.0 (r.1.now ≡ s.out.now) × (r.1.ghost_name ≡ s.out.ghost_name) };
 
     fn run(self) -> (Option<Result<Marked, WriteFault>>, &'w mut Tally<W>) {
         let Sending {
@@ -96,7 +96,7 @@ impl<'s, 'w, 'a, R: Wait, W: Write, G: Gate, S: OneScan> Beside
             out,
         } = self;
         let sent = match crew.begin(rt, buffers) {
-            Ok((room, pixels)) => Some(send(crew, rt, gate, room, pixels, out)),
+            Ok((space, pixels)) => Some(send(crew, rt, gate, space, pixels, out)),
             Err(_) => None,
         };
         crew.end(rt);

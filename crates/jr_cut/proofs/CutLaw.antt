@@ -77,13 +77,13 @@ other_restart c j (inr (inr g)) h e = omega arith
 
 -- an end of the scan is not a marker of the next number
 pub ending_not_next : (n k at : ℕ) (tail : List ℕ) (end : ScanEnd) → IsEnding n k at tail end → HasMarker tail (RST0 + k % 8) → k + 1 < n → ⊥
-ending_not_next n k at tail EndOfFile h m room = no_marker tail (RST0 + k % 8) h.0 m (λ e. omega arith) h.1
-ending_not_next n k at tail EndOfImage h m room = let e = same_marker tail EOI (RST0 + k % 8) h m (λ e. omega arith) (λ e. omega arith) in omega (arith, e)
-ending_not_next n k at tail (ExtraRestart o) h m room = omega (arith, h.3)
-ending_not_next n k at tail (OutOfStep f x o) h m room =
+ending_not_next n k at tail EndOfFile h m space = no_marker tail (RST0 + k % 8) h.0 m (λ e. omega arith) h.1
+ending_not_next n k at tail EndOfImage h m space = let e = same_marker tail EOI (RST0 + k % 8) h m (λ e. omega arith) (λ e. omega arith) in omega (arith, e)
+ending_not_next n k at tail (ExtraRestart o) h m space = omega (arith, h.3)
+ending_not_next n k at tail (OutOfStep f x o) h m space =
     let e = same_marker tail (RST0 + f) (RST0 + k % 8) h.1 m (λ e. omega (arith, h.0)) (λ e. omega arith) in
     let same : f ≡ x = omega (arith, e, h.3) in h.4 same
-ending_not_next n k at tail (OtherMarker c o) h m room = other_restart c (k % 8) h.3 (omega arith) (same_marker tail (RST0 + k % 8) c m h.2 (λ e. omega arith) (λ e. omega (arith, h.1)))
+ending_not_next n k at tail (OtherMarker c o) h m space = other_restart c (k % 8) h.3 (omega arith) (same_marker tail (RST0 + k % 8) c m h.2 (λ e. omega arith) (λ e. omega (arith, h.1)))
 
 same_ending : (n k at : ℕ) (tail : List ℕ) (a b : ScanEnd) → IsEnding n k at tail a → IsEnding n k at tail b → a ≡ b
 same_ending n k at tail EndOfFile EndOfFile h g = refl

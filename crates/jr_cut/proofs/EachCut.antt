@@ -94,8 +94,8 @@ marked (suc more) code tail rest after some e is = record {
   is = e ∙ ap (λ (x : List ℕ). replicate (suc more) PREFIX ++ x) is ∙ ap (λ (x : List ℕ). PREFIX ∷ x) (sym (append_assoc (replicate more PREFIX) (code ∷ []) after));
 }
 
-all_behind : (P : ℕ → Type 0) (bytes front rest : List ℕ) → bytes ≡ front ++ rest → All P bytes → All P rest
-all_behind P bytes front rest e all = subst (All P) (ap (drop (length front)) e ∙ drop-append_seam front rest) (All-drop P (length front) bytes all)
+all_after : (P : ℕ → Type 0) (bytes front rest : List ℕ) → bytes ≡ front ++ rest → All P bytes → All P rest
+all_after P bytes front rest e all = subst (All P) (ap (drop (length front)) e ∙ drop-append_seam front rest) (All-drop P (length front) bytes all)
 
 -- ---- all segments
 
@@ -119,11 +119,11 @@ module _ (n k at : ℕ) (bytes : List ℕ) (s : Segment bytes) (few : k < n) (co
       elim (cases_eq (k + 1) n) [
         | inl all ↦ last n k at bytes s (ExtraRestart (at + length s.raw)) few (code - RST0, omega (arith, low, high), (m.more, after, here), all, refl)
         | inr further ↦
-            let room : k + 1 < n = omega (arith, few, further) in
+            let space : k + 1 < n = omega (arith, few, further) in
             elim (cases_eq code (RST0 + k % 8)) [
-              | inr out ↦ last n k at bytes s (OutOfStep (code - RST0) (k % 8) (at + length s.raw)) few (omega (arith, low, high), (m.more, after, here), room, refl, (λ e. out (number ∙ ap (λ (c : ℕ). RST0 + c) e)), refl)
+              | inr out ↦ last n k at bytes s (OutOfStep (code - RST0) (k % 8) (at + length s.raw)) few (omega (arith, low, high), (m.more, after, here), space, refl, (λ e. out (number ∙ ap (λ (c : ℕ). RST0 + c) e)), refl)
               | inl due ↦
-                  let c = next room due in
+                  let c = next space due in
                   let whole : bytes ≡ s.raw ++ (marker m.more (RST0 + k % 8) ++ after) = s.whole ∙ ap (λ (x : List ℕ). s.raw ++ x) (m.is ∙ ap (λ (c : ℕ). marker m.more c ++ after) due) in
                   record { datas = s.found ∷ c.datas; end = c.end; is = cut_next n k at (at + length s.raw + m.more + 2) m.more bytes s.raw s.found after c.datas c.end s.is_raw whole refl c.is }
             ]
@@ -149,11 +149,11 @@ cuts_from (suc left) n k at bytes e some small =
     elim s.stop.stops [
       | inl none ↦ last n k at bytes s EndOfFile few (s.stop.more, s.stop.spelled ∙ ap (λ (x : List ℕ). replicate s.stop.more PREFIX ++ x) none ∙ append-nil (replicate s.stop.more PREFIX))
       | inr (marks, code, after, not_0, not_ff, is) ↦
-          let rest = all_behind (λ b. b < 256) s.tail (replicate s.stop.more PREFIX) s.stop.rest s.stop.spelled (all_behind (λ b. b < 256) bytes s.raw s.tail s.whole small) in
+          let rest = all_after (λ b. b < 256) s.tail (replicate s.stop.more PREFIX) s.stop.rest s.stop.spelled (all_after (λ b. b < 256) bytes s.raw s.tail s.whole small) in
           let byte : code < 256 = All-head (λ b. b < 256) code after (subst (All (λ b. b < 256)) is rest) in
           let m = marked s.stop.more code s.tail s.stop.rest after marks s.stop.spelled is in
           by_code n k at bytes s few code after m (omega (arith, not_0)) (omega (arith, byte, not_ff))
-          (λ room due. cuts_from left n (suc k) (at + length s.raw + m.more + 2) after (omega (arith, e)) (omega (arith, e, room)) (all_behind (λ b. b < 256) s.stop.rest (code ∷ []) after is rest))
+          (λ space due. cuts_from left n (suc k) (at + length s.raw + m.more + 2) after (omega (arith, e)) (omega (arith, e, space)) (all_after (λ b. b < 256) s.stop.rest (code ∷ []) after is rest))
     ]
 
 pub each_scan_has_a_cut : (n at : ℕ) (bytes : List ℕ) → 0 < n → All (λ b. b < 256) bytes → Cutting n at bytes

@@ -15,11 +15,11 @@ pub next_stop : (k : ℕ) (p : CodedSegment) (ps : List CodedSegment) (tail : Li
 next_stop k p ps tail = marker_stop (with_markers k (p ∷ ps) ++ tail) (RST0 + k % 8) (next_marker k p ps tail) (λ e. omega arith) (λ e. omega arith)
 
 -- what follows a marker of the next number is the next segment and those after it
-pub behind_marker : (k more : ℕ) (rest : List ℕ) (p : CodedSegment) (ps : List CodedSegment) (tail : List ℕ) → marker more (RST0 + k % 8) ++ rest ≡ with_markers k (p ∷ ps) ++ tail
+pub after_marker : (k more : ℕ) (rest : List ℕ) (p : CodedSegment) (ps : List CodedSegment) (tail : List ℕ) → marker more (RST0 + k % 8) ++ rest ≡ with_markers k (p ∷ ps) ++ tail
     → (more ≡ p.more) × (rest ≡ p.raw ++ (with_markers (suc k) ps ++ tail))
-behind_marker k more rest p ps tail e =
+after_marker k more rest p ps tail e =
     let code = RST0 + k % 8 in
-    let behind = (p.raw ++ with_markers (suc k) ps) ++ tail in
+    let after = (p.raw ++ with_markers (suc k) ps) ++ tail in
     let not_ff : code ≢ PREFIX = λ z. omega arith in
-    let m = run_same (suc more) (suc p.more) code code rest behind not_ff not_ff (sym (run_of more code rest) ∙ e ∙ append_assoc (marker p.more code) (p.raw ++ with_markers (suc k) ps) tail ∙ run_of p.more code behind) in
+    let m = run_same (suc more) (suc p.more) code code rest after not_ff not_ff (sym (run_of more code rest) ∙ e ∙ append_assoc (marker p.more code) (p.raw ++ with_markers (suc k) ps) tail ∙ run_of p.more code after) in
     (omega (arith, m.0), m.2 ∙ append_assoc p.raw (with_markers (suc k) ps) tail)

@@ -7,7 +7,7 @@ use Rattle.jr_cut.specs.declared.scan_end.ScanEnd.TheVariants.{EndOfFile, EndOfI
 use Rattle.jr_cut.specs.Cut.{IsRaw, marker, CodedSegment, with_markers, HasMarker, IsEnding, CutFrom}
 use Rattle.jr_cut.specs.PartialSegments.{BeginsWithRestart}
 use Rattle.jr_cut.proofs.CutLaw.{ending_not_next}
-use Rattle.jr_cut.proofs.Endings.{behind_marker, bytes_of, next_marker}
+use Rattle.jr_cut.proofs.Endings.{after_marker, bytes_of, next_marker}
 use Rattle.jr_cut.proofs.Segments.{length_marker}
 use Rattle.jr_cut.proofs.Spellings.{nothing_spelled}
 
@@ -20,9 +20,9 @@ restart_within bytes end k count within b =
 -- the segment after one without data, and those that follow it
 pub record NextCut (n i at : ℕ) (bytes : List ℕ) (others : List (List ℕ)) (end : ScanEnd) : Type 0 where
   pub first : List ℕ
-  pub behind : List (List ℕ)
-  pub are : others ≡ first ∷ behind
-  pub cut : CutFrom n (i + 1) at bytes (first ∷ behind) end
+  pub after : List (List ℕ)
+  pub are : others ≡ first ∷ after
+  pub cut : CutFrom n (i + 1) at bytes (first ∷ after) end
 
 module _ (n i at : ℕ) (tail : List ℕ) (others : List (List ℕ)) (end : ScanEnd) (c : CutFrom n i at tail ([] ∷ others) end) where
   no_raw : c.raw ≡ []
@@ -38,14 +38,14 @@ module _ (n i at : ℕ) (tail : List ℕ) (others : List (List ℕ)) (end : Scan
   spelled = c.spelled ∙ ap (λ (x : List ℕ). x ++ (with_markers i c.segments ++ c.tail)) no_raw
 
   pub next_cut : (more : ℕ) (rest : List ℕ) → i + 1 < n → tail ≡ marker more (RST0 + i % 8) ++ rest → NextCut n i (at + (more + 2)) rest others end
-  next_cut more rest room starts = go c.segments are spelled c.each c.few c.ends
+  next_cut more rest space starts = go c.segments are spelled c.each c.few c.ends
     where
       go : (ps : List CodedSegment) → others ≡ bytes_of ps → tail ≡ with_markers i ps ++ c.tail → AllByRecursion (λ p. IsRaw p.raw p.bytes) ps → i + length ps < n → IsEnding n (i + length ps) (at + length (c.raw ++ with_markers i ps)) c.tail end → NextCut n i (at + (more + 2)) rest others end
       go [] are spelled each few ends =
           let here : i + 0 ≡ i = omega arith in
-          absurd (ending_not_next n i (at + length (c.raw ++ [])) c.tail end (subst (λ (k : ℕ). IsEnding n k (at + length (c.raw ++ [])) c.tail end) here ends) (subst (λ (x : List ℕ). HasMarker x (RST0 + i % 8)) spelled (more, rest, starts)) room)
+          absurd (ending_not_next n i (at + length (c.raw ++ [])) c.tail end (subst (λ (k : ℕ). IsEnding n k (at + length (c.raw ++ [])) c.tail end) here ends) (subst (λ (x : List ℕ). HasMarker x (RST0 + i % 8)) spelled (more, rest, starts)) space)
       go (p ∷ ps) are spelled each few ends =
-          let m = behind_marker i more rest p ps c.tail (sym starts ∙ spelled) in
+          let m = after_marker i more rest p ps c.tail (sym starts ∙ spelled) in
           let long : at + length (c.raw ++ with_markers i (p ∷ ps)) ≡ at + (more + 2) + length (p.raw ++ with_markers (suc i) ps) =
           omega (arith, m.0, ap length no_raw, length-append c.raw (with_markers i (p ∷ ps)), length-append (marker p.more (RST0 + i % 8)) (p.raw ++ with_markers (suc i) ps), length_marker p.more (RST0 + i % 8)) in
           let number : i + length (p ∷ ps) ≡ suc i + length ps = omega arith in
@@ -61,7 +61,7 @@ module _ (n i at : ℕ) (tail : List ℕ) (others : List (List ℕ)) (end : Scan
             means = refl;
             ends = subst (λ (o : ℕ). IsEnding n (suc i + length ps) o c.tail end) long (subst (λ (k : ℕ). IsEnding n k (at + length (c.raw ++ with_markers i (p ∷ ps))) c.tail end) number ends);
           } in
-          record { first = p.bytes; behind = bytes_of ps; are = are; cut = subst (λ (k : ℕ). CutFrom n k (at + (more + 2)) rest (p.bytes ∷ bytes_of ps) end) (sym (add-one i)) cut }
+          record { first = p.bytes; after = bytes_of ps; are = are; cut = subst (λ (k : ℕ). CutFrom n k (at + (more + 2)) rest (p.bytes ∷ bytes_of ps) end) (sym (add-one i)) cut }
 
   pub last_cut : (o : ℕ) (e : ScanEnd) → IsEnding n i o tail e → others ≡ []
   last_cut o e ending = go c.segments are spelled c.few

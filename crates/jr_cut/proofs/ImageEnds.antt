@@ -13,7 +13,7 @@ use Rattle.jr_cut.proofs.Segments.{length_marker, longer}
 
 record CutTo (n k at : ℕ) (bytes : List ℕ) (ds : List (List ℕ)) (end : ScanEnd) (tail : List ℕ) : Type 0 where
   pub cut : CutFrom n k at bytes ds end
-  pub behind : cut.tail ≡ tail
+  pub after : cut.tail ≡ tail
 
 cut_to : (n k j at : ℕ) (ds : List (List ℕ)) (read tail : List ℕ) (end : ScanEnd) → AreSegments k read ds → suc j ≡ k + length ds → j < n → IsEnding n j (at + length read) tail end → CutTo n k at (read ++ tail) ds end tail
 cut_to n k j at [] read tail end a e few ends = absurd a
@@ -21,7 +21,7 @@ cut_to n k j at (d ∷ []) read tail end a e few ends =
     let same : j ≡ k = omega (arith, e) in
     let within : k < n = omega (arith, same, few) in
     let here = subst (λ (i : ℕ). IsEnding n i (at + length read) tail end) same ends in
-    record { cut = cut_last n k at (read ++ tail) read d tail end within a refl here; behind = cut_last_tail n k at (read ++ tail) read d tail end within a refl here }
+    record { cut = cut_last n k at (read ++ tail) read d tail end within a refl here; after = cut_last_tail n k at (read ++ tail) read d tail end within a refl here }
 cut_to n k j at (d ∷ f ∷ ds) read tail end (raw, more, others, is, first, a) e few ends =
     let m = marker more (RST0 + k % 8) in
     let next = at + length raw + more + 2 in
@@ -30,7 +30,7 @@ cut_to n k j at (d ∷ f ∷ ds) read tail end (raw, more, others, is, first, a)
     let whole = longer raw m others tail read is in
     record {
       cut = cut_next n k at next more (read ++ tail) raw d (others ++ tail) (f ∷ ds) end first whole refl rest.cut;
-      behind = cut_next_tail n k at next more (read ++ tail) raw d (others ++ tail) (f ∷ ds) end first whole refl rest.cut ∙ rest.behind;
+      after = cut_next_tail n k at next more (read ++ tail) raw d (others ++ tail) (f ∷ ds) end first whole refl rest.cut ∙ rest.after;
     }
 
 all_cut : (start : ℕ) (bytes : List ℕ) (c : PartialCutValue) (h : HasCut start bytes c) → CutTo c.intervals 0 start bytes c.segments c.ended h.tail
@@ -77,7 +77,7 @@ after_fill start bytes c fill h ended full next =
         cut = cut.cut;
         more = m.0;
         after = m.1;
-        ended = cut.behind ∙ m.2;
+        ended = cut.after ∙ m.2;
         begins = omega (arith, h.all, count, sum);
       };
     }

@@ -55,15 +55,15 @@ module _ (file : List ℕ) (n : ℕ) (datas : List (List ℕ)) (ended : ScanEnd)
         subst (λ (o : ℕ). CutFrom n i o tail ([] ∷ split.others) ended) long (subst (λ (x : List ℕ). CutFrom n i (at + length (take len (drop at file))) tail (x ∷ split.others) ended) (split.none stop) split.cut)
 
     goes_on : (count : ℕ) → i + 1 < n → BeginsWithRestart i tail count → BeginsSegment file n datas ended (i + 1) (end + count)
-    goes_on count room m =
-        let c = next_cut n i end tail split.others ended cut m.more (drop count tail) room m.spelled in
+    goes_on count space m =
+        let c = next_cut n i end tail split.others ended cut m.more (drop count tail) space m.spelled in
         let place : end + (m.more + 2) ≡ end + count = omega (arith, m.long) in
-        let cut1 = subst (λ (o : ℕ). CutFrom n (i + 1) o (drop count tail) (c.first ∷ c.behind) ended) place c.cut in
+        let cut1 = subst (λ (o : ℕ). CutFrom n (i + 1) o (drop count tail) (c.first ∷ c.after) ended) place c.cut in
         record {
           within = restart_within file end i count within m;
-          segments = c.first ∷ c.behind;
+          segments = c.first ∷ c.after;
           empty = b.empty;
-          cut = subst (λ (x : List ℕ). CutFrom n (i + 1) (end + count) x (c.first ∷ c.behind) ended) (drop-drop count end file) cut1;
+          cut = subst (λ (x : List ℕ). CutFrom n (i + 1) (end + count) x (c.first ∷ c.after) ended) (drop-drop count end file) cut1;
           intervals = after ∙ ap (λ (x : List (List ℕ)). x ++ replicate b.empty []) c.are;
         }
 

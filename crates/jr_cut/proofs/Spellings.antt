@@ -21,13 +21,13 @@ begin (p ∷ ps) (q ∷ qs) s t hp hq le e =
     let b = begin ps qs s t hp.1 hq.1 (omega (arith, le)) first.1 in
     record { others = b.others; are = ap (λ (r : Spelling). r ∷ qs) (sym first.0) ∙ ap (λ (l : List Spelling). p ∷ l) b.are; rest = b.rest }
 
-all_behind : (ps qs : List Spelling) → AllByRecursion IsSpelling (ps ++ qs) → AllByRecursion IsSpelling qs
-all_behind [] qs h = h
-all_behind (p ∷ ps) qs h = all_behind ps qs h.1
+all_after : (ps qs : List Spelling) → AllByRecursion IsSpelling (ps ++ qs) → AllByRecursion IsSpelling qs
+all_after [] qs h = h
+all_after (p ∷ ps) qs h = all_after ps qs h.1
 
-none_behind : (others : List Spelling) (s t : List ℕ) → IsStop s → AllByRecursion IsSpelling others → s ≡ flat_map spelling others ++ t → others ≡ []
-none_behind [] s t stop each e = refl
-none_behind (p ∷ ps) s t stop each e = absurd (not_stop s (flat_map spelling ps ++ t) p stop each.0 (e ∙ append_assoc (spelling p) (flat_map spelling ps) t))
+none_after : (others : List Spelling) (s t : List ℕ) → IsStop s → AllByRecursion IsSpelling others → s ≡ flat_map spelling others ++ t → others ≡ []
+none_after [] s t stop each e = refl
+none_after (p ∷ ps) s t stop each e = absurd (not_stop s (flat_map spelling ps ++ t) p stop each.0 (e ∙ append_assoc (spelling p) (flat_map spelling ps) t))
 
 -- the data that is spelled further: none after a stop
 pub record Further (r a q b s t : List ℕ) : Type 0 where
@@ -45,7 +45,7 @@ module _ (r a q b s t : List ℕ) (hr : IsRaw r a) (hq : IsRaw q b) (e : r ++ s 
       let long_q : length b ≡ length hq.parts = ap length hq.means ∙ length-map hq.parts byte_spelled in
       let parts : flat_map spelling hr.parts ++ s ≡ flat_map spelling hq.parts ++ t = ap (λ (x : List ℕ). x ++ s) (sym hr.spelled) ∙ e ∙ ap (λ (x : List ℕ). x ++ t) hq.spelled in
       let c = begin hr.parts hq.parts s t hr.each hq.each (omega (arith, le, long_r, long_q)) parts in
-      let each = all_behind hr.parts c.others (subst (AllByRecursion IsSpelling) c.are hq.each) in
+      let each = all_after hr.parts c.others (subst (AllByRecursion IsSpelling) c.are hq.each) in
       record {
         raw = flat_map spelling c.others;
         added = map byte_spelled c.others;
@@ -53,7 +53,7 @@ module _ (r a q b s t : List ℕ) (hr : IsRaw r a) (hq : IsRaw q b) (e : r ++ s 
         spelled = c.rest;
         raw_is = record { parts = c.others; each = each; spelled = refl; means = refl };
         none = λ stop.
-            let empty = none_behind c.others s t stop each c.rest in
+            let empty = none_after c.others s t stop each c.rest in
             (ap (map byte_spelled) empty, c.rest ∙ ap (λ (os : List Spelling). flat_map spelling os ++ t) empty);
       }
 

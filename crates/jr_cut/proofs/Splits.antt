@@ -15,11 +15,11 @@ pub record SplitCut (n k at : ℕ) (found tail : List ℕ) (datas : List (List �
 
 pub split_cut : (n k at : ℕ) (raw found tail : List ℕ) (datas : List (List ℕ)) (end : ScanEnd) → IsRaw raw found → CutFrom n k at (raw ++ tail) datas end → SplitCut n k (at + length raw) found tail datas end
 split_cut n k at raw found tail datas end is c =
-    let behind = with_markers k c.segments ++ c.tail in
+    let after = with_markers k c.segments ++ c.tail in
     let stop = markers_stop n (k + length c.segments) k (at + length (c.raw ++ with_markers k c.segments)) c.segments c.tail end c.ends in
-    let f = begins_stopped raw found c.raw c.first tail behind is c.is_raw c.spelled stop in
+    let f = begins_stopped raw found c.raw c.first tail after is c.is_raw c.spelled stop in
     let offset : at + length (c.raw ++ with_markers k c.segments) ≡ at + length raw + length (f.raw ++ with_markers k c.segments) =
-    omega (arith, length-append c.raw (with_markers k c.segments), length-append f.raw (with_markers k c.segments), ap length c.spelled, length-append raw tail, length-append c.raw behind, ap length f.spelled, length-append f.raw behind) in
+    omega (arith, length-append c.raw (with_markers k c.segments), length-append f.raw (with_markers k c.segments), ap length c.spelled, length-append raw tail, length-append c.raw after, ap length f.spelled, length-append f.raw after) in
     record {
       rest = f.added;
       others = map (λ (p : CodedSegment). p.bytes) c.segments;

@@ -13,10 +13,10 @@ use Rattle.jr_cut.proofs.Cuts.{raw_none, raw_plain, raw_stuffed, fill_next, Segm
 
 -- bytes other than FF spell themselves
 pub raw_run : (bytes found : List ℕ) (at n : ℕ) → at + n ≤ length bytes → ((k : ℕ) → k < n → get_or (drop at bytes) k 0 ≢ PREFIX) → IsRaw (take at bytes) found → IsRaw (take (at + n) bytes) (found ++ take n (drop at bytes))
-raw_run bytes found at zero room plain r =
+raw_run bytes found at zero space plain r =
     let e : at + 0 ≡ at = omega arith in
     subst (λ (k : ℕ). IsRaw (take k bytes) (found ++ [])) (sym e) (subst (λ (x : List ℕ). IsRaw (take at bytes) x) (sym (append-nil found)) r)
-raw_run bytes found at (suc n) room plain r =
+raw_run bytes found at (suc n) space plain r =
     let before = raw_run bytes found at n (omega arith) (λ k lt. plain k (omega arith)) r in
     let byte : get_or (drop at bytes) n 0 ≡ get_or bytes (at + n) 0 = get_or-drop at bytes n 0 in
     let one = raw_plain bytes (found ++ take n (drop at bytes)) (at + n) (omega arith) (λ e. plain n (omega arith) (byte ∙ e)) before in
@@ -32,18 +32,18 @@ pub unstuffs_none : (bytes old : List ℕ) → Unstuffs (take 0 bytes) old old
 unstuffs_none bytes old = record { added = []; is = raw_none; joins = sym (append-nil old) }
 
 pub unstuffs_run : (bytes old new new' : List ℕ) (at n : ℕ) → at + n ≤ length bytes → ((k : ℕ) → k < n → get_or (drop at bytes) k 0 ≢ PREFIX) → new' ≡ new ++ take n (drop at bytes) → Unstuffs (take at bytes) old new → Unstuffs (take (at + n) bytes) old new'
-unstuffs_run bytes old new new' at n room plain wrote u =
+unstuffs_run bytes old new new' at n space plain wrote u =
     record {
       added = u.added ++ take n (drop at bytes);
-      is = raw_run bytes u.added at n room plain u.is;
+      is = raw_run bytes u.added at n space plain u.is;
       joins = wrote ∙ ap (λ (x : List ℕ). x ++ take n (drop at bytes)) u.joins ∙ append_assoc old u.added (take n (drop at bytes));
     }
 
 pub unstuffs_stuffed : (bytes old new new' : List ℕ) (at n : ℕ) → at + n < length bytes → take n (drop at bytes) ≡ replicate n PREFIX → 0 < n → get_or bytes (at + n) 0 ≡ 0 → new' ≡ new ++ PREFIX ∷ [] → Unstuffs (take at bytes) old new → Unstuffs (take (at + n + 1) bytes) old new'
-unstuffs_stuffed bytes old new new' at n room full some zero_byte wrote u =
+unstuffs_stuffed bytes old new new' at n space full some zero_byte wrote u =
     record {
       added = u.added ++ PREFIX ∷ [];
-      is = raw_stuffed bytes u.added at n room full some zero_byte u.is;
+      is = raw_stuffed bytes u.added at n space full some zero_byte u.is;
       joins = wrote ∙ ap (λ (x : List ℕ). x ++ PREFIX ∷ []) u.joins ∙ append_assoc old u.added (PREFIX ∷ []);
     }
 
@@ -100,10 +100,10 @@ pub record SegmentMade (bytes old new : List ℕ) (spans spans' : List Span) (at
 pub segment_made : (bytes now left old new : List ℕ) (spans spans' : List Span) (at count : ℕ) (s : Span) → at ≤ length bytes → length old ≤ at → now ≡ drop at bytes
     → count ≤ length now → Unstuffs (take count now) old new → left ≡ drop count now → IsStop left
     → All (IsSpanOf old) spans → s.start ≡ length old → s.end ≡ length new → spans' ≡ spans ++ s ∷ [] → SegmentMade bytes old new spans spans' at count
-segment_made bytes now left old new spans spans' at count s h few e room u behind stop within from to pushed =
-    let room' = subst (λ (x : List ℕ). count ≤ length x) e room in
+segment_made bytes now left old new spans spans' at count s h few e space u after stop within from to pushed =
+    let room' = subst (λ (x : List ℕ). count ≤ length x) e space in
     let u' = subst (λ (x : List ℕ). Unstuffs (take count x) old new) e u in
-    let stop' = subst IsStop (behind ∙ ap (drop count) e) stop in
+    let stop' = subst IsStop (after ∙ ap (drop count) e) stop in
     let long = raw_long (take count (drop at bytes)) u'.added u'.is in
     record {
       found = u'.added;
@@ -131,9 +131,9 @@ pub record RunMade (bytes old new rest : List ℕ) (at count : ℕ) : Type 0 whe
 pub run_made : (bytes old before now new rest slice : List ℕ) (at count : ℕ) → at ≤ length bytes → now ≡ drop at bytes → Unstuffs (take at bytes) old before → slice ≡ now
     → count ≤ length slice → ((k : ℕ) → k < count → get_or slice k 0 ≢ PREFIX) → (count < length slice → get_or slice count 0 ≡ PREFIX)
     → new ≡ before ++ take count now → rest ≡ drop count now → RunMade bytes old new rest at count
-run_made bytes old before now new rest slice at count h e u es room plain next wrote left =
+run_made bytes old before now new rest slice at count h e u es space plain next wrote left =
     let whole : slice ≡ drop at bytes = es ∙ e in
-    let room' = subst (λ (x : List ℕ). count ≤ length x) whole room in
+    let room' = subst (λ (x : List ℕ). count ≤ length x) whole space in
     let plain' = subst (λ (x : List ℕ). (k : ℕ) → k < count → get_or x k 0 ≢ PREFIX) whole plain in
     let next' = subst (λ (x : List ℕ). count < length x → get_or x count 0 ≡ PREFIX) whole next in
     let within : at + count ≤ length bytes = omega (arith, room', length-drop at bytes) in
@@ -166,13 +166,13 @@ pub left_in : (bytes rest slice : List ℕ) (at : ℕ) → rest ≡ drop at byte
 left_in bytes rest slice at e es = ap length (es ∙ e) ∙ length-drop at bytes
 
 -- what is left of bytes after what is read of them
-pub left_behind : (bytes now left : List ℕ) (at count : ℕ) → now ≡ drop at bytes → left ≡ drop count now → left ≡ drop (at + count) bytes
-left_behind bytes now left at count e behind = behind ∙ ap (drop count) e ∙ drop-drop count at bytes
+pub left_after : (bytes now left : List ℕ) (at count : ℕ) → now ≡ drop at bytes → left ≡ drop count now → left ≡ drop (at + count) bytes
+left_after bytes now left at count e after = after ∙ ap (drop count) e ∙ drop-drop count at bytes
 
 -- further FF bytes after FF bytes
 pub fill_more : (xs : List ℕ) (at n m : ℕ) → take n (drop at xs) ≡ replicate n PREFIX → take m (drop (at + n) xs) ≡ replicate m PREFIX → take (n + m) (drop at xs) ≡ replicate (n + m) PREFIX
-fill_more xs at n m before behind =
-    take-add n m (drop at xs) ∙ ap (λ (l : List ℕ). l ++ take m (drop n (drop at xs))) before ∙ ap (λ (l : List ℕ). replicate n PREFIX ++ take m l) (drop-drop n at xs) ∙ ap (λ (l : List ℕ). replicate n PREFIX ++ l) behind ∙ joined n m
+fill_more xs at n m before after =
+    take-add n m (drop at xs) ∙ ap (λ (l : List ℕ). l ++ take m (drop n (drop at xs))) before ∙ ap (λ (l : List ℕ). replicate n PREFIX ++ take m l) (drop-drop n at xs) ∙ ap (λ (l : List ℕ). replicate n PREFIX ++ l) after ∙ joined n m
   where
     joined : (n m : ℕ) → replicate n PREFIX ++ replicate m PREFIX ≡ replicate (n + m) PREFIX
     joined zero m = let z : 0 + m ≡ m = omega arith in ap (λ (k : ℕ). replicate k PREFIX) (sym z)

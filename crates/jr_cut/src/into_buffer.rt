@@ -75,18 +75,18 @@ fn ends_within(raw: &[u8], read: usize, most: usize) -> bool
     most == raw.len() || read + fill < most
 }
 
-/// Writes the data that the first `most` bytes of `raw` spell into the first bytes of `room`, up to a marker or the end,
+/// Writes the data that the first `most` bytes of `raw` spell into the first bytes of `space`, up to a marker or the end,
 /// or until that is full.
-pub fn unstuff_some(raw: &[u8], most: usize, room: &mut [u8]) -> Part
-    ensures fits { result.found ≤ length room.old }
-    ensures long { length room.new ≡ length room.old }
-    ensures spells { (read : ℕ) × (read ≤ length raw.now) × IsRaw (take read raw.now) (take result.found room.new) × (result.ends ≡ true → IsStop (drop read raw.now)) }
-    ensures whole { length raw.now ≤ most → result.ends ≡ false → result.found ≡ length room.old }
-    ensures some { (n : ℕ) (front : List ℕ) → n ≤ most → n ≤ length raw.now → IsRaw (take n raw.now) front → length front ≤ length room.old → length front ≤ result.found }
+pub fn unstuff_some(raw: &[u8], most: usize, space: &mut [u8]) -> Part
+    ensures fits { result.found ≤ length space.old }
+    ensures long { length space.new ≡ length space.old }
+    ensures spells { (read : ℕ) × (read ≤ length raw.now) × IsRaw (take read raw.now) (take result.found space.new) × (result.ends ≡ true → IsStop (drop read raw.now)) }
+    ensures whole { length raw.now ≤ most → result.ends ≡ false → result.found ≡ length space.old }
+    ensures some { (n : ℕ) (front : List ℕ) → n ≤ most → n ≤ length raw.now → IsRaw (take n raw.now) front → length front ≤ length space.old → length front ≤ result.found }
 {
     let end = most.min(raw.len());
-    let Spelled { read, found } = unstuff_into(&raw[..end], room);
-    if found == room.len() {
+    let Spelled { read, found } = unstuff_into(&raw[..end], space);
+    if found == space.len() {
         return Part { found, ends: false };
     }
     Part {

@@ -91,7 +91,7 @@ impl PartialSegments {
         ensures taken { IfOk result (λ _. (start : ℕ) (bytes : List ℕ) → HaveRead start bytes self.old → HaveRead start (bytes ++ more.now) self.new) }
         ensures all { IfOk result (λ _. self.new.bytes.rest ≡ self.old.bytes.rest ++ more.now) }
         ensures same { (self.new.intervals ≡ self.old.intervals) × (self.new.at ≡ self.old.at) × (self.new.bytes.unstuffed ≡ self.old.bytes.unstuffed) }
-        ensures room { OnOk result (2 * vec_capacity self.new.spans + 1 < 2 * length self.new.spans.items + length self.new.bytes.rest → self.new.intervals ≤ vec_capacity self.new.spans + 1) }
+        ensures space { OnOk result (2 * vec_capacity self.new.spans + 1 < 2 * length self.new.spans.items + length self.new.bytes.rest → self.new.intervals ≤ vec_capacity self.new.spans + 1) }
         ensures memory { (end : ScanEnd) → IfErr result (λ _. cut_of self.new end ≡ cut_of self.old end) }
     {
         let markers = (self.bytes.rest().len() + more.len()) / 2;

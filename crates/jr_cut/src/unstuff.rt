@@ -116,7 +116,7 @@ impl Unstuffing {
     }
 
     /// Reads bytes that spell one byte.
-    fn put(&mut self, count: usize, byte: u8)
+    fn store(&mut self, count: usize, byte: u8)
         requires some { 0 < count }
         requires within { count ≤ length self.old.rest }
         ensures data { self.new.unstuffed ≡ self.old.unstuffed ++ byte ∷ [] }
@@ -156,7 +156,7 @@ impl Unstuffing {
             if next >= self.rest().len() || self.rest()[next] != 0 {
                 return at;
             }
-            self.put(next + 1, PREFIX);
+            self.store(next + 1, PREFIX);
             at += next + 1;
         }
     }

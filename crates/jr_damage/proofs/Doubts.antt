@@ -9,7 +9,7 @@ use Rattle.jr_base.specs.Blocks.{at, AreFactors}
 use Rattle.jr_base.specs.Zigzag.{natural_index, zigzag_place}
 use Rattle.jr_base.proofs.Orders.{natural_below, place_below, place_of_natural}
 use Rattle.jr_head.specs.HeadValue.{HeadValue}
-use Rattle.jr_head.specs.Geometry.{order_of, IsLawful}
+use Rattle.jr_head.specs.Geometry.{order_of, IsValid}
 use Rattle.jr_mcu.specs.Mcus.{no_predictions, Mcus}
 use Rattle.jr_scan.specs.declared.place.RunEnd.TheVariants.{AllRead}
 use Rattle.jr_scan.specs.IntervalValue.{IntervalValue}
@@ -106,11 +106,11 @@ module _ (i : IntervalValue) (r r' : McuReaderValue) (m : ℕ) (ys : List (List 
   pub found_within : m < i.mcus
   found_within = omega (arith, number, own_few r' i (s.zs ++ ys) (run ∙ s.run, read))
 
-pub sought_all : (i : IntervalValue) (r : McuReaderValue) (m : ℕ) → IsLawful r.run.interval.head → HasSought i r m → HasEnded r → HasNoDoubtful i
-sought_all i r m lawful s ended = record {
+pub sought_all : (i : IntervalValue) (r : McuReaderValue) (m : ℕ) → IsValid r.run.interval.head → HasSought i r m → HasEnded r → HasNoDoubtful i
+sought_all i r m valid s ended = record {
   mcus = r.mcu;
   blocks = s.zs;
-  front = longest_read r i s.zs lawful ((s.run, s.read), ended);
+  front = longest_read r i s.zs valid ((s.run, s.read), ended);
   none = subst (NoneDoubtful i.head s.zs) (sym s.mcu) s.none;
 }
 

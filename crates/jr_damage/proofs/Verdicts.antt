@@ -11,25 +11,25 @@ use Rattle.jr_scan.specs.Mcus.{HasNoDecoding, HasDecoding}
 use Rattle.jr_scan.specs.ScanValue.{ScanValue, interval_of}
 use Rattle.jr_damage.specs.declared.lines.Lines.{Lines}
 use Rattle.jr_damage.specs.declared.verdict.Verdict.{Verdict}
-use Rattle.jr_damage.specs.Damage.{TellsDamage, CountsDamaged}
+use Rattle.jr_damage.specs.Damage.{ReportsDamage, CountsDamaged}
 use Rattle.jr_damage.specs.Lines.{Touches, AreLinesOf}
 use Rattle.jr_damage.specs.Verdicts.{DamageTouches, IsHull, IsTouched, IsVerdictOf}
 
 pub counts_none : (s : ScanValue) → CountsDamaged s 0 0
 counts_none s = record { marks = []; long = refl; each = λ i lt. absurd (omega arith); counted = refl }
 
-pub counts_more : (s : ScanValue) (n count next count' : ℕ) (b : Bool) → CountsDamaged s n count → TellsDamage (interval_of s n) b → next ≡ n + 1 → count' ≡ count + count_by (λ (damaged : Bool). damaged) (b ∷ []) → CountsDamaged s next count'
+pub counts_more : (s : ScanValue) (n count next count' : ℕ) (b : Bool) → CountsDamaged s n count → ReportsDamage (interval_of s n) b → next ≡ n + 1 → count' ≡ count + count_by (λ (damaged : Bool). damaged) (b ∷ []) → CountsDamaged s next count'
 counts_more s n count next count' b c is e more =
     record {
       marks = c.marks ++ b ∷ [];
       long = omega (arith, length-append c.marks (b ∷ []), c.long, e);
       each = λ i lt. elim (cases_lt i n) [
-        | inl h ↦ let at : get_or (c.marks ++ b ∷ []) i false ≡ get_or c.marks i false = get_or-append c.marks (b ∷ []) false i (omega (arith, h, c.long)) in subst (TellsDamage (interval_of s i)) (sym at) (c.each i h)
+        | inl h ↦ let at : get_or (c.marks ++ b ∷ []) i false ≡ get_or c.marks i false = get_or-append c.marks (b ∷ []) false i (omega (arith, h, c.long)) in subst (ReportsDamage (interval_of s i)) (sym at) (c.each i h)
         | inr h ↦
             let same : n ≡ i = omega (arith, h, lt, e) in
             let long : length c.marks ≡ i = c.long ∙ same in
             let at : get_or (c.marks ++ b ∷ []) i false ≡ b = subst (λ (k : ℕ). get_or (c.marks ++ b ∷ []) k false ≡ b) long (get_or-append_seam c.marks b [] false) in
-            subst (TellsDamage (interval_of s i)) (sym at) (subst (λ (k : ℕ). TellsDamage (interval_of s k) b) same is)
+            subst (ReportsDamage (interval_of s i)) (sym at) (subst (λ (k : ℕ). ReportsDamage (interval_of s k) b) same is)
       ];
       counted = omega (arith, more, c.counted, sum_by-append (λ (damaged : Bool). cond damaged 1 0) c.marks (b ∷ []));
     }
@@ -109,7 +109,7 @@ verdict_damaged s n count v m r is d are e none first last =
     record { damaged = counts_more s n v.damaged (n + 1) count true is.damaged d refl (omega (arith, e)); lines = touched_more s n (n + 1) v.lines m r is.lines d are refl none first last; few = omega (arith, e, is.few) }
 
 -- an interval is damaged or it is not, and never both
-one_mark : (i : IntervalValue) (x y : Bool) → TellsDamage i x → TellsDamage i y → x ≡ y
+one_mark : (i : IntervalValue) (x y : Bool) → ReportsDamage i x → ReportsDamage i y → x ≡ y
 one_mark i true true p q = refl
 one_mark i false false p q = refl
 one_mark i true false p q = absurd (p q.0 q.1)

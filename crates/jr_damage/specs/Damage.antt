@@ -5,13 +5,13 @@ use Rattle.jr_scan.specs.ScanValue.{ScanValue, interval_of}
 use Rattle.jr_scan.specs.Mcus.{HasDecoding, HasNoDecoding}
 
 -- the interval is damaged, or it is not
-abbrev pub TellsDamage : IntervalValue → Bool → Type 0
-TellsDamage i true = HasNoDecoding i
-TellsDamage i false = HasDecoding i
+abbrev pub ReportsDamage : IntervalValue → Bool → Type 0
+ReportsDamage i true = HasNoDecoding i
+ReportsDamage i false = HasDecoding i
 
 -- the number of damaged intervals among the first n of a scan; marks has for each whether it is damaged
 pub record CountsDamaged (s : ScanValue) (n count : ℕ) : Type 0 where
   pub marks : List Bool
   pub long : length marks ≡ n
-  pub each : (i : ℕ) → i < n → TellsDamage (interval_of s i) (slice_index_or marks i false)
+  pub each : (i : ℕ) → i < n → ReportsDamage (interval_of s i) (slice_index_or marks i false)
   pub counted : count ≡ count_by (λ (damaged : Bool). damaged) marks

@@ -40,7 +40,7 @@ impl<'s, 'a, R: Wait, S: OneScan> Beside for Reading<'s, 'a, R, S> {
 
     ghost may = { λ r. Unit };
 
-    ghost gives = { λ r verdict. IsVerdictOf r.scan.now (length r.scan.now.intervals) verdict };
+    ghost returned = { λ r verdict. IsVerdictOf r.scan.now (length r.scan.now.intervals) verdict };
 
     fn run(self) -> Verdict {
         let verdict = check_by(self.scan, self.rt);
@@ -73,7 +73,7 @@ fn check_as<R: Threads + Wait + Sync, S: OneScan + Send>(
     ensures { IsVerdictOf part.entry.scan (length part.entry.scan.intervals) result }
 {
     let scan = part.scan();
-    let room = helpers.saturating_add(WAITING_READS_OF_CHECK);
+    let space = helpers.saturating_add(WAITING_READS_OF_CHECK);
     let step = step_of(scan.head());
     let size = BufferSize {
         mcus: step.saturating_mul(STEPS_OF_BUFFER),
@@ -84,7 +84,7 @@ fn check_as<R: Threads + Wait + Sync, S: OneScan + Send>(
         &part,
         0,
         part.limit(),
-        room,
+        space,
         step,
         size,
     );

@@ -38,7 +38,7 @@ fn joined(some: Option<Lines>, others: Lines) -> Lines
 fn with_front(scan: &Scan, i: u32, front: Option<u32>, before: Verdict) -> Verdict
     requires there { i < length scan.now.intervals }
     requires below { i < intervals_of scan.now.head }
-    requires room { i + 1 < 2 ^ 32 }
+    requires space { i + 1 < 2 ^ 32 }
     requires before { IsVerdictOf scan.now i before }
     requires sound { IfNone front (HasDecoding (interval_of scan.now i)) }
     requires damaged { OnSome front (HasNoDecoding (interval_of scan.now i)) }

@@ -16,7 +16,7 @@ use Rattle.jr_segments.specs.declared.kind.Kind.TheVariants.{Grey, Rgb, Ycc}
 use Rattle.jr_segments.specs.Bytes.{byte}
 use Rattle.jr_segments.specs.Frames.{is_factor, have_factors, divides, is_ill_sampled, blocks, IsAccepted}
 use Rattle.jr_segments.specs.Frames.{greatest_horizontal as frame_across, greatest_vertical as frame_down}
-use Rattle.jr_head.specs.Geometry.{no_component, units_of, component_count, greatest_across, greatest_down, IsSampled, IsSubsampled, IsCoded, AreLawful}
+use Rattle.jr_head.specs.Geometry.{no_component, units_of, component_count, greatest_across, greatest_down, IsSampled, IsSubsampled, IsCoded, AreValid}
 use Rattle.jr_segments.specs.Marks.{kind_by}
 use Rattle.jr_head.specs.Definitions.{HasFactors, HaveFactors}
 use Rattle.jr_head.specs.Scans.{selectors_in, selectors}
@@ -168,9 +168,9 @@ each_coded is_single [] (e ∷ fs) h = absurd h
 each_coded is_single (c ∷ cs) [] h = absurd h
 each_coded is_single (c ∷ cs) (e ∷ fs) h = (h.0.coded, each_coded is_single cs fs h.1)
 
-all_lawful : (kind : Kind) (cs : List Component) → length cs ≡ component_count kind → 0 < length cs → Tests cs → All IsCoded cs
-    → (kind ≡ Grey → ((slice_index_or cs 0 no_component).horizontal ≡ 1) × ((slice_index_or cs 0 no_component).vertical ≡ 1)) → AreLawful kind cs
-all_lawful kind cs count some t coded ones = record {
+all_valid : (kind : Kind) (cs : List Component) → length cs ≡ component_count kind → 0 < length cs → Tests cs → All IsCoded cs
+    → (kind ≡ Grey → ((slice_index_or cs 0 no_component).horizontal ≡ 1) × ((slice_index_or cs 0 no_component).vertical ≡ 1)) → AreValid kind cs
+all_valid kind cs count some t coded ones = record {
   count = count;
   sampled = t.0;
   coded = coded;
@@ -183,13 +183,13 @@ all_lawful kind cs count some t coded ones = record {
   blocks = t.2;
 }
 
-one_lawful : (cs : List Component) (fs : List FrameComponent) → length fs ≡ 1 → AllZip (HasFactors true) cs fs → AreLawful Grey cs
-one_lawful cs [] one h = absurd (omega (arith, one))
-one_lawful cs (e ∷ f ∷ fs) one h = absurd (omega (arith, one))
-one_lawful [] (e ∷ []) one h = absurd h
-one_lawful (c ∷ d ∷ cs) (e ∷ []) one h = absurd h.1
-one_lawful (c ∷ []) (e ∷ []) one h =
-    all_lawful Grey (c ∷ []) refl (omega arith) (single c h.0.horizontal h.0.vertical h.0.elements) (All-from_recursion IsCoded (c ∷ []) (h.0.coded, tt)) (λ _. (h.0.horizontal, h.0.vertical))
+one_valid : (cs : List Component) (fs : List FrameComponent) → length fs ≡ 1 → AllZip (HasFactors true) cs fs → AreValid Grey cs
+one_valid cs [] one h = absurd (omega (arith, one))
+one_valid cs (e ∷ f ∷ fs) one h = absurd (omega (arith, one))
+one_valid [] (e ∷ []) one h = absurd h
+one_valid (c ∷ d ∷ cs) (e ∷ []) one h = absurd h.1
+one_valid (c ∷ []) (e ∷ []) one h =
+    all_valid Grey (c ∷ []) refl (omega arith) (single c h.0.horizontal h.0.vertical h.0.elements) (All-from_recursion IsCoded (c ∷ []) (h.0.coded, tt)) (λ _. (h.0.horizontal, h.0.vertical))
 
 two_kinds : (b : Bool) → (component_count (if b then Rgb else Ycc) ≡ 3) × ((if b then Rgb else Ycc) ≡ Grey → ⊥)
 two_kinds true = (refl, λ e. absurd cc)
@@ -198,20 +198,20 @@ two_kinds false = (refl, λ e. absurd cc)
 coloured : (is_jfif : Bool) (transform : Option ℕ) → (component_count (kind_by false is_jfif transform) ≡ 3) × (kind_by false is_jfif transform ≡ Grey → ⊥)
 coloured is_jfif transform = two_kinds (option_map_or (λ t. t == 0) transform false && not is_jfif)
 
-more_lawful : (is_jfif : Bool) (transform : Option ℕ) (cs : List Component) (fs : List FrameComponent) → length fs ≡ 3 → AllZip (HasFactors false) cs fs → have_factors fs ≡ true
-    → is_ill_sampled fs ≡ false → AreLawful (kind_by false is_jfif transform) cs
-more_lawful is_jfif transform cs fs three h good well =
+more_valid : (is_jfif : Bool) (transform : Option ℕ) (cs : List Component) (fs : List FrameComponent) → length fs ≡ 3 → AllZip (HasFactors false) cs fs → have_factors fs ≡ true
+    → is_ill_sampled fs ≡ false → AreValid (kind_by false is_jfif transform) cs
+more_valid is_jfif transform cs fs three h good well =
     let count : length cs ≡ 3 = sym (AllZip-long (HasFactors false) cs fs h) ∙ three in
     let k = coloured is_jfif transform in
-    all_lawful (kind_by false is_jfif transform) cs (count ∙ sym k.0) (omega (arith, count)) (several cs fs three h good well) (All-from_recursion IsCoded cs (each_coded false cs fs h)) (λ e. absurd (k.1 e))
+    all_valid (kind_by false is_jfif transform) cs (count ∙ sym k.0) (omega (arith, count)) (several cs fs three h good well) (All-from_recursion IsCoded cs (each_coded false cs fs h)) (λ e. absurd (k.1 e))
 
 by_count : (f : Frame) (cs : List Component) (is_jfif : Bool) (transform : Option ℕ) → IsAccepted f → HaveFactors f.components.items cs → (length f.components.items ≡ 1) ⊎ (length f.components.items ≡ 3)
-    → AreLawful (kind_by (length f.components.items == 1) is_jfif transform) cs
-by_count f cs is_jfif transform a h (inl one) = rw one (one_lawful cs f.components.items one (rw one at h))
-by_count f cs is_jfif transform a h (inr three) = rw three (more_lawful is_jfif transform cs f.components.items three (rw three at h) a.factors a.sampled)
+    → AreValid (kind_by (length f.components.items == 1) is_jfif transform) cs
+by_count f cs is_jfif transform a h (inl one) = rw one (one_valid cs f.components.items one (rw one at h))
+by_count f cs is_jfif transform a h (inr three) = rw three (more_valid is_jfif transform cs f.components.items three (rw three at h) a.factors a.sampled)
 
-pub lawful : (f : Frame) (cs : List Component) (is_jfif : Bool) (transform : Option ℕ) → IsAccepted f → HaveFactors f.components.items cs → AreLawful (kind_by (length f.components.items == 1) is_jfif transform) cs
-lawful f cs is_jfif transform a h = by_count f cs is_jfif transform a h a.count
+pub valid : (f : Frame) (cs : List Component) (is_jfif : Bool) (transform : Option ℕ) → IsAccepted f → HaveFactors f.components.items cs → AreValid (kind_by (length f.components.items == 1) is_jfif transform) cs
+valid f cs is_jfif transform a h = by_count f cs is_jfif transform a h a.count
 
 pub few_there : (kind : Kind) (cs : List Component) → length cs ≡ component_count kind → length cs ≤ 3
 few_there Grey cs h = omega (arith, h)

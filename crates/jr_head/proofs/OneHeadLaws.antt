@@ -23,7 +23,7 @@ use Rattle.jr_head.specs.Definitions.{IsComponent, restart_of}
 use Rattle.jr_segments.specs.Frames.{components, width, height}
 use Rattle.jr_head.specs.HeadValue.{HeadValue}
 use Rattle.jr_head.specs.Heads.{Passes, IsChain, Defines, HeadOf, EndsWith, RefusalOf, segment_tests, payload_tests, start_of_image, start_tests, is_single, HasOneHead, HasOneFault}
-use Rattle.jr_segments.specs.Segments.{Segment, segment_bytes, segment_at, behind_segment, has_frame, framing_tests}
+use Rattle.jr_segments.specs.Segments.{Segment, segment_bytes, segment_at, after_segment, has_frame, framing_tests}
 use Rattle.jr_segments.specs.Marks.{kind_of}
 use Rattle.jr_segments.specs.Quantisers.{quantiser_for}
 use Rattle.jr_segments.specs.declared.quantiser.Quantisation.{Quantisation}
@@ -202,9 +202,9 @@ one_outcome size before bytes (i ∷ xs) (j ∷ ys) u v r s d e p q h k =
     let m = next_is before i bytes (flat_map segment_bytes xs ++ u) p.0 (first_spelled i xs bytes u d) in
     let n = next_is before j bytes (flat_map segment_bytes ys ++ v) q.0 (first_spelled j ys bytes v e) in
     let segment : j ≡ i = sym n.segment ∙ m.segment in
-    let left : behind_segment bytes ≡ flat_map segment_bytes xs ++ u = m.after in
-    let right : behind_segment bytes ≡ flat_map segment_bytes ys ++ v = n.after in
-    one_outcome size (before ++ i ∷ []) (behind_segment bytes) xs ys u v r s left right p.2
+    let left : after_segment bytes ≡ flat_map segment_bytes xs ++ u = m.after in
+    let right : after_segment bytes ≡ flat_map segment_bytes ys ++ v = n.after in
+    one_outcome size (before ++ i ∷ []) (after_segment bytes) xs ys u v r s left right p.2
     (subst (λ (x : Segment). IsChain (before ++ x ∷ []) ys) segment q.2)
     (subst (λ (l : List Segment). Comes size l u r) (sym (append_assoc before (i ∷ []) xs)) h)
     (subst (λ (x : Segment). Comes size ((before ++ x ∷ []) ++ ys) v s) segment (subst (λ (l : List Segment). Comes size l v s) (sym (append_assoc before (j ∷ []) ys)) k))
@@ -240,22 +240,22 @@ scanned size before bytes i after e ok is_scan small =
 
 walk_step : (size : ℕ) (before : List Segment) (bytes : List ℕ) (is_scan : Bool) (o : Option Refusal) → IsBytes bytes → length bytes ≤ size → eqb (segment_at bytes).code SOS ≡ is_scan
     → first_fault (segment_tests before (size - length bytes) bytes) ≡ o
-    → ((i : Segment) → length (behind_segment bytes) < length bytes → SomeWalk size (before ++ i ∷ []) (behind_segment bytes)) → SomeWalk size before bytes
+    → ((i : Segment) → length (after_segment bytes) < length bytes → SomeWalk size (before ++ i ∷ []) (after_segment bytes)) → SomeWalk size before bytes
 walk_step size before bytes is_scan (Some f) fits small which e go = ends_here size before bytes (Err f) e
 walk_step size before bytes true None fits small which e go =
     let both = passes_parts (framing_tests (has_frame before) (size - length bytes) bytes) (payload_tests before (segment_at bytes).code (segment_at bytes).payload) e in
     let f = framed_is (has_frame before) (size - length bytes) bytes fits both.0 in
-    scanned size before bytes (segment_at bytes) (behind_segment bytes) f.is (record { code = f.code; short = f.short; payload = both.1 }) (eqb-true (segment_at bytes).code SOS which) (omega (arith, f.shorter, small))
+    scanned size before bytes (segment_at bytes) (after_segment bytes) f.is (record { code = f.code; short = f.short; payload = both.1 }) (eqb-true (segment_at bytes).code SOS which) (omega (arith, f.shorter, small))
 walk_step size before bytes false None fits small which e go =
     let both = passes_parts (framing_tests (has_frame before) (size - length bytes) bytes) (payload_tests before (segment_at bytes).code (segment_at bytes).payload) e in
     let f = framed_is (has_frame before) (size - length bytes) bytes fits both.0 in
-    goes_further size before bytes (segment_at bytes) (behind_segment bytes) f.is (record { code = f.code; short = f.short; payload = both.1 }) (eqb-false (segment_at bytes).code SOS which) (go (segment_at bytes) f.shorter)
+    goes_further size before bytes (segment_at bytes) (after_segment bytes) f.is (record { code = f.code; short = f.short; payload = both.1 }) (eqb-false (segment_at bytes).code SOS which) (go (segment_at bytes) f.shorter)
 
 some_walk : (n size : ℕ) (before : List Segment) (bytes : List ℕ) → length bytes < n → IsBytes bytes → length bytes ≤ size → SomeWalk size before bytes
 some_walk zero size before bytes few fits small = absurd (omega (arith, few))
 some_walk (suc n) size before bytes few fits small =
     walk_step size before bytes (eqb (segment_at bytes).code SOS) (first_fault (segment_tests before (size - length bytes) bytes)) fits small refl refl
-    (λ i shorter. some_walk n size (before ++ i ∷ []) (behind_segment bytes) (omega (arith, few, shorter)) (rest_bytes bytes fits) (omega (arith, shorter, small)))
+    (λ i shorter. some_walk n size (before ++ i ∷ []) (after_segment bytes) (omega (arith, few, shorter)) (rest_bytes bytes fits) (omega (arith, shorter, small)))
 
 -- ---- the whole file
 

@@ -11,7 +11,7 @@ use Rattle.jr_segments.specs.declared.refusal.Refusal.TheVariants.{EndsEarly, Ex
 use Rattle.jr_segments.specs.Bytes.{byte, word}
 use Rattle.jr_segments.specs.Tests.{◌when◌, first_fault}
 use Rattle.jr_base.specs.Fill.{fill_count}
-use Rattle.jr_segments.specs.Segments.{Segment, segment_bytes, segment_at, behind_segment, at_code, is_frame, is_known, is_not_baseline, has_frame, marker_tests, code_tests, length_tests, framing_tests}
+use Rattle.jr_segments.specs.Segments.{Segment, segment_bytes, segment_at, after_segment, at_code, is_frame, is_known, is_not_baseline, has_frame, marker_tests, code_tests, length_tests, framing_tests}
 use Rattle.jr_head.specs.Heads.{Passes, segment_tests, payload_tests}
 use Rattle.jr_segments.proofs.TestLaws.{none_both}
 
@@ -21,9 +21,9 @@ prefix_is : (k c : ℕ) (s : List ℕ) → eqb c PREFIX ≡ false → prefix_len
 prefix_is zero c s e = rw e refl
 prefix_is (suc k) c s e = omega (arith, prefix_is k c s e)
 
-behind_fill : (k : ℕ) (t : List ℕ) → drop k (replicate k PREFIX ++ t) ≡ t
-behind_fill zero t = refl
-behind_fill (suc k) t = behind_fill k t
+after_fill : (k : ℕ) (t : List ℕ) → drop k (replicate k PREFIX ++ t) ≡ t
+after_fill zero t = refl
+after_fill (suc k) t = after_fill k t
 
 fill_is : (k c : ℕ) (s : List ℕ) → eqb c PREFIX ≡ false → fill_count (replicate k PREFIX ++ c ∷ s) ≡ k
 fill_is k c s e =
@@ -87,12 +87,12 @@ all_four a b c d r s t u ea eb ec ed = rw (ea, eb, ec, ed) refl
 all_three : (a b c : Bool) (r s t : Refusal) → a ≡ false → b ≡ false → c ≡ false → first_fault ((r when a) ∷ (s when b) ∷ (t when c) ∷ []) ≡ None
 all_three a b c r s t ea eb ec = rw (ea, eb, ec) refl
 
-zero_tells : (n : ℕ) (b : Bool) → eqb n 0 ≡ b → n ≢ 0 → b ≡ false
-zero_tells n false e h = refl
-zero_tells n true e h = absurd (h (eqb-true n 0 e))
+zero_reports : (n : ℕ) (b : Bool) → eqb n 0 ≡ b → n ≢ 0 → b ≡ false
+zero_reports n false e h = refl
+zero_reports n true e h = absurd (h (eqb-true n 0 e))
 
 not_zero : (n : ℕ) → n ≢ 0 → (n == 0) ≡ false
-not_zero n h = zero_tells n (n == 0) refl h
+not_zero n h = zero_reports n (n == 0) refl h
 
 marker_there : (at n c : ℕ) (bytes s : List ℕ) → fill_count bytes ≡ suc n → at_code bytes ≡ c ∷ s → eqb c 0 ≡ false → length bytes ≢ 0 → first_fault (marker_tests at bytes) ≡ None
 unfolding marker_tests
@@ -123,7 +123,7 @@ framing_there framed at n c bytes p rest short f t long passes =
 -- the bytes begin with this segment, and its tests pass
 pub record IsNext (before : List Segment) (bytes : List ℕ) (i : Segment) (rest : List ℕ) : Type 0 where
   pub segment : segment_at bytes ≡ i
-  pub after : behind_segment bytes ≡ rest
+  pub after : after_segment bytes ≡ rest
   pub passes : (at : ℕ) → first_fault (segment_tests before at bytes) ≡ None
 
 written : (i : Segment) (rest : List ℕ) → segment_bytes i ++ rest ≡ replicate (suc i.fill) PREFIX ++ tail_of i.code i.payload rest
@@ -147,6 +147,6 @@ next_is before i bytes rest ok e =
     let apart : eqb i.code PREFIX ≡ false = known_apart i.code PREFIX (eqb i.code PREFIX) refl refl known in
     let w : bytes ≡ replicate (suc i.fill) PREFIX ++ tail_of i.code i.payload rest = e ∙ written i rest in
     let f : fill_count bytes ≡ suc i.fill = ap fill_count w ∙ fill_is (suc i.fill) i.code (drop 1 (tail_of i.code i.payload rest)) apart in
-    let t : at_code bytes ≡ tail_of i.code i.payload rest = ap (λ (n : ℕ). drop n bytes) f ∙ ap (drop (suc i.fill)) w ∙ behind_fill (suc i.fill) (tail_of i.code i.payload rest) in
+    let t : at_code bytes ≡ tail_of i.code i.payload rest = ap (λ (n : ℕ). drop n bytes) f ∙ ap (drop (suc i.fill)) w ∙ after_fill (suc i.fill) (tail_of i.code i.payload rest) in
     let long : length bytes ≢ 0 = λ z. omega (arith, z, ap length w, length-append (replicate (suc i.fill) PREFIX) (tail_of i.code i.payload rest), length-replicate {A = ℕ} (suc i.fill) PREFIX) in
     next_segment before i bytes rest ok f t long

@@ -101,11 +101,11 @@ pub record IsSubsampled (across down : ℕ) (c : Component) : Type 0 where
 
 -- both code tables are valid (Annex C)
 pub record IsCoded (c : Component) : Type 0 where
-  pub dc : codes.IsLawfulTable c.dc.counts c.dc.symbols
-  pub ac : codes.IsLawfulTable c.ac.counts c.ac.symbols
+  pub dc : codes.IsValidTable c.dc.counts c.dc.symbols
+  pub ac : codes.IsValidTable c.ac.counts c.ac.symbols
 
 -- what holds for the components of every accepted file
-pub record AreLawful (kind : Kind) (components : List Component) : Type 0 where
+pub record AreValid (kind : Kind) (components : List Component) : Type 0 where
   pub count : length components ≡ component_count kind
   pub sampled : All IsSampled components
   pub coded : All IsCoded components
@@ -118,11 +118,11 @@ pub record AreLawful (kind : Kind) (components : List Component) : Type 0 where
   pub blocks : sum_by units_of components ≤ 10
 
 -- what holds for the header of every accepted file
-pub record IsLawful (h : HeadValue) : Type 0 where
-  pub components : AreLawful h.kind h.components
+pub record IsValid (h : HeadValue) : Type 0 where
+  pub components : AreValid h.kind h.components
   pub wide : 0 < h.width
   pub narrow : h.width < 65536
   pub high : 0 < h.height
   pub low : h.height < 65536
   pub pixels : h.width * h.height ≤ MAX_PIXELS
-  pub behind : h.scan_at ≤ MAX_FILE_BYTES
+  pub after : h.scan_at ≤ MAX_FILE_BYTES

@@ -2,10 +2,10 @@
 use Rattle.std.proofs.Common.{arith, ◌≡◌, ℕ, ◌*◌, ◌<◌, ◌≤◌, pos, neg_ℤ, ◌+ℤ◌, ◌-ℤ◌, ℤ, List, [], ◌∷◌, sym, subst}
 use Rattle.std.proofs.Math.IntN.{◌*ℤ◌}
 use Rattle.std.proofs.lemmas.Int.{ints}
-use Rattle.jr_idct.specs.Matrix.{at, even_sum, odd_sum, weight, IsInRoom, IsWithin}
+use Rattle.jr_idct.specs.Matrix.{at, even_sum, odd_sum, weight, IsInBounds, IsWithin}
 use Rattle.jr_idct.proofs.Passes.{below_four, even_sum_within, odd_sum_within}
 
-wide : (w n : ℕ) (z : ℤ) → w * n ≤ 61214 * n → IsWithin (w * n) z → IsInRoom n z
+wide : (w n : ℕ) (z : ℤ) → w * n ≤ 61214 * n → IsWithin (w * n) z → IsInBounds n z
 wide w n z few small = (omega (arith, ints), omega (arith, ints))
 
 module _ (v0 v2 v4 v6 : ℤ) where
@@ -26,11 +26,11 @@ module _ (v0 v2 v4 v6 : ℤ) where
   even_entry_3 s m outer is_s is_m is_outer = omega (arith, ints)
 
   -- a sum of numbers within n is in the range of a pass
-  pub even_in_room : (n : ℕ) → IsWithin n v0 → IsWithin n v2 → IsWithin n v4 → IsWithin n v6 → (i : ℕ) → i < 4 → (z : ℤ) → z ≡ even_entry i → IsInRoom n z
-  even_in_room n w0 w2 w4 w6 i h z is =
+  pub even_in_bounds : (n : ℕ) → IsWithin n v0 → IsWithin n v2 → IsWithin n v4 → IsWithin n v6 → (i : ℕ) → i < 4 → (z : ℤ) → z ≡ even_entry i → IsInBounds n z
+  even_in_bounds n w0 w2 w4 w6 i h z is =
       let xs : List ℤ = v0 ∷ v2 ∷ v4 ∷ v6 ∷ [] in
       let small : IsWithin (31521 * n) (even_entry i) = even_sum_within n xs (below_four (λ k. IsWithin n (at xs k)) w0 w2 w4 w6) i h in
-      subst (IsInRoom n) (sym is) (wide 31521 n (even_entry i) (omega arith) small)
+      subst (IsInBounds n) (sym is) (wide 31521 n (even_entry i) (omega arith) small)
 
 module _ (v1 v3 v5 v7 : ℤ) where
   -- what the numbers 1, 3, 5 and 7 of a pass add to entry i
@@ -54,8 +54,8 @@ module _ (v1 v3 v5 v7 : ℤ) where
   entry_3 s z m own shared is_s is_z is_m is_own is_shared = omega (arith, ints)
 
   -- a sum of numbers within n is in the range of a pass
-  pub odd_in_room : (n : ℕ) → IsWithin n v1 → IsWithin n v3 → IsWithin n v5 → IsWithin n v7 → (i : ℕ) → i < 4 → (z : ℤ) → z ≡ odd_entry i → IsInRoom n z
-  odd_in_room n w1 w3 w5 w7 i h z is =
+  pub odd_in_bounds : (n : ℕ) → IsWithin n v1 → IsWithin n v3 → IsWithin n v5 → IsWithin n v7 → (i : ℕ) → i < 4 → (z : ℤ) → z ≡ odd_entry i → IsInBounds n z
+  odd_in_bounds n w1 w3 w5 w7 i h z is =
       let xs : List ℤ = v1 ∷ v3 ∷ v5 ∷ v7 ∷ [] in
       let small : IsWithin (29693 * n) (odd_entry i) = odd_sum_within n xs (below_four (λ k. IsWithin n (at xs k)) w1 w3 w5 w7) i h in
-      subst (IsInRoom n) (sym is) (wide 29693 n (odd_entry i) (omega arith) small)
+      subst (IsInBounds n) (sym is) (wide 29693 n (odd_entry i) (omega arith) small)

@@ -41,9 +41,9 @@ small_products z natural elements limits is_natural are_limits within n h =
 none : (z : ℤ) → unsigned_abs z ≤ 0 → z ≡ pos 0
 none z h = omega (arith, ints, h)
 
-no_limit_behind : (n : ℕ) → 0 < n → n < 64 → slice_index (65535 ∷ replicate 63 0) n ≡ 0
-no_limit_behind zero p h = absurd (omega (arith, p))
-no_limit_behind (suc n) p h = get_or-replicate 63 n 0 0 (omega (arith, h))
+no_limit_after : (n : ℕ) → 0 < n → n < 64 → slice_index (65535 ∷ replicate 63 0) n ≡ 0
+no_limit_after zero p h = absurd (omega (arith, p))
+no_limit_after (suc n) p h = get_or-replicate 63 n 0 0 (omega (arith, h))
 
 -- a block of which all coefficients but the first have limit 0
 pub only_first : (z natural : List ℤ) → ((n : ℕ) → n < 64 → at natural n ≡ at z (zigzag_place n)) → ((n : ℕ) → n < 64 → unsigned_abs (at natural n) ≤ slice_index (65535 ∷ replicate 63 0) n)
@@ -53,7 +53,7 @@ only_first z natural is_natural within k p h =
     let below = natural_below k h in
     let place = place_of_natural k h in
     let some : 0 < n = positive n place in
-    let e : at natural n ≡ pos 0 = none (at natural n) (let w = within n below in let l = no_limit_behind n some below in omega (arith, w, l)) in
+    let e : at natural n ≡ pos 0 = none (at natural n) (let w = within n below in let l = no_limit_after n some below in omega (arith, w, l)) in
     sym (is_natural n below ∙ ap (at z) place) ∙ e
   where
     positive : (n : ℕ) → zigzag_place n ≡ k → 0 < n

@@ -2,7 +2,7 @@
 
 ghost use Rattle.std.specs.Prelude.{◌≡◌, ℕ, ℤ, ◌+◌, ◌*◌, ◌<◌, pos, ◌+ℤ◌, ◌-ℤ◌};
 ghost use Rattle.std.proofs.Math.IntN.{◌*ℤ◌};
-ghost use Rattle.jr_idct.specs.Matrix.{descale, wide_reach, row_weight, IsInRoom, IsWithin};
+ghost use Rattle.jr_idct.specs.Matrix.{descale, wide_reach, row_weight, IsInBounds, IsWithin};
 ghost use Rattle.jr_idct.specs.Transform.{byte_of};
 
 /// Number of bits that the pass over columns drops: the 13 of the constants, less two that are kept.
@@ -23,17 +23,17 @@ pub(crate) trait Number: Copy {
 
     /// Returns the sum of the two.
     fn plus(self, other: Self) -> Self
-        requires { IsInRoom reach (value self +ℤ value other) }
+        requires { IsInBounds reach (value self +ℤ value other) }
         ensures { value result ≡ value self +ℤ value other };
 
     /// Returns the difference of the two.
     fn minus(self, other: Self) -> Self
-        requires { IsInRoom reach (value self -ℤ value other) }
+        requires { IsInBounds reach (value self -ℤ value other) }
         ensures { value result ≡ value self -ℤ value other };
 
     /// Returns the product with a constant.
     fn times(self, constant: i16) -> Self
-        requires { IsInRoom reach (constant *ℤ value self) }
+        requires { IsInBounds reach (constant *ℤ value self) }
         ensures { value result ≡ constant *ℤ value self };
 }
 
@@ -72,7 +72,7 @@ pub(crate) fn descaled(number: i64, bits: u32) -> i64
 /// Returns the sample of a value: the level shift of T.81, A.3.1, and the nearest number of eight bits.
 #[inline]
 pub(crate) fn clamped(value: i64) -> u8
-    requires { IsInRoom wide_reach value }
+    requires { IsInBounds wide_reach value }
     ensures { result ≡ byte_of (value +ℤ pos 128) }
 {
     (value + 128).clamp(0, 255) as u8

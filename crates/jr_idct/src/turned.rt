@@ -27,7 +27,7 @@ fn by_doubles(a: i16x16, b: i16x16, upper: bool) -> i16x16
 
 /// Interleaves both, four entries of each at a time.
 #[inline(always)]
-fn by_quads(a: i16x16, b: i16x16, upper: bool) -> i16x16
+fn interleave_quads(a: i16x16, b: i16x16, upper: bool) -> i16x16
     ensures { result ≡ pick_l (pos 0) (a ++ b) (quads upper) }
 {
     if upper {
@@ -63,13 +63,13 @@ pub(crate) fn turned(y: Rows) -> Rows
     let b5 = by_doubles(a4, a6, true);
     let b6 = by_doubles(a5, a7, false);
     let b7 = by_doubles(a5, a7, true);
-    let c0 = by_quads(b0, b4, false);
-    let c1 = by_quads(b0, b4, true);
-    let c2 = by_quads(b1, b5, false);
-    let c3 = by_quads(b1, b5, true);
-    let c4 = by_quads(b2, b6, false);
-    let c5 = by_quads(b2, b6, true);
-    let c6 = by_quads(b3, b7, false);
-    let c7 = by_quads(b3, b7, true);
+    let c0 = interleave_quads(b0, b4, false);
+    let c1 = interleave_quads(b0, b4, true);
+    let c2 = interleave_quads(b1, b5, false);
+    let c3 = interleave_quads(b1, b5, true);
+    let c4 = interleave_quads(b2, b6, false);
+    let c5 = interleave_quads(b2, b6, true);
+    let c6 = interleave_quads(b3, b7, false);
+    let c7 = interleave_quads(b3, b7, true);
     (c0, c1, c2, c3, c4, c5, c6, c7)
 }

@@ -25,8 +25,8 @@ first_difference dc free old = of_size (first_extended dc free old)
     of_size : FirstExtended dc old ⊎ HasNoExtended dc old → FirstDifference dc old ⊎ HasNoDifference dc old
     of_size (inr none) = inr (no_difference_extended dc old none)
     of_size (inl x) = elim (cases_lt 11 x.symbol) [
-      | inl far ↦ inr (no_difference_far dc free x.symbol old (x.takes.extra ++ x.left) (word_of dc x.symbol x.gives old x.left x.takes) far)
-      | inr small ↦ inl (record { difference = x.gives; left = x.left; takes = takes_difference_of dc x.symbol x.gives old x.left x.takes small })
+      | inl far ↦ inr (no_difference_far dc free x.symbol old (x.takes.extra ++ x.left) (word_of dc x.symbol x.returned old x.left x.takes) far)
+      | inr small ↦ inl (record { difference = x.returned; left = x.left; takes = takes_difference_of dc x.symbol x.returned old x.left x.takes small })
     ]
 
 -- ---- one step after it: the end of the block, or a code and its coefficients
@@ -46,7 +46,7 @@ FirstStep ac old = FirstEnd ac old ⊎ (FirstCode ac old ⊎ HasNoStep ac old)
 -- a symbol without additional bits
 bare_step : (ac : Table) → IsPrefixFree ac → (old : List Bool) → (x : FirstExtended ac old) → x.symbol % 16 ≡ 0 → FirstStep ac old
 bare_step ac free old x bare =
-    let w = word_alone ac x.symbol x.gives old x.left x.takes bare in
+    let w = word_alone ac x.symbol x.returned old x.left x.takes bare in
     elim (cases_eq x.symbol 0) [
       | inl end ↦ inl (record { left = x.left; takes = takes_end ac x.symbol old x.left w end })
       | inr not_0 ↦ elim (cases_eq x.symbol 240) [
@@ -58,7 +58,7 @@ bare_step ac free old x bare =
 -- a symbol with additional bits
 sized_step : (ac : Table) → IsPrefixFree ac → (old : List Bool) → (x : FirstExtended ac old) → (x.symbol % 16 ≡ 0 → ⊥) → FirstStep ac old
 sized_step ac free old x some =
-    let w = word_of ac x.symbol x.gives old x.left x.takes in
+    let w = word_of ac x.symbol x.returned old x.left x.takes in
     elim (cases_lt 255 x.symbol) [
       | inl past ↦ inr (inr (no_step_past ac free x.symbol old (x.takes.extra ++ x.left) w past))
       | inr byte ↦ elim (cases_lt 10 (x.symbol % 16)) [
@@ -66,9 +66,9 @@ sized_step ac free old x some =
             inr (inr (no_step_size ac free x.symbol (x.symbol % 16) old (x.takes.extra ++ x.left) w refl (λ e. some (omega (arith, e))) (λ e. some (omega (arith, e))) (λ one few. omega (arith, far, few))))
         | inr small ↦
             inr (inl (record {
-              made = replicate (x.symbol / 16) (pos 0) ++ x.gives ∷ [];
+              made = replicate (x.symbol / 16) (pos 0) ++ x.returned ∷ [];
               left = x.left;
-              takes = takes_coef ac x.symbol (x.symbol % 16) x.gives old (x.takes.extra ++ x.left) x.left w (omega (arith, byte)) refl some small (extra_of ac x.symbol x.gives old x.left x.takes);
+              takes = takes_coef ac x.symbol (x.symbol % 16) x.returned old (x.takes.extra ++ x.left) x.left w (omega (arith, byte)) refl some small (extra_of ac x.symbol x.returned old x.left x.takes);
             }))
       ]
     ]
@@ -92,42 +92,42 @@ record Further (ac : Table) (old : List Bool) : Type 0 where
   pub block : List ℤ
   pub index : ℕ
   pub so_far : IsPartialCut ac (pos 0) old left block index
-  pub room : index < 64
+  pub space : index < 64
 
-behind_code : (ac : Table) → IsPrefixFree ac → (old left : List Bool) (block : List ℤ) (index : ℕ) (s : IsPartialCut ac (pos 0) old left block index) → index < 64 → (x : FirstCode ac left)
+after_code : (ac : Table) → IsPrefixFree ac → (old left : List Bool) (block : List ℤ) (index : ℕ) (s : IsPartialCut ac (pos 0) old left block index) → index < 64 → (x : FirstCode ac left)
     → (FirstOthers ac old ⊎ HasNoOthers ac old) ⊎ ((f : Further ac old) × (index < f.index))
-behind_code ac free old left block index s room x =
+after_code ac free old left block index s space x =
     let next = index + length x.made in
-    let some : 0 < length x.made = omega (arith, entries_some ac x.takes.code x.takes.is, ap length x.takes.gives) in
+    let some : 0 < length x.made = omega (arith, entries_some ac x.takes.code x.takes.is, ap length x.takes.returned) in
     elim (cases_lt 64 (index + length x.made)) [
-      | inl over ↦ inl (inr (partial_over ac free (pos 0) old left x.left block x.made index s room x.takes over))
+      | inl over ↦ inl (inr (partial_over ac free (pos 0) old left x.left block x.made index s space x.takes over))
       | inr fits ↦
           let more : IsPartialCut ac (pos 0) old x.left (pos 0 ∷ ((s.done ++ x.made) ++ replicate (64 - (index + length x.made)) (pos 0))) (index + length x.made)
-          = partial_more ac free (pos 0) old left x.left block (pos 0 ∷ ((s.done ++ x.made) ++ replicate (64 - (index + length x.made)) (pos 0))) x.made index (index + length x.made) s room x.takes refl fits refl in
+          = partial_more ac free (pos 0) old left x.left block (pos 0 ∷ ((s.done ++ x.made) ++ replicate (64 - (index + length x.made)) (pos 0))) x.made index (index + length x.made) s space x.takes refl fits refl in
           elim (cases_lt (index + length x.made) 64) [
             | inr all ↦
                 let made = partial_all ac (pos 0) old x.left (pos 0 ∷ ((s.done ++ x.made) ++ replicate (64 - (index + length x.made)) (pos 0))) (index + length x.made) more all in
                 inl (inl (record { others = made.0; left = x.left; takes = made.2 }))
-            | inl short ↦ inr (record { left = x.left; block = pos 0 ∷ ((s.done ++ x.made) ++ replicate (64 - (index + length x.made)) (pos 0)); index = index + length x.made; so_far = more; room = short }, omega (arith, some))
+            | inl short ↦ inr (record { left = x.left; block = pos 0 ∷ ((s.done ++ x.made) ++ replicate (64 - (index + length x.made)) (pos 0)); index = index + length x.made; so_far = more; space = short }, omega (arith, some))
           ]
     ]
 
 -- at most `steps` steps more
-others_behind : (ac : Table) → IsPrefixFree ac → (old left : List Bool) (block : List ℤ) (index steps : ℕ) → IsPartialCut ac (pos 0) old left block index → index < 64 → 64 ≤ index + steps → FirstOthers ac old ⊎ HasNoOthers ac old
-others_behind ac free old left block index zero s room enough = absurd (omega (arith, room, enough))
-others_behind ac free old left block index (suc steps) s room enough = elim (first_step ac free left) [
+others_after : (ac : Table) → IsPrefixFree ac → (old left : List Bool) (block : List ℤ) (index steps : ℕ) → IsPartialCut ac (pos 0) old left block index → index < 64 → 64 ≤ index + steps → FirstOthers ac old ⊎ HasNoOthers ac old
+others_after ac free old left block index zero s space enough = absurd (omega (arith, space, enough))
+others_after ac free old left block index (suc steps) s space enough = elim (first_step ac free left) [
   | inl end ↦
-      let made = partial_end ac (pos 0) old left end.left block index s room end.takes in
+      let made = partial_end ac (pos 0) old left end.left block index s space end.takes in
       inl (record { others = made.0; left = end.left; takes = made.2 })
-  | inr (inr none) ↦ inr (partial_stuck ac (pos 0) old left block index s room none)
-  | inr (inl code) ↦ elim (behind_code ac free old left block index s room code) [
+  | inr (inr none) ↦ inr (partial_stuck ac (pos 0) old left block index s space none)
+  | inr (inl code) ↦ elim (after_code ac free old left block index s space code) [
     | inl settled ↦ settled
-    | inr more ↦ others_behind ac free old more.0.left more.0.block more.0.index steps more.0.so_far more.0.room (omega (arith, more.1, enough))
+    | inr more ↦ others_after ac free old more.0.left more.0.block more.0.index steps more.0.so_far more.0.space (omega (arith, more.1, enough))
   ]
 ]
 
 pub first_others : (ac : Table) → IsPrefixFree ac → (old : List Bool) → FirstOthers ac old ⊎ HasNoOthers ac old
-first_others ac free old = others_behind ac free old old (pos 0 ∷ replicate 63 (pos 0)) 1 63 (partial_none ac (pos 0) old) (omega arith) (omega arith)
+first_others ac free old = others_after ac free old old (pos 0 ∷ replicate 63 (pos 0)) 1 63 (partial_none ac (pos 0) old) (omega arith) (omega arith)
 
 -- ---- the block, with its prediction
 

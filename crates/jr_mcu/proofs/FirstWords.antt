@@ -5,7 +5,7 @@ use Rattle.std.proofs.lemmas.Bool.{cases_lt, cases_eq}
 use Rattle.std.proofs.lemmas.List.{length-take-le, take-append-drop, take_at}
 use Rattle.std.proofs.lemmas.Option.{slice_get_within}
 use Rattle.jr_code.specs.Bits.{number, value}
-use Rattle.jr_code.specs.Code.{Table, IsWord, TakesExtended, HasNoFirstWord, HasNoExtended, lengths, room, space}
+use Rattle.jr_code.specs.Code.{Table, IsWord, TakesExtended, HasNoFirstWord, HasNoExtended, lengths, extent, space}
 use Rattle.jr_code.proofs.PairLemmas.{taken_apart, no_word_none, short_none}
 use Rattle.jr_mcu.proofs.Words.{IsPrefixFree}
 
@@ -41,7 +41,7 @@ word_at t bs place (Some s) (Some l) known is =
       | inl far ↦ inr (λ word rest u w at e. omega (arith, far, w.short, long_at t place l word u w is at))
       | inr short ↦ elim (cases_lt (length bs) l) [
         | inl cut ↦ inr (λ word rest u w at e. omega (arith, cut, long_at t place l word u w is at, ap length e, length-append word rest))
-        | inr fits ↦ elim (cases_eq (number (take l bs)) (space (take place (lengths t.counts)) / room l)) [
+        | inr fits ↦ elim (cases_eq (number (take l bs)) (space (take place (lengths t.counts)) / extent l)) [
           | inl same ↦
               let count : length (take l bs) ≡ l = length-take-le l bs fits in
               inl (record {
@@ -52,13 +52,13 @@ word_at t bs place (Some s) (Some l) known is =
                   known = known;
                   long = is ∙ ap (λ n. Some n) (sym count);
                   short = omega arith;
-                  written = same ∙ ap (λ n. space (take place (lengths t.counts)) / room n) (sym count);
+                  written = same ∙ ap (λ n. space (take place (lengths t.counts)) / extent n) (sym count);
                 };
               })
           | inr other ↦ inr (λ word rest u w at e.
               let long = long_at t place l word u w is at in
               let front : take l bs ≡ word = ap (λ b. take l b) e ∙ take_at word rest l long in
-              other (ap number front ∙ w.written ∙ ap (λ p. space (take p (lengths t.counts)) / room (length word)) at ∙ ap (λ n. space (take place (lengths t.counts)) / room n) long))
+              other (ap number front ∙ w.written ∙ ap (λ p. space (take p (lengths t.counts)) / extent (length word)) at ∙ ap (λ n. space (take place (lengths t.counts)) / extent n) long))
         ]
       ]
     ]
@@ -82,9 +82,9 @@ first_word t bs = elim (word_below t bs (length t.symbols)) [
 -- a code with its additional bits that the bits begin with: its symbol, their value, and what is left
 pub record FirstExtended (t : Table) (bs : List Bool) : Type 0 where
   pub symbol : ℕ
-  pub gives : ℤ
+  pub returned : ℤ
   pub left : List Bool
-  pub takes : TakesExtended t symbol gives bs left
+  pub takes : TakesExtended t symbol returned bs left
 
 pub first_extended : (t : Table) → IsPrefixFree t → (bs : List Bool) → FirstExtended t bs ⊎ HasNoExtended t bs
 first_extended t free bs = with_extra (first_word t bs)
@@ -96,7 +96,7 @@ first_extended t free bs = with_extra (first_word t bs)
       | inr enough ↦
           inl (record {
             symbol = f.symbol;
-            gives = value (take (f.symbol % 16) (drop f.long bs));
+            returned = value (take (f.symbol % 16) (drop f.long bs));
             left = drop (f.long + f.symbol % 16) bs;
             takes = taken_apart t bs f.symbol f.long (f.symbol % 16) (value (take (f.symbol % 16) (drop f.long bs))) f.is refl enough refl;
           })

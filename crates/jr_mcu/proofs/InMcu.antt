@@ -25,7 +25,7 @@ component_at h mcu place lt = ap (λ (k : ℕ). get_or (order_of h) k 0) (mod-mu
 
 register_at : (h : HeadValue) (start : List ℤ) (zs : List (List ℤ)) (z registers : List ℤ) (v : ℤ) (c k : ℕ) → c ≡ component h (length zs) → c < length registers → v ≡ get_or z 0 (pos 0)
     → get_or registers k (pos 0) ≡ prediction h start zs k (length zs) → get_or (set registers c v) k (pos 0) ≡ prediction h start (zs ++ z ∷ []) k (suc (length zs))
-register_at h start zs z registers v c k is room is_first before =
+register_at h start zs z registers v c k is space is_first before =
     let n = length zs in
     let old : prediction h start zs k n ≡ prediction h start (zs ++ z ∷ []) k n = prediction_same h start zs (zs ++ z ∷ []) k n (λ j g. sym (get_or_append_left zs (z ∷ []) [] j (omega arith))) in
     let at : block_of (zs ++ z ∷ []) n ≡ z = get_or-append_seam zs z [] [] in
@@ -33,7 +33,7 @@ register_at h start zs z registers v c k is room is_first before =
     elim (eqb_tells (component h n) k) [
       | inl t ↦
           let e : k ≡ c = sym t.1 ∙ sym is in
-          ap (λ (j : ℕ). get_or (set registers c v) j (pos 0)) e ∙ get_or-set_same registers c v (pos 0) room ∙ is_first ∙ ap (λ (y : List ℤ). get_or y 0 (pos 0)) (sym at) ∙ ap seen (sym t.0)
+          ap (λ (j : ℕ). get_or (set registers c v) j (pos 0)) e ∙ get_or-set_same registers c v (pos 0) space ∙ is_first ∙ ap (λ (y : List ℤ). get_or y 0 (pos 0)) (sym at) ∙ ap seen (sym t.0)
       | inr t ↦
           let ne : k ≢ c = λ q. t.1 (sym is ∙ sym q) in
           get_or-set_other registers c k v (pos 0) ne ∙ before ∙ old ∙ ap seen (sym t.0)
@@ -81,11 +81,11 @@ one_more h start last last' all left new zs z c k v is at three t first wrote s 
 -- if a block is missing, no whole MCU follows
 pub missing : OneWord → (h : HeadValue) (start last : List ℤ) (all left : List Bool) (zs : List (List ℤ)) (c k : ℕ) → k ≡ length zs → c ≡ component h k → c < 3 → k < length (order_of h)
     → HasNoBlock (dc_of h c) (ac_of h c) (get_or last c (pos 0)) left → InMcu h start all left last zs → BeginsNoMcu h start all
-missing one h start last all left zs c k is at three room none s = λ ys taken rest u e.
+missing one h start last all left zs c k is at three space none s = λ ys taken rest u e.
     let here : c ≡ component h (length zs) = at ∙ ap (component h) is in
     let n1 = subst (λ (p : ℤ). HasNoBlock (dc_of h c) (ac_of h c) p left) (s.each c three) none in
     let n2 = subst (λ (k : ℕ). HasNoBlock (dc_of h k) (ac_of h k) (prediction h start zs k (length zs)) left) here n1 in
-    reads_stuck h start all left zs one s.reads n2 ys taken rest u.1 e (omega (arith, u.0, room, is))
+    reads_stuck h start all left zs one s.reads n2 ys taken rest u.1 e (omega (arith, u.0, space, is))
 
 pub last_in_range : (h : HeadValue) (start last : List ℤ) (all left : List Bool) (zs : List (List ℤ)) → InMcu h start all left last zs → All IsInDcRange last
 last_in_range h start last all left zs s = All-from_get_or IsInDcRange last (pos 0) (λ c lt. s.in_range c (omega (arith, lt, s.three)))
@@ -98,12 +98,12 @@ three_are (x ∷ y ∷ z ∷ []) a b c three p q r = cc
 three_are (x ∷ y ∷ z ∷ u ∷ us) a b c three p q r = absurd (omega (arith, three))
 
 -- all of its blocks are read
-pub predicted_behind : (h : HeadValue) (start last : List ℤ) (all left : List Bool) (zs : List (List ℤ)) → InMcu h start all left last zs → last ≡ predicted h start zs
-predicted_behind h start last all left zs s = three_are last _ _ _ s.three (s.each 0 (omega arith)) (s.each 1 (omega arith)) (s.each 2 (omega arith))
+pub predicted_after : (h : HeadValue) (start last : List ℤ) (all left : List Bool) (zs : List (List ℤ)) → InMcu h start all left last zs → last ≡ predicted h start zs
+predicted_after h start last all left zs s = three_are last _ _ _ s.three (s.each 0 (omega arith)) (s.each 1 (omega arith)) (s.each 2 (omega arith))
 
 pub mcu_taken : (h : HeadValue) (start last : List ℤ) (all left : List Bool) (zs : List (List ℤ)) → length zs ≡ length (order_of h) → InMcu h start all left last zs → TakesMcu h start zs all left
 mcu_taken h start last all left zs count s = record { taken = s.reads.taken; mcu = (omega (arith, count), s.reads.blocks); split = s.reads.split }
 
 -- a prefix of some blocks stays one when more follow it
 pub front_kept : (n m : ℕ) (xs ys zs : List (List ℤ)) → n ≤ m → n ≤ length ys → take m xs ≡ take n ys ++ zs → take n xs ≡ take n ys
-front_kept n m xs ys zs le room e = sym (take-take n m xs le) ∙ ap (take n) e ∙ take_at (take n ys) zs n (length-take-le n ys room)
+front_kept n m xs ys zs le space e = sym (take-take n m xs le) ∙ ap (take n) e ∙ take_at (take n ys) zs n (length-take-le n ys space)

@@ -158,10 +158,10 @@ one_blocks h start one zs ys u v x y b d e l = reads_all h start (u ++ x) x zs o
 
 -- a list of blocks begins with a shorter one
 pub blocks_front : (h : HeadValue) (start : List ℤ) (zs : List (List ℤ)) (all u x : List Bool) (m : ℕ) → (b : Blocks h start zs u) → all ≡ u ++ x → m ≤ length zs → (v y : List Bool) × Blocks h start (take m zs) v × (all ≡ v ++ y)
-blocks_front h start zs all u x m b e room = (
+blocks_front h start zs all u x m b e space = (
   all_bits (take m b.parts),
   all_bits (drop m b.parts) ++ x,
-  blocks_take h start zs u m b room,
+  blocks_take h start zs u m b space,
   e ∙ ap (λ (w : List Bool). w ++ x) (b.spelled ∙ ap all_bits (sym (take-append-drop m b.parts)) ∙ flat_map-append (λ (part : List Bool). part) (take m b.parts) (drop m b.parts)) ∙ append_assoc (all_bits (take m b.parts)) (all_bits (drop m b.parts)) x,
 )
 

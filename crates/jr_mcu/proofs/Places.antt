@@ -54,47 +54,47 @@ no_step_places ac old none =
 pub partial_places : (ac : Table) → IsPrefixFree ac → (first : ℤ) (old bits new : List Bool) (block block' : List ℤ) (place place' : ℕ) (p : Packed)
     → IsPartialCut ac first old bits block (place + 1) → place ≤ 62 → TakesPlaces ac p bits new → place' ≡ place + places_in p → place' ≤ 63 → block' ≡ set block place' (unpacked p).value
     → IsPartialCut ac first old new block' (place' + 1)
-partial_places ac free first old bits new block block' place place' p s room t is fits wrote =
+partial_places ac free first old bits new block block' place place' p s space t is fits wrote =
     let byte = symbol_small (places_in p) (p.number / 65536 % 16) (omega arith) in
     let code = takes_places ac (unpacked p).symbol (places_in p) (unpacked p).value bits new byte t.0 t.1 (omega (arith, is, fits)) in
     let some : 1 ≤ places_in p = elim (places_are (unpacked p).symbol (places_in p) byte t.1) [ inl near ↦ near.0 | inr far ↦ omega (arith, far) ] in
-    partial_coef ac free first (unpacked p).value old bits new block block' (place + 1) (places_in p - 1) place' (place' + 1) s (omega (arith, room)) code (omega (arith, is, some)) fits wrote refl
+    partial_coef ac free first (unpacked p).value old bits new block block' (place + 1) (places_in p - 1) place' (place' + 1) s (omega (arith, space)) code (omega (arith, is, some)) fits wrote refl
 
 -- at the end of the block
 pub partial_ended : (ac : Table) → IsPrefixFree ac → (first : ℤ) (old bits new : List Bool) (block block' : List ℤ) (place place' : ℕ) (p : Packed)
     → IsPartialCut ac first old bits block (place + 1) → place ≤ 62 → TakesPlaces ac p bits new → place' ≡ place + places_in p
     → (place' ≡ 63) ⊎ (128 ≤ place') → (place' ≡ 63 → block' ≡ set block 63 (unpacked p).value) → (128 ≤ place' → block' ≡ block)
     → (others : List ℤ) × (block' ≡ first ∷ others) × TakesOthers ac others old new
-partial_ended ac free first old bits new block block' place place' p s room t is (inl last) wrote kept =
-    let all = partial_places ac free first old bits new block block' place place' p s room t is (omega (arith, last)) (wrote last ∙ ap (λ k. set block k (unpacked p).value) (sym last)) in
+partial_ended ac free first old bits new block block' place place' p s space t is (inl last) wrote kept =
+    let all = partial_places ac free first old bits new block block' place place' p s space t is (omega (arith, last)) (wrote last ∙ ap (λ k. set block k (unpacked p).value) (sym last)) in
     partial_all ac first old new block' (place' + 1) all (omega (arith, last))
-partial_ended ac free first old bits new block block' place place' p s room t is (inr far) wrote kept =
+partial_ended ac free first old bits new block block' place place' p s space t is (inr far) wrote kept =
     let byte = symbol_small (places_in p) (p.number / 65536 % 16) (omega arith) in
-    let end : 128 ≤ places_in p = elim (places_are (unpacked p).symbol (places_in p) byte t.1) [ inl near ↦ omega (arith, near.1, is, far, room) | inr e ↦ omega (arith, e) ] in
+    let end : 128 ≤ places_in p = elim (places_are (unpacked p).symbol (places_in p) byte t.1) [ inl near ↦ omega (arith, near.1, is, far, space) | inr e ↦ omega (arith, e) ] in
     let word = takes_to_end ac (unpacked p).symbol (places_in p) (unpacked p).value bits new byte t.0 t.1 end in
-    subst (λ (b : List ℤ). (others : List ℤ) × (b ≡ first ∷ others) × TakesOthers ac others old new) (sym (kept far)) (partial_end ac first old bits new block (place + 1) s (omega (arith, room)) word)
+    subst (λ (b : List ℤ). (others : List ℤ) × (b ≡ first ∷ others) × TakesOthers ac others old new) (sym (kept far)) (partial_end ac first old bits new block (place + 1) s (omega (arith, space)) word)
 
 -- and past the last position
 pub partial_past : (ac : Table) → IsPrefixFree ac → (first : ℤ) (old bits new : List Bool) (block : List ℤ) (place place' : ℕ) (p : Packed)
     → IsPartialCut ac first old bits block (place + 1) → place ≤ 62 → TakesPlaces ac p bits new → place' ≡ place + places_in p → 63 < place' → place' < 128
     → HasNoOthers ac old
-partial_past ac free first old bits new block place place' p s room t is past near =
+partial_past ac free first old bits new block place place' p s space t is past near =
     let byte = symbol_small (places_in p) (p.number / 65536 % 16) (omega arith) in
     let v = (unpacked p).value in
     let code = takes_places ac (unpacked p).symbol (places_in p) v bits new byte t.0 t.1 (omega (arith, is, near)) in
     let some : 1 ≤ places_in p = elim (places_are (unpacked p).symbol (places_in p) byte t.1) [ inl few ↦ few.0 | inr far ↦ omega (arith, far) ] in
-    partial_over ac free first old bits new block (replicate (places_in p - 1) (pos 0) ++ v ∷ []) (place + 1) s (omega (arith, room)) code
+    partial_over ac free first old bits new block (replicate (places_in p - 1) (pos 0) ++ v ∷ []) (place + 1) s (omega (arith, space)) code
     (omega (arith, length-append (replicate (places_in p - 1) (pos 0)) (v ∷ []), length-replicate {A = ℤ} (places_in p - 1) (pos 0), is, past, some))
 
 -- the result at the end of a block
 module _ (ac : Table) (free : IsPrefixFree ac) (first v : ℤ) (old bits new : List Bool) (block block' : List ℤ) (place place' : ℕ) (p : Packed)
-    (s : IsPartialCut ac first old bits block (place + 1)) (room : place ≤ 62) (t : TakesPlaces ac p bits new) (is : place' ≡ place + places_in p) where
+    (s : IsPartialCut ac first old bits block (place + 1)) (space : place ≤ 62) (t : TakesPlaces ac p bits new) (is : place' ≡ place + places_in p) where
   pub ended_some : {X : Type 0} (r : Option X) → (IsSome r → (place' ≡ 63) ⊎ (128 ≤ place')) → v ≡ (unpacked p).value
       → (place' ≡ 63 → block' ≡ set block 63 v) → (128 ≤ place' → block' ≡ block)
       → IfSome r (λ _. (others : List ℤ) × (block' ≡ first ∷ others) × TakesOthers ac others old new)
   ended_some None found same wrote kept = tt
   ended_some (Some x) found same wrote kept =
-      partial_ended ac free first old bits new block block' place place' p s room t is (found refl) (λ last. wrote last ∙ ap (λ q. set block 63 q) same) kept
+      partial_ended ac free first old bits new block block' place place' p s space t is (found refl) (λ last. wrote last ∙ ap (λ q. set block 63 q) same) kept
 
   pub ended_none : {X : Type 0} (r : Option X) → ((place' ≡ 63) ⊎ (128 ≤ place') → IsSome r) → 62 < place' → IfNone r (HasNoOthers ac old)
   ended_none (Some x) found far = tt
@@ -102,7 +102,7 @@ module _ (ac : Table) (free : IsPrefixFree ac) (first v : ℤ) (old bits new : L
       elim (cases_lt place' 64) [
         | inl last ↦ let h = found (inl (omega (arith, last, far))) in absurd cc
         | inr past ↦ elim (cases_lt place' 128) [
-          | inl near ↦ partial_past ac free first old bits new block place place' p s room t is (omega (arith, past)) near
+          | inl near ↦ partial_past ac free first old bits new block place place' p s space t is (omega (arith, past)) near
           | inr end ↦ let h = found (inr end) in absurd cc
         ]
       ]
@@ -111,19 +111,19 @@ module _ (ac : Table) (free : IsPrefixFree ac) (first v : ℤ) (old bits new : L
 pub skipped_some : (ac : Table) → IsPrefixFree ac → (old bits new : List Bool) (place place' : ℕ) (p : Packed)
     → (block : List ℤ) × IsPartialCut ac (pos 0) old bits block (place + 1) → place ≤ 62 → TakesPlaces ac p bits new → place' ≡ place + places_in p
     → {X : Type 0} (r : Option X) → (IsSome r → (place' ≡ 63) ⊎ (128 ≤ place')) → IfSome r (λ _. (others : List ℤ) × TakesOthers ac others old new)
-skipped_some ac free old bits new place place' p s room t is None found = tt
-skipped_some ac free old bits new place place' p s room t is (Some x) found =
+skipped_some ac free old bits new place place' p s space t is None found = tt
+skipped_some ac free old bits new place place' p s space t is (Some x) found =
     elim (found refl) [
       | inl last ↦
-          let a = partial_ended ac free (pos 0) old bits new s.0 (set s.0 63 (unpacked p).value) place place' p s.1 room t is (inl last) (λ _. refl) (λ far. absurd (omega (arith, far, last))) in
+          let a = partial_ended ac free (pos 0) old bits new s.0 (set s.0 63 (unpacked p).value) place place' p s.1 space t is (inl last) (λ _. refl) (λ far. absurd (omega (arith, far, last))) in
           (a.0, a.2)
       | inr far ↦
-          let a = partial_ended ac free (pos 0) old bits new s.0 s.0 place place' p s.1 room t is (inr far) (λ last. absurd (omega (arith, far, last))) (λ _. refl) in
+          let a = partial_ended ac free (pos 0) old bits new s.0 s.0 place place' p s.1 space t is (inr far) (λ last. absurd (omega (arith, far, last))) (λ _. refl) in
           (a.0, a.2)
     ]
 
 pub skipped_on : (ac : Table) → IsPrefixFree ac → (old bits new : List Bool) (place place' : ℕ) (p : Packed)
     → (block : List ℤ) × IsPartialCut ac (pos 0) old bits block (place + 1) → place ≤ 62 → TakesPlaces ac p bits new → place' ≡ place + places_in p → place' ≤ 63
     → (block : List ℤ) × IsPartialCut ac (pos 0) old new block (place' + 1)
-skipped_on ac free old bits new place place' p s room t is fits =
-    (set s.0 place' (unpacked p).value, partial_places ac free (pos 0) old bits new s.0 (set s.0 place' (unpacked p).value) place place' p s.1 room t is fits refl)
+skipped_on ac free old bits new place place' p s space t is fits =
+    (set s.0 place' (unpacked p).value, partial_places ac free (pos 0) old bits new s.0 (set s.0 place' (unpacked p).value) place place' p s.1 space t is fits refl)

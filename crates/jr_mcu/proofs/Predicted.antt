@@ -25,18 +25,18 @@ takes_block dc ac p d first others old mid new f is within o = record {
 }
 
 -- a block's bits are those of its difference, and then those of the others
-behind_first : (dc ac : Table) (p : ℤ) (z : List ℤ) (old bits rest : List Bool) (b : BlockAt dc ac p z bits) → old ≡ bits ++ rest → old ≡ b.coded.first_bits ++ (b.coded.others_bits ++ rest)
-behind_first dc ac p z old bits rest b e = let c = b.coded in e ∙ ap (λ (x : List Bool). x ++ rest) c.spelled ∙ append_assoc c.first_bits c.others_bits rest
+after_first : (dc ac : Table) (p : ℤ) (z : List ℤ) (old bits rest : List Bool) (b : BlockAt dc ac p z bits) → old ≡ bits ++ rest → old ≡ b.coded.first_bits ++ (b.coded.others_bits ++ rest)
+after_first dc ac p z old bits rest b e = let c = b.coded in e ∙ ap (λ (x : List Bool). x ++ rest) c.spelled ∙ append_assoc c.first_bits c.others_bits rest
 
 pub no_block_first : (dc : Table) (p : ℤ) (old : List Bool) → HasNoDifference dc old → (ac : Table) → HasNoBlock dc ac p old
-no_block_first dc p old none ac z bits rest b e = let c = b.coded in none b.difference c.first_bits (c.others_bits ++ rest) c.is_first (behind_first dc ac p z old bits rest b e)
+no_block_first dc p old none ac z bits rest b e = let c = b.coded in none b.difference c.first_bits (c.others_bits ++ rest) c.is_first (after_first dc ac p z old bits rest b e)
 
 -- if a difference is read, a block that the bits begin with has it, and continues after it
 begins : (dc ac : Table) → IsPrefixFree dc → (p d : ℤ) (z : List ℤ) (old mid bits rest : List Bool) → TakesDifference dc d old mid → (b : BlockAt dc ac p z bits) → old ≡ bits ++ rest
     → (d ≡ b.difference) × (mid ≡ b.coded.others_bits ++ rest)
 begins dc ac free p d z old mid bits rest f b e =
     let c = b.coded in
-    let whole : f.bits ++ mid ≡ c.first_bits ++ (c.others_bits ++ rest) = sym f.split ∙ behind_first dc ac p z old bits rest b e in
+    let whole : f.bits ++ mid ≡ c.first_bits ++ (c.others_bits ++ rest) = sym f.split ∙ after_first dc ac p z old bits rest b e in
     let s = same_difference dc free d b.difference f.bits c.first_bits mid (c.others_bits ++ rest) f.is c.is_first whole in
     (s.1, append_cancel_left c.first_bits _ _ (subst (λ (q : List Bool). q ++ mid ≡ c.first_bits ++ (c.others_bits ++ rest)) s.0 whole))
 

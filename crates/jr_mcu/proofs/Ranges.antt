@@ -73,13 +73,13 @@ pub block_in_range : (dc ac : Table) (p : ℤ) (z : List ℤ) (bits : List Bool)
 block_in_range dc ac p z bits b =
     let others : (k : ℕ) → Within 1023 (get_or b.others k (pos 0)) = others_within ac b.others b.coded.others_bits b.coded.are_others in
     let first : get_or z 0 (pos 0) ≡ p +ℤ b.difference = ap (λ (x : List ℤ). get_or x 0 (pos 0)) b.values in
-    let rest : (k : ℕ) → 0 < k → Within 1023 (get_or z k (pos 0)) = λ k some. subst (λ (x : List ℤ). Within 1023 (get_or x k (pos 0))) (sym b.values) (behind (p +ℤ b.difference) b.others others k some) in
+    let rest : (k : ℕ) → 0 < k → Within 1023 (get_or z k (pos 0)) = λ k some. subst (λ (x : List ℤ). Within 1023 (get_or x k (pos 0))) (sym b.values) (after (p +ℤ b.difference) b.others others k some) in
     record {
       count = omega (arith, ap length b.values, coded_count dc ac b.difference b.others bits b.coded);
       first = subst IsInDcRange (sym first) b.in_range;
       others = λ k some lt. let w = rest k some in (omega (arith, ints, w.1), w.0);
     }
   where
-    behind : (x : ℤ) (xs : List ℤ) → ((k : ℕ) → Within 1023 (get_or xs k (pos 0))) → (k : ℕ) → 0 < k → Within 1023 (get_or (x ∷ xs) k (pos 0))
-    behind x xs h zero some = absurd (omega arith)
-    behind x xs h (suc k) some = h k
+    after : (x : ℤ) (xs : List ℤ) → ((k : ℕ) → Within 1023 (get_or xs k (pos 0))) → (k : ℕ) → 0 < k → Within 1023 (get_or (x ∷ xs) k (pos 0))
+    after x xs h zero some = absurd (omega arith)
+    after x xs h (suc k) some = h k

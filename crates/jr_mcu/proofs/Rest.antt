@@ -43,9 +43,9 @@ step_on_at : (ac : Table) → IsPrefixFree ac → (i : AcCode) (done others : Li
     → code_bits i ++ bits ≡ flat_map code_bits items ++ (tail ++ rest)
     → others ≡ done ++ (flat_map entries items ++ replicate (63 - (length done + length (flat_map entries items))) (pos 0))
     → Goes ac (done ++ entries i) others bits rest
-step_on_at ac free i done others bits rest is room [] tail each (inl full) spelled values = absurd (omega (arith, full.0))
-step_on_at ac free i done others bits rest is room [] tail each (inr end) spelled values = absurd (not_end ac free i tail bits rest is end.1 spelled)
-step_on_at ac free i done others bits rest is room (j ∷ js) tail each end spelled values =
+step_on_at ac free i done others bits rest is space [] tail each (inl full) spelled values = absurd (omega (arith, full.0))
+step_on_at ac free i done others bits rest is space [] tail each (inr end) spelled values = absurd (not_end ac free i tail bits rest is end.1 spelled)
+step_on_at ac free i done others bits rest is space (j ∷ js) tail each end spelled values =
     let same = same_code ac free i j bits (flat_map code_bits js ++ (tail ++ rest)) is each.0 (spelled ∙ append_assoc (code_bits j) (flat_map code_bits js) (tail ++ rest)) in
     let n : length done + length (entries j ++ flat_map entries js) ≡ length (done ++ entries j) + length (flat_map entries js)
     = omega (arith, length-append done (entries j), length-append (entries j) (flat_map entries js)) in
@@ -60,7 +60,7 @@ step_on_at ac free i done others bits rest is room (j ∷ js) tail each end spel
     subst (λ (k : AcCode). Goes ac (done ++ entries k) others bits rest) (sym same.0) there
 
 pub step_on : (ac : Table) → IsPrefixFree ac → (i : AcCode) (done others : List ℤ) (bits rest : List Bool) → IsAcCode ac i → length done ≤ 62 → Goes ac done others (code_bits i ++ bits) rest → Goes ac (done ++ entries i) others bits rest
-step_on ac free i done others bits rest is room g = step_on_at ac free i done others bits rest is room g.items g.tail g.each g.end g.spelled g.values
+step_on ac free i done others bits rest is space g = step_on_at ac free i done others bits rest is space g.items g.tail g.each g.end g.spelled g.values
 
 -- a block is what is left of it if nothing is done
 pub of_others : (ac : Table) (others : List ℤ) (old bits rest : List Bool) → OthersAt ac others bits → old ≡ bits ++ rest → Goes ac [] others old rest
@@ -109,8 +109,8 @@ pub partial_more : (ac : Table) → IsPrefixFree ac → (first : ℤ) (old bits 
     → place' ≡ index + length made → place' ≤ 64
     → block' ≡ first ∷ ((s.done ++ made) ++ replicate (64 - place') (pos 0))
     → IsPartialCut ac first old new block' place'
-partial_more ac free first old bits new block block' made index place' s room t next fits written =
-    let e = t.gives in
+partial_more ac free first old bits new block block' made index place' s space t next fits written =
+    let e = t.returned in
     record {
       done = s.done ++ made;
       count = omega (arith, length-append s.done made, s.count, next);
@@ -134,20 +134,20 @@ partial_all ac first old bits block index s all =
 -- a code of 00 says that the others are 0
 pub partial_end : (ac : Table) (first : ℤ) (old bits new : List Bool) (block : List ℤ) (index : ℕ) → IsPartialCut ac first old bits block index → index < 64 → TakesEnd ac bits new
     → (others : List ℤ) × (block ≡ first ∷ others) × TakesOthers ac others old new
-partial_end ac first old bits new block index s room t =
+partial_end ac first old bits new block index s space t =
     let others = s.done ++ replicate (64 - index) (pos 0) in
     let k : 63 - (length s.done + 0) ≡ 64 - index = omega (arith, s.count) in
     let g : Goes ac s.done others bits new = record { items = []; tail = t.word; each = tt; end = inr (omega (arith, s.count), t.is); spelled = t.split; values = ap (λ (q : ℕ). s.done ++ replicate q (pos 0)) (sym k) } in
     (others, s.blocks, to_others ac others old new (s.back others new g))
 
 no_goes_at : (ac : Table) (done others : List ℤ) (bits rest : List Bool) → length done ≤ 62 → HasNoStep ac bits → (items : List AcCode) (tail : List Bool) → AllByRecursion (IsAcCode ac) items → IsEnd ac (length done + length (flat_map entries items)) tail → bits ≡ flat_map code_bits items ++ (tail ++ rest) → ⊥
-no_goes_at ac done others bits rest room none [] tail each (inl full) spelled = omega (arith, full.0)
-no_goes_at ac done others bits rest room none [] tail each (inr end) spelled = none.no_end tail rest end.1 spelled
-no_goes_at ac done others bits rest room none (i ∷ is) tail each end spelled = none.no_code i (flat_map code_bits is ++ (tail ++ rest)) each.0 (spelled ∙ append_assoc (code_bits i) (flat_map code_bits is) (tail ++ rest))
+no_goes_at ac done others bits rest space none [] tail each (inl full) spelled = omega (arith, full.0)
+no_goes_at ac done others bits rest space none [] tail each (inr end) spelled = none.no_end tail rest end.1 spelled
+no_goes_at ac done others bits rest space none (i ∷ is) tail each end spelled = none.no_code i (flat_map code_bits is ++ (tail ++ rest)) each.0 (spelled ∙ append_assoc (code_bits i) (flat_map code_bits is) (tail ++ rest))
 
 -- if no step begins what is left, the bits do not begin with a block
 pub partial_stuck : (ac : Table) (first : ℤ) (old bits : List Bool) (block : List ℤ) (index : ℕ) → IsPartialCut ac first old bits block index → index < 64 → HasNoStep ac bits → HasNoOthers ac old
-partial_stuck ac first old bits block index s room none others b rest o split =
+partial_stuck ac first old bits block index s space none others b rest o split =
     let g = s.on others rest (of_others ac others old b rest o split) in
     no_goes_at ac s.done others bits rest (omega (arith, s.count)) none g.items g.tail g.each g.end g.spelled
 
@@ -157,10 +157,10 @@ end_within ac n tail (inr end) = omega (arith, end.0)
 
 -- if the next code advances past the last position, the bits do not begin with a block
 pub partial_over : (ac : Table) → IsPrefixFree ac → (first : ℤ) (old bits new : List Bool) (block made : List ℤ) (index : ℕ) → IsPartialCut ac first old bits block index → index < 64 → TakesAcCode ac made bits new → 64 < index + length made → HasNoOthers ac old
-partial_over ac free first old bits new block made index s room t over others b rest o split =
+partial_over ac free first old bits new block made index s space t over others b rest o split =
     let g = s.on others rest (of_others ac others old b rest o split) in
     let h = step_on ac free t.code s.done others new rest t.is (omega (arith, s.count)) (subst (λ (x : List Bool). Goes ac s.done others x rest) t.split g) in
-    omega (arith, end_within ac _ h.tail h.end, length-append s.done (entries t.code), ap length t.gives, s.count)
+    omega (arith, end_within ac _ h.tail h.end, length-append s.done (entries t.code), ap length t.returned, s.count)
 
 -- a write after a run of zeros
 pub set_at : (done : List ℤ) (n run : ℕ) (v : ℤ) → run < n → set (done ++ replicate n (pos 0)) (length done + run) v ≡ (done ++ (replicate run (pos 0) ++ v ∷ [])) ++ replicate (n - (run + 1)) (pos 0)
@@ -186,8 +186,8 @@ block_written first v done block index run at is count e h =
 
 pub partial_coef : (ac : Table) → IsPrefixFree ac → (first v : ℤ) (old bits new : List Bool) (block block' : List ℤ) (index run at place' : ℕ)
     → IsPartialCut ac first old bits block index → index < 64 → TakesAcCode ac (replicate run (pos 0) ++ v ∷ []) bits new → at ≡ index + run → at ≤ 63 → block' ≡ set block at v → place' ≡ at + 1 → IsPartialCut ac first old new block' place'
-partial_coef ac free first v old bits new block block' index run at place' s room t is fits wrote next =
+partial_coef ac free first v old bits new block block' index run at place' s space t is fits wrote next =
     let n : length (replicate run (pos 0) ++ v ∷ []) ≡ run + 1 = omega (arith, length-append (replicate run (pos 0)) (v ∷ []), length-replicate run (pos 0)) in
     let written : block' ≡ first ∷ ((s.done ++ (replicate run (pos 0) ++ v ∷ [])) ++ replicate (64 - place') (pos 0))
     = wrote ∙ block_written first v s.done block index run at s.blocks s.count is (omega (arith, fits)) ∙ ap (λ (q : ℕ). first ∷ ((s.done ++ (replicate run (pos 0) ++ v ∷ [])) ++ replicate (64 - q) (pos 0))) (sym next) in
-    partial_more ac free first old bits new block block' (replicate run (pos 0) ++ v ∷ []) index place' s room t (omega (arith, n, is, next)) (omega (arith, next, fits)) written
+    partial_more ac free first old bits new block block' (replicate run (pos 0) ++ v ∷ []) index place' s space t (omega (arith, n, is, next)) (omega (arith, next, fits)) written

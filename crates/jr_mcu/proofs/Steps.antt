@@ -32,7 +32,7 @@ pub takes_end : (ac : Table) (s : ℕ) (old new : List Bool) → TakesWord ac ol
 takes_end ac s old new w e = record { word = w.0; is = subst (IsWord ac w.0) e w.1; split = w.2 }
 
 pub takes_zeros : (ac : Table) (s : ℕ) (old new : List Bool) → TakesWord ac old new s → s ≡ 240 → TakesAcCode ac (replicate 16 (pos 0)) old new
-takes_zeros ac s old new w e = record { code = ZeroRun w.0; is = subst (IsWord ac w.0) e w.1; gives = refl; split = w.2 }
+takes_zeros ac s old new w e = record { code = ZeroRun w.0; is = subst (IsWord ac w.0) e w.1; returned = refl; split = w.2 }
 
 pub takes_coef : (ac : Table) (symbol size : ℕ) (v : ℤ) (old mid new : List Bool) → TakesWord ac old mid symbol → symbol < 256 → size ≡ symbol % 16 → (size ≡ 0 → ⊥) → size ≤ 10 → TakesExtra size v mid new
     → TakesAcCode ac (replicate (symbol / 16) (pos 0) ++ v ∷ []) old new
@@ -41,7 +41,7 @@ takes_coef ac symbol size v old mid new w byte is some small x =
     record {
       code = RunAndSize (symbol / 16) size w.0 x.bits;
       is = (omega arith, omega arith, small, subst (IsWord ac w.0) e w.1, x.count);
-      gives = ap (λ (q : ℤ). replicate (symbol / 16) (pos 0) ++ q ∷ []) (sym x.is);
+      returned = ap (λ (q : ℤ). replicate (symbol / 16) (pos 0) ++ q ∷ []) (sym x.is);
       split = w.2 ∙ ap (λ (b : List Bool). w.0 ++ b) x.split ∙ sym (append_assoc w.0 x.bits new);
     }
 

@@ -15,7 +15,7 @@ pub record TakesExtra (size : ℕ) (v : ℤ) (old new : List Bool) : Type 0 wher
 pub record TakesAcCode (ac : Table) (made : List ℤ) (old new : List Bool) : Type 0 where
   pub code : AcCode
   pub is : IsAcCode ac code
-  pub gives : entries code ≡ made
+  pub returned : entries code ≡ made
   pub split : old ≡ code_bits code ++ new
 
 -- old is a code of 00, and then new

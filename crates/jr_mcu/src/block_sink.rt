@@ -23,7 +23,7 @@ pub trait BlockSink {
         blocks: &mut [Coefficients],
     ) -> Option<i32>
         requires in_range { IsInDcRange prediction }
-        requires room { IsTrue keeps → k < length blocks.old }
+        requires space { IsTrue keeps → k < length blocks.old }
         ensures some { IfSome result (λ first. (z : List ℤ) × TakesBlock dc.now ac.now prediction z bits.old bits.new × (first ≡ slice_index_or z 0 (pos 0)) × (IsTrue keeps → blocks.new ≡ slice_set blocks.old k z)) }
         ensures front { IsTrue keeps → take k blocks.new ≡ take k blocks.old }
         ensures none { IfNone result (HasNoBlock dc.now ac.now prediction bits.old) };

@@ -8,4 +8,4 @@ mod shifting;
 
 pub use block_sink::{BlockSink, Kept, Skipped};
 pub use mcu::read_mcu;
-pub use shifting::{all_small, put_shifted, sums};
+pub use shifting::{all_small, store_shifted, sums};

@@ -2,7 +2,7 @@
 
 ghost use Rattle.std.specs.Prelude.{◌≡◌, ◌+◌, ◌<◌, ◌≤◌, ◌^◌, ◌++◌, ℤ, List, length, take, IsTrue, IfNone, OnSome};
 ghost use Rattle.std.specs.List.{All};
-ghost use Rattle.jr_head.specs.Geometry.{IsLawful, order_of};
+ghost use Rattle.jr_head.specs.Geometry.{IsValid, order_of};
 ghost use Rattle.jr_mcu.specs.Block.{IsInDcRange};
 ghost use Rattle.jr_mcu.specs.Mcus.{predicted, TakesMcu, BeginsNoMcu};
 
@@ -21,9 +21,9 @@ pub fn read_mcu<S: BlockSink>(
     start: usize,
     blocks: &mut [Coefficients],
 ) -> Option<()>
-    requires lawful { IsLawful head.now }
+    requires valid { IsValid head.now }
     requires fits { start + length (order_of head.now) < 2 ^ 64 }
-    requires room { IsTrue S.keeps → start + length (order_of head.now) ≤ length blocks.old }
+    requires space { IsTrue S.keeps → start + length (order_of head.now) ≤ length blocks.old }
     requires in_range { All IsInDcRange predictions.old }
     ensures some { OnSome result ((zs : List (List ℤ)) × TakesMcu head.now predictions.old zs bits.old bits.new × (predictions.new ≡ predicted head.now predictions.old zs) × (IsTrue S.keeps → take (start + length (order_of head.now)) blocks.new ≡ take start blocks.old ++ zs)) }
     ensures front { IsTrue S.keeps → take start blocks.new ≡ take start blocks.old }

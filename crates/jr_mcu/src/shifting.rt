@@ -2,7 +2,7 @@
 
 ghost use Rattle.std.specs.Prelude.{◌≡◌, ◌<◌, ℕ, pos, [], length, slice_index_or, ◌+ℤ◌, IfSome, IsTrue, OnSome};
 ghost use Rattle.std.specs.List.{All};
-ghost use Rattle.jr_head.specs.Geometry.{IsLawful, order_of};
+ghost use Rattle.jr_head.specs.Geometry.{IsValid, order_of};
 ghost use Rattle.jr_mcu.specs.Block.{IsInDcRange};
 ghost use Rattle.jr_mcu.specs.Shift.{AreGreater, IsShifted, AreShifted, IsInMcuRange, HaveFirstInMcuRange, IsSmall};
 
@@ -67,15 +67,15 @@ fn shifted(block: &Coefficients, by: i32) -> Option<Coefficients>
 }
 
 /// Copies the blocks of an MCU, adding to each DC coefficient what is given for its component.
-pub fn put_shifted(
+pub fn store_shifted(
     head: &Head,
     by: &[i32; 3],
     blocks: &[Coefficients],
     others: &mut [Coefficients],
 ) -> Option<()>
-    requires lawful { IsLawful head.now }
+    requires valid { IsValid head.now }
     requires count { length blocks.now ≡ length (order_of head.now) }
-    requires room { length others.old ≡ length (order_of head.now) }
+    requires space { length others.old ≡ length (order_of head.now) }
     requires some { (k : ℕ) → k < length blocks.now → 0 < length (slice_index_or blocks.now k []) }
     requires small { HaveFirstInMcuRange blocks.now }
     requires by { All IsSmall by.now }

@@ -12,7 +12,7 @@ use Rattle.jr_damage.specs.Coded.{IsSegmentOf}
 use Rattle.jr_scan.specs.IntervalValue.{IntervalValue}
 use Rattle.jr_scan.specs.Mcus.{HasDecoding, HasNoDecoding, HasLongestFront}
 use Rattle.jr_mend.specs.declared.choice.Choice.{Choice}
-use Rattle.jr_mend.specs.Choice.{Differ, HasAtMost, HasFewer, IsBest, IsChoice, IsChoiceOf, Split, TellsDiffer}
+use Rattle.jr_mend.specs.Choice.{Differ, HasAtMost, HasFewer, IsBest, IsChoice, IsChoiceOf, Split, ReportsDiffer}
 use Rattle.jr_mend.specs.Copies.{CopyValue, version_of, versions_of}
 use Rattle.jr_mend.proofs.ScanOfCopies.{same_interval}
 
@@ -144,9 +144,9 @@ pub versions_all : (copies : List CopyValue) (i : ℕ) → versions_of (take (le
 versions_all copies i = ap (λ (l : List CopyValue). versions_of l i) (take-length copies)
 
 -- a version that adds no difference leaves unchanged what is reported of them
-tells_more : (vs : List IntervalValue) (next : IntervalValue) (told : Bool) → TellsDiffer vs told → (Differ (vs ++ next ∷ []) → Differ vs) → TellsDiffer (vs ++ next ∷ []) told
-tells_more vs next true t back = still_differ vs next t
-tells_more vs next false t back = λ d. t (back d)
+reports_more : (vs : List IntervalValue) (next : IntervalValue) (stated : Bool) → ReportsDiffer vs stated → (Differ (vs ++ next ∷ []) → Differ vs) → ReportsDiffer (vs ++ next ∷ []) stated
+reports_more vs next true t back = still_differ vs next t
+reports_more vs next false t back = λ d. t (back d)
 
 -- the choice among some versions and one more
 module _ (vs : List IntervalValue) (chosen next : IntervalValue) (b : Choice) (is : IsChoiceOf vs chosen b) where
@@ -167,7 +167,7 @@ module _ (vs : List IntervalValue) (chosen next : IntervalValue) (b : Choice) (i
       is = record {
         split = split_more vs chosen next b.copy is.split;
         best = still_best;
-        differs = tells_more vs next b.differs is.differs (differ_before vs next none);
+        differs = reports_more vs next b.differs is.differs (differ_before vs next none);
       };
     }
 
@@ -177,7 +177,7 @@ module _ (vs : List IntervalValue) (chosen next : IntervalValue) (b : Choice) (i
       is = record {
         split = split_more vs chosen next b.copy is.split;
         best = still_best;
-        differs = tells_more vs next b.differs is.differs (same_differ vs chosen next (has_chosen vs chosen b.copy is.split) its_best.1 same);
+        differs = reports_more vs next b.differs is.differs (same_differ vs chosen next (has_chosen vs chosen b.copy is.split) its_best.1 same);
       };
     }
 
@@ -249,7 +249,7 @@ module _ (vs : List IntervalValue) (chosen next : IntervalValue) (b : Choice) (i
               split = split;
               best = subst (IsBest is.split.before after chosen) (sym damaged)
                   (subst (All HasNoDecoding) split.are none_sound, longest.1, longest.2, All-push (HasAtMost m) is.split.after next longest.3 (next_at_most few));
-              differs = tells_more vs next b.differs is.differs (differ_before vs next none);
+              differs = reports_more vs next b.differs is.differs (differ_before vs next none);
             };
           }
 

@@ -31,7 +31,7 @@ due_next n bytes at k count len due stop s =
     let long : length mark ≡ count = length_marker begins.more (RST0 + k % 8) ∙ sym begins.long in
     let marked : take count (drop at bytes) ≡ mark = ap (take count) begins.spelled ∙ take_at mark (drop count (drop at bytes)) count long in
     let read : take (at + count) bytes ≡ take at bytes ++ mark = take-add at count bytes ∙ ap (λ (x : List ℕ). take at bytes ++ x) marked in
-    let behind : take (at + count + len) bytes ≡ (take at bytes ++ mark) ++ take len (drop (at + count) bytes) = take-add (at + count) len bytes ∙ ap (λ (x : List ℕ). x ++ take len (drop (at + count) bytes)) read in
+    let after : take (at + count + len) bytes ≡ (take at bytes ++ mark) ++ take len (drop (at + count) bytes) = take-add (at + count) len bytes ∙ ap (λ (x : List ℕ). x ++ take len (drop (at + count) bytes)) read in
     let next = segments_next 0 k begins.more due.datas (take at bytes) due.are (omega (arith, due.count)) in
     let grown = segments_grow 0 due.datas [] (take at bytes ++ mark) (take len (drop (at + count) bytes)) s.found next s.raw in
     record {
@@ -39,7 +39,7 @@ due_next n bytes at k count len due stop s =
       count = omega (arith, due.count, length-append due.datas (s.found ∷ []));
       few = omega (arith, stop.0);
       within = s.within;
-      are = subst (λ (x : List ℕ). AreSegments 0 x (due.datas ++ s.found ∷ [])) (sym behind) grown;
+      are = subst (λ (x : List ℕ). AreSegments 0 x (due.datas ++ s.found ∷ [])) (sym after) grown;
       stop = s.stop;
     }
 

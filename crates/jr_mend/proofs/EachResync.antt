@@ -113,8 +113,8 @@ front bytes small = go c.is.segments c.is.few c.is.spelled c.is.ends
     go [] few spelled ends = record { raw = c.is.raw; found = c.is.first; tail = c.is.tail; is_raw = c.is.is_raw; whole = spelled; at = 0 + length (c.is.raw ++ []); end = c.end; ends = ends }
     go (p ∷ ps) few spelled ends = absurd (omega (arith, few))
 
-small_behind : (bytes before rest : List ℕ) → bytes ≡ before ++ rest → All (λ b. b < 256) bytes → All (λ b. b < 256) rest
-small_behind bytes before rest e all = subst (All (λ b. b < 256)) (ap (drop (length before)) e ∙ drop-append_seam before rest) (All-drop (λ b. b < 256) (length before) bytes all)
+small_after : (bytes before rest : List ℕ) → bytes ≡ before ++ rest → All (λ b. b < 256) bytes → All (λ b. b < 256) rest
+small_after bytes before rest e all = subst (All (λ b. b < 256)) (ap (drop (length before)) e ∙ drop-append_seam before rest) (All-drop (λ b. b < 256) (length before) bytes all)
 
 -- ---- all of them
 
@@ -130,12 +130,12 @@ module _ (n size since k at : ℕ) (tail : List ℕ) (few : k < n) (small : All 
   on_by : (code : ℕ) (missing : Option ℕ) → HasMarker tail code → MeansIn n size since k tail code missing → Follows n size since k at tail
   on_by code missing m means =
       let mark = marker m.0 code in
-      let small_rest = small_behind tail mark m.1 m.2 small in
+      let small_rest = small_after tail mark m.1 m.2 small in
       let f = front m.1 small_rest in
       let p : Part = record { more = m.0; code = code; missing = missing; raw = f.raw; bytes = f.found } in
       let spelled : tail ≡ part_bytes p ++ f.tail = m.2 ∙ ap (λ (x : List ℕ). mark ++ x) f.whole ∙ sym (append_assoc mark f.raw f.tail) in
       let shorter : length f.tail < length tail = omega (arith, ap length spelled, length-append (part_bytes p) f.tail, length-append mark f.raw, length_marker m.0 code) in
-      let others = next (since_after since missing (length (part_bytes p))) (number_after k missing) (at + length (part_bytes p)) f.at f.tail f.end shorter (few_after n size since k tail code missing means) f.ends (small_behind m.1 f.raw f.tail f.whole small_rest) in
+      let others = next (since_after since missing (length (part_bytes p))) (number_after k missing) (at + length (part_bytes p)) f.at f.tail f.end shorter (few_after n size since k tail code missing means) f.ends (small_after m.1 f.raw f.tail f.whole small_rest) in
       record { r = with_part at k p others.r; is = parts_next n size since k at p tail f.tail others.r means f.is_raw spelled others.is }
 
   goes_on : (code : ℕ) → HasMarker tail code → 0 < code → code < PREFIX → code ≢ EOI → k + 1 < n → Follows n size since k at tail
@@ -178,6 +178,6 @@ follows_from (suc fuel) n size since k at o tail end short few ends small =
 pub each_scan_resyncs : (n at : ℕ) (bytes : List ℕ) → 0 < n → All (λ b. b < 256) bytes → (r : Resync) × IsResync n at bytes r
 each_scan_resyncs n at bytes some small =
     let f = front bytes small in
-    let others = follows_from (length f.tail) n (scan_bytes (scan_markers n bytes)) (length f.raw) 0 (at + length f.raw) f.at f.tail f.end (omega arith) some f.ends (small_behind bytes f.raw f.tail f.whole small) in
+    let others = follows_from (length f.tail) n (scan_bytes (scan_markers n bytes)) (length f.raw) 0 (at + length f.raw) f.at f.tail f.end (omega arith) some f.ends (small_after bytes f.raw f.tail f.whole small) in
     let r : Resync = record { raws = f.raw ∷ others.r.raws; datas = f.found ∷ others.r.datas; breaks = others.r.breaks; end = others.r.end } in
     (r, record { some = some; raw = f.raw; first = f.found; rest = f.tail; after = others.r; is_raw = f.is_raw; spelled = f.whole; parts = others.is; is = refl })

@@ -82,9 +82,9 @@ module _ (s t : ScanValue) (n : ℕ) (k m : List Mark) (f g : ℕ → ℕ → �
 
   pub same_line : (line : ℕ) → line < h.height → HasSameDataAt s t line → line_of h f line ≡ line_of t.head g line
   same_line line high same =
-      line_same h are.one.lawful f g line
+      line_same h are.one.valid f g line
       (λ c x p left.
-      let l = are.one.lawful in
+      let l = are.one.valid in
       let down = vertical_of h c in
       let q = sampled_at h c l p in
       let deep : 0 < 8 * vertical_max h = omega (arith, l.components.down) in

@@ -115,15 +115,15 @@ pub takes : (file : List ℕ) (old mid v : Reading) (m : FoundMarker) (len : ℕ
     → raw ≡ take len (drop (mid.at + m.length) file) → Takes file old v m
 takes file old mid v m len raw s noted bytes number since outlook at place next counted size ahead breaks written slice =
     let start : mid.at + m.length ≡ old.at + m.length = ap (λ a. a + m.length) at in
-    let told = subst (λ (a : ℕ). Segment file a len) start s in
+    let stated = subst (λ (a : ℕ). Segment file a len) start s in
     let end : v.at ≡ old.at + m.length + len = omega (arith, place, at) in
     record {
       len = len;
-      data' = told.found;
-      raw = told.raw;
-      within = told.within;
+      data' = stated.found;
+      raw = stated.raw;
+      within = stated.within;
       at = end;
-      stop = subst (λ (k : ℕ). IsStop (drop k file)) (sym end) told.stop;
+      stop = subst (λ (k : ℕ). IsStop (drop k file)) (sym end) stated.stop;
       number = next ∙ ap (λ (k : ℕ). number_after k m.missing) number;
       since = counted ∙ ap (λ (q : ℕ). since_after q m.missing (m.length + len)) since;
       size = size ∙ ap (λ o. o.size) outlook;
@@ -173,8 +173,8 @@ module _ (file : List ℕ) (h : HeadValue) (w v : Reading) (m : FoundMarker) (ha
       let mark = marker meets.more m.code in
       let marked : drop w.at file ≡ mark ++ rest = spelled ∙ append_assoc mark raw (drop v.at file) in
       let p = passed_on n w.outlook.size w.since w.k meets.more m.code m.missing (drop w.at file) rest marked meets.means in
-      let behind : scan_markers (intervals_of h) rest ≡ as_read (intervals_of h) (markers_in (0 + length raw) (drop v.at file)) = ap (as_read (intervals_of h)) (raw_on 0 raw t.data' (drop v.at file) t.raw) in
-      let here = p.first ∙ ap (λ (ms : List ScanMarker). p.m ∷ ms) behind in
+      let after : scan_markers (intervals_of h) rest ≡ as_read (intervals_of h) (markers_in (0 + length raw) (drop v.at file)) = ap (as_read (intervals_of h)) (raw_on 0 raw t.data' (drop v.at file) t.raw) in
+      let here = p.first ∙ ap (λ (ms : List ScanMarker). p.m ∷ ms) after in
       let is = subst (λ (ms : List ScanMarker). IsOutlook n ms w.outlook) here has.outlook in
       outlook_rebased n (0 + length raw) (drop v.at file) v.outlook (t.outlook n p.m (as_read (intervals_of h) (markers_in (0 + length raw) (drop v.at file))) p.restart p.goes is)
 

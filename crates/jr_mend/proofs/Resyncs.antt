@@ -65,9 +65,9 @@ with_part at k p r = record { raws = new_segments p.missing p.raw ++ r.raws; dat
 pub parts_next : (n size since k at : ℕ) (p : Part) (bytes rest : List ℕ) (r : Resync) → MeansIn n size since k bytes p.code p.missing → IsRaw p.raw p.bytes → bytes ≡ part_bytes p ++ rest → PartsFrom n size (since_after since p.missing (length (part_bytes p))) (number_after k p.missing) (at + length (part_bytes p)) rest r → PartsFrom n size since k at bytes (with_part at k p r)
 parts_next n size since k at p bytes rest r means raw e f =
     let here = part_bytes p in
-    let behind = flat_map part_bytes f.parts in
-    let place : at + length here + length behind ≡ at + length (here ++ behind) = omega (arith, length-append here behind) in
-    let spelled : bytes ≡ (here ++ behind) ++ f.tail = e ∙ ap (λ (x : List ℕ). here ++ x) f.spelled ∙ sym (append_assoc here behind f.tail) in
+    let after = flat_map part_bytes f.parts in
+    let place : at + length here + length after ≡ at + length (here ++ after) = omega (arith, length-append here after) in
+    let spelled : bytes ≡ (here ++ after) ++ f.tail = e ∙ ap (λ (x : List ℕ). here ++ x) f.spelled ∙ sym (append_assoc here after f.tail) in
     record {
       parts = p ∷ f.parts;
       tail = f.tail;

@@ -36,15 +36,15 @@ pub record Differ (versions : List IntervalValue) : Type 0 where
   pub are : one.bytes ≢ other.bytes
 
 -- whether two do
-abbrev pub TellsDiffer : List IntervalValue → Bool → Type 0
-TellsDiffer versions true = Differ versions
-TellsDiffer versions false = Differ versions → ⊥
+abbrev pub ReportsDiffer : List IntervalValue → Bool → Type 0
+ReportsDiffer versions true = Differ versions
+ReportsDiffer versions false = Differ versions → ⊥
 
 -- this version is chosen, and what is reported of it
 pub record IsChoiceOf (versions : List IntervalValue) (chosen : IntervalValue) (c : Choice) : Type 0 where
   pub split : Split versions chosen c.copy
   pub best : IsBest split.before split.after chosen c.front
-  pub differs : TellsDiffer versions c.differs
+  pub differs : ReportsDiffer versions c.differs
 
 -- one of them is
 pub record IsChoice (versions : List IntervalValue) (c : Choice) : Type 0 where

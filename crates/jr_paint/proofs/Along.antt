@@ -4,7 +4,7 @@ use Rattle.std.proofs.Math.Nat.{div-div-eq-div-mul, zero-div, zero-mod}
 use Rattle.std.proofs.Math.Arith.{mod-mul}
 use Rattle.std.proofs.lemmas.Nat.{div-mul-add, mod-mul-add, mod_below, mul-add-lt}
 use Rattle.jr_head.specs.HeadValue.{HeadValue}
-use Rattle.jr_head.specs.Geometry.{IsLawful, components_of, horizontal_of, vertical_of, mcus_across, mcus_of, blocks_before, blocks_of}
+use Rattle.jr_head.specs.Geometry.{IsValid, components_of, horizontal_of, vertical_of, mcus_across, mcus_of, blocks_before, blocks_of}
 use Rattle.jr_paint.specs.Geometry.{spot_of, spot_in_line, place_in, samples_across, samples_down}
 use Rattle.jr_paint.specs.Units.{sample_by_units}
 use Rattle.jr_paint.specs.declared.geometry.Spot.{Spot}
@@ -16,7 +16,7 @@ pub record IsInside (h : HeadValue) (s : Spot) : Type 0 where
   pub mcu : s.mcu < mcus_of h
   pub block : s.block < blocks_of h
 
-pub spot_inside : (h : HeadValue) (c x y : ℕ) → IsLawful h → c < components_of h → x < samples_across h c → y < samples_down h c → IsInside h (spot_of h c x y)
+pub spot_inside : (h : HeadValue) (c x y : ℕ) → IsValid h → c < components_of h → x < samples_across h c → y < samples_down h c → IsInside h (spot_of h c x y)
 spot_inside h c x y l p q r =
     let sampled = sampled_at h c l p in
     let there = place_of_lies (horizontal_of h c) (vertical_of h c) x y sampled.across sampled.down in
@@ -66,7 +66,7 @@ unit_along h c y n k some lt =
     spot_along h c (8 * n + k) y some ∙ at_unit (spot_of h c 0 y) (horizontal_of h c) ((8 * n + k) / 8) n ((8 * n + k) % 8) k unit column
 
 -- data unit n of a line is one of the image's
-pub unit_inside : (h : HeadValue) (c y n column part across : ℕ) (s : Spot) → IsLawful h → c < components_of h → 8 * n < samples_across h c → y < samples_down h c → s ≡ spot_of h c 0 y → across ≡ horizontal_of h c → column ≡ n / across → part ≡ n % across
+pub unit_inside : (h : HeadValue) (c y n column part across : ℕ) (s : Spot) → IsValid h → c < components_of h → 8 * n < samples_across h c → y < samples_down h c → s ≡ spot_of h c 0 y → across ≡ horizontal_of h c → column ≡ n / across → part ≡ n % across
     → (s.mcu + column < mcus_of h) × (s.block + part < blocks_of h)
 unit_inside h c y n column part across s l p q r start a e f =
     let there = spot_inside h c (8 * n + 0) y l p (omega (arith, q)) r in

@@ -61,13 +61,13 @@ length_pixels f three m (suc n) =
 
 -- n pixels more, after m of them
 pub pixels_more : (f : ℕ → List ℕ) → ((k : ℕ) → length (f k) ≡ 3) → (m n : ℕ) (out : List ℕ) → 3 * (m + n) ≤ length out → take (3 * m) out ≡ flat_map f (range_with_len 0 m) → take (3 * (m + n)) (put_chunk (3 * m) out (flat_map f (range_with_len m n))) ≡ flat_map f (range_with_len 0 (m + n))
-pixels_more f three m n out room before =
+pixels_more f three m n out space before =
     let new = flat_map f (range_with_len m n) in
     let long = length_pixels f three m n in
     let e : 0 + m ≡ m = omega arith in
     let whole : flat_map f (range_with_len 0 (m + n)) ≡ flat_map f (range_with_len 0 m) ++ flat_map f (range_with_len m n) =
     rw e at (flat_map-range-append f 0 m n) in
-    take_more_put_chunk (3 * m) out new (3 * (m + n)) (omega (arith, long)) room
+    take_more_put_chunk (3 * m) out new (3 * (m + n)) (omega (arith, long)) space
     ∙ ap (λ z. z ++ new) before ∙ sym whole
 
 -- a prefix of the pixels is also written
@@ -83,7 +83,7 @@ pixels_fewer f three m n out p all =
 
 -- the last 32 pixels, some of which may already be written
 pub last_pixels : (f : ℕ → List ℕ) → ((k : ℕ) → length (f k) ≡ 3) → (m n : ℕ) (out : List ℕ) → m ≤ n → 3 * (m + 32) ≤ length out → take (3 * n) out ≡ flat_map f (range_with_len 0 n) → take (3 * (m + 32)) (put_chunk (3 * m) out (flat_map f (range_with_len m 32))) ≡ flat_map f (range_with_len 0 (m + 32))
-last_pixels f three m n out p room all = pixels_more f three m 32 out room (pixels_fewer f three m n out p all)
+last_pixels f three m n out p space all = pixels_more f three m 32 out space (pixels_fewer f three m n out p all)
 
 -- 32 pixels starting at number m, from lanes by turns with the differences of the colours from luminance, by chrominance b and c
 pub raised_pixels : (m : ℕ) (y b c : ℕ → ℕ) (red green blue : List (List ℕ)) → ((k : ℕ) → k < 32 → IsRaised (turn_of red k) (red_over_of (c (m + k)))) → ((k : ℕ) → k < 32 → IsRaised (turn_of green k) (green_over_of (b (m + k)) (c (m + k)))) → ((k : ℕ) → k < 32 → IsRaised (turn_of blue k) (blue_over_of (b (m + k))))
@@ -119,14 +119,14 @@ halved_pixels i out y b c red green blue is_red is_green is_blue =
 
 -- 32 pixels more
 pub halved_more : (f : ℕ → List ℕ) → ((k : ℕ) → length (f k) ≡ 3) → (n : ℕ) (out : List ℕ) → 3 * (32 * (n + 1)) ≤ length out → take (3 * (32 * n)) out ≡ flat_map f (range_with_len 0 (32 * n)) → take (3 * (32 * (n + 1))) (put_chunk (6 * (16 * n)) out (flat_map f (range_with_len (2 * (16 * n)) 32))) ≡ flat_map f (range_with_len 0 (32 * (n + 1)))
-halved_more f three n out room before =
+halved_more f three n out space before =
     let e : 6 * (16 * n) ≡ 3 * (32 * n) = omega arith in
     let m : 2 * (16 * n) ≡ 32 * n = omega arith in
     let s : 32 * (n + 1) ≡ 32 * n + 32 = omega arith in
-    rw (e, m, s) (pixels_more f three (32 * n) 32 out (omega (arith, room)) before)
+    rw (e, m, s) (pixels_more f three (32 * n) 32 out (omega (arith, space)) before)
 
 -- the same in the last block of a line
 pub last_halved : (f : ℕ → List ℕ) → ((k : ℕ) → length (f k) ≡ 3) → (i n : ℕ) (out : List ℕ) → 2 * i ≤ n → 3 * (2 * i + 32) ≤ length out → take (3 * n) out ≡ flat_map f (range_with_len 0 n) → take (3 * (2 * i + 32)) (put_chunk (6 * i) out (flat_map f (range_with_len (2 * i) 32))) ≡ flat_map f (range_with_len 0 (2 * i + 32))
-last_halved f three i n out p room all =
+last_halved f three i n out p space all =
     let e : 6 * i ≡ 3 * (2 * i) = omega arith in
-    rw e (last_pixels f three (2 * i) n out p room all)
+    rw e (last_pixels f three (2 * i) n out p space all)

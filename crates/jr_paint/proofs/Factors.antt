@@ -6,14 +6,14 @@ use Rattle.std.proofs.lemmas.Nat.{mul-le, div_below}
 use Rattle.std.proofs.lemmas.Bool.{cases_lt}
 use Rattle.std.proofs.lemmas.Grind.{div_ceil_times}
 use Rattle.jr_head.specs.HeadValue.{HeadValue}
-use Rattle.jr_head.specs.Geometry.{IsLawful, IsSampled, IsSubsampled, component_at, no_component, components_of, horizontal_of, vertical_of, horizontal_max, vertical_max, blocks_before}
+use Rattle.jr_head.specs.Geometry.{IsValid, IsSampled, IsSubsampled, component_at, no_component, components_of, horizontal_of, vertical_of, horizontal_max, vertical_max, blocks_before}
 use Rattle.jr_paint.specs.Geometry.{samples_across, samples_down}
 use Rattle.jr_paint.proofs.Places.{below_div_ceil, in_div_ceil, blocks_before_le}
 
-pub sampled_at : (h : HeadValue) (c : ℕ) → IsLawful h → c < components_of h → IsSampled (component_at h c)
+pub sampled_at : (h : HeadValue) (c : ℕ) → IsValid h → c < components_of h → IsSampled (component_at h c)
 sampled_at h c l p = l.components.sampled c no_component p
 
-pub subsampled_at : (h : HeadValue) (c : ℕ) → IsLawful h → c < components_of h → IsSubsampled (horizontal_max h) (vertical_max h) (component_at h c)
+pub subsampled_at : (h : HeadValue) (c : ℕ) → IsValid h → c < components_of h → IsSubsampled (horizontal_max h) (vertical_max h) (component_at h c)
 subsampled_at h c l p = l.components.subsampled c no_component p
 
 -- no more samples than pixels
@@ -27,10 +27,10 @@ few_samples n a m p h =
           absurd (omega (arith, less, most))
     ]
 
-pub samples_across-le : (h : HeadValue) (c : ℕ) → IsLawful h → c < components_of h → samples_across h c ≤ h.width
+pub samples_across-le : (h : HeadValue) (c : ℕ) → IsValid h → c < components_of h → samples_across h c ≤ h.width
 samples_across-le h c l p = few_samples h.width (horizontal_of h c) (horizontal_max h) l.components.across (subsampled_at h c l p).narrower
 
-pub samples_down-le : (h : HeadValue) (c : ℕ) → IsLawful h → c < components_of h → samples_down h c ≤ h.height
+pub samples_down-le : (h : HeadValue) (c : ℕ) → IsValid h → c < components_of h → samples_down h c ≤ h.height
 samples_down-le h c l p = few_samples h.height (vertical_of h c) (vertical_max h) l.components.down (subsampled_at h c l p).lower
 
 pub scaled_below : (x size a m : ℕ) → 0 < a → 0 < m → x < size → x * a / m < div_ceil (size * a) m
@@ -40,10 +40,10 @@ scaled_below x size a m p q h =
     in_div_ceil (x * a / m) (size * a) m q (omega arith)
 
 -- the data units of the components before one are fewer than ten
-pub blocks_before_few : (h : HeadValue) (c : ℕ) → IsLawful h → c < components_of h → blocks_before h c ≤ 10
+pub blocks_before_few : (h : HeadValue) (c : ℕ) → IsValid h → c < components_of h → blocks_before h c ≤ 10
 blocks_before_few h c l p = omega (arith, blocks_before_le h c p, l.components.blocks)
 
-pub units_few : (h : HeadValue) (c : ℕ) → IsLawful h → c < components_of h → horizontal_of h c * vertical_of h c ≤ 16
+pub units_few : (h : HeadValue) (c : ℕ) → IsValid h → c < components_of h → horizontal_of h c * vertical_of h c ≤ 16
 units_few h c l p = mul-le (horizontal_of h c) (vertical_of h c) 4 4 (sampled_at h c l p).narrow (sampled_at h c l p).low
 
 -- if a factor divides the greatest one, pixel x has sample x / f
@@ -105,6 +105,6 @@ module _ (n f : ℕ) (some : 0 < n) (f_some : 0 < f) where
       omega (arith, less, one)
 
 -- the samples of component c for a line, each for f pixels, are there
-pub stretched_inside : (h : HeadValue) (c f : ℕ) → IsLawful h → c < components_of h → 0 < f → horizontal_max h ≡ horizontal_of h c * f → div_ceil h.width f ≤ samples_across h c
+pub stretched_inside : (h : HeadValue) (c f : ℕ) → IsValid h → c < components_of h → 0 < f → horizontal_max h ≡ horizontal_of h c * f → div_ceil h.width f ≤ samples_across h c
 stretched_inside h c f l p q whole =
     inside h.width f (omega (arith, l.wide, l.narrow)) q (horizontal_of h c) (horizontal_max h) (sampled_at h c l p).across l.components.across whole

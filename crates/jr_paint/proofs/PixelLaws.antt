@@ -40,7 +40,7 @@ joined_three xs p q r = simp append_assoc
 
 -- one more pixel of three bytes is written
 pub three_more : (f : ℕ → List ℕ) (i : ℕ) (out : List ℕ) (p q r : ℕ) → 3 * i + 3 ≤ length out → f i ≡ p ∷ q ∷ r ∷ [] → take (3 * i) out ≡ flat_map f (range_with_len 0 i) → take (3 * (i + 1)) (set (set (set out (3 * i) p) (3 * i + 1) q) (3 * i + 2) r) ≡ flat_map f (range_with_len 0 (i + 1))
-three_more f i out p q r room is h =
+three_more f i out p q r space is h =
     let one = set out (3 * i) p in
     let two = set one (3 * i + 1) q in
     let long : length one ≡ length out = length-set out (3 * i) p in

@@ -15,12 +15,12 @@ same (negsuc a) (negsuc b) = eqb a b
 same (pos a) (negsuc b) = false
 same (negsuc a) (pos b) = false
 
-same_tells : (x y : ℤ) → same x y ≡ true → x ≡ y
+same_reports : (x y : ℤ) → same x y ≡ true → x ≡ y
 unfolding same
-same_tells (pos a) (pos b) h = ap pos (eqb-true a b h)
-same_tells (negsuc a) (negsuc b) h = ap negsuc (eqb-true a b h)
-same_tells (pos a) (negsuc b) h = cc
-same_tells (negsuc a) (pos b) h = cc
+same_reports (pos a) (pos b) h = ap pos (eqb-true a b h)
+same_reports (negsuc a) (negsuc b) h = ap negsuc (eqb-true a b h)
+same_reports (pos a) (negsuc b) h = cc
+same_reports (negsuc a) (pos b) h = cc
 
 -- each number below n passes
 all_pass : (ℕ → Bool) → ℕ → Bool
@@ -43,7 +43,7 @@ passes p (suc n) k h l =
 
 -- f and g agree on each byte, as a count shows
 agree : (f g : ℕ → ℤ) → all_pass (λ k. same (f k) (g k)) 256 ≡ true → (x : ℕ) → x < 256 → f x ≡ g x
-agree f g counted x l = same_tells (f x) (g x) (passes (λ k. same (f k) (g k)) 256 x counted l)
+agree f g counted x l = same_reports (f x) (g x) (passes (λ k. same (f k) (g k)) 256 x counted l)
 
 -- twice x and more
 abbrev pub twice : ℕ → ℕ → ℕ

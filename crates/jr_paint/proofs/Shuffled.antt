@@ -6,21 +6,21 @@ use Rattle.std.proofs.lemmas.Simd.{pick_l_whole}
 use Rattle.jr_paint.specs.Lines.{spread}
 
 -- two stores, one right after the other, are one
-pub put_chunks : (i m : ℕ) (xs a b : List ℕ) → m ≡ i + length a → put_chunk m (put_chunk i xs a) b ≡ put_chunk i xs (a ++ b)
-put_chunks i m [] a b e = refl
-put_chunks zero m (x ∷ xs) [] b e = let e' : m ≡ 0 = omega arith in rw e' refl
-put_chunks zero m (x ∷ xs) (y ∷ a) b e =
+pub store_chunks : (i m : ℕ) (xs a b : List ℕ) → m ≡ i + length a → put_chunk m (put_chunk i xs a) b ≡ put_chunk i xs (a ++ b)
+store_chunks i m [] a b e = refl
+store_chunks zero m (x ∷ xs) [] b e = let e' : m ≡ 0 = omega arith in rw e' refl
+store_chunks zero m (x ∷ xs) (y ∷ a) b e =
     let e' : m ≡ suc (length a) = omega arith in
-    rw e' (ap (λ z. y ∷ z) (put_chunks zero (length a) xs a b (omega arith)))
-put_chunks (suc i) m (x ∷ xs) a b e =
+    rw e' (ap (λ z. y ∷ z) (store_chunks zero (length a) xs a b (omega arith)))
+store_chunks (suc i) m (x ∷ xs) a b e =
     let e' : m ≡ suc (i + length a) = omega arith in
-    rw e' (ap (λ z. x ∷ z) (put_chunks i (i + length a) xs a b refl))
+    rw e' (ap (λ z. x ∷ z) (store_chunks i (i + length a) xs a b refl))
 
 -- three of them
-pub put_three : (i : ℕ) (xs a b c : List ℕ) → length a ≡ 32 → length b ≡ 32 → put_chunk (i + 64) (put_chunk (i + 32) (put_chunk i xs a) b) c ≡ put_chunk i xs (a ++ (b ++ c))
-put_three i xs a b c p q =
-    put_chunks (i + 32) (i + 64) (put_chunk i xs a) b c (omega arith)
-    ∙ put_chunks i (i + 32) xs a (b ++ c) (omega arith)
+pub store_three : (i : ℕ) (xs a b c : List ℕ) → length a ≡ 32 → length b ≡ 32 → put_chunk (i + 64) (put_chunk (i + 32) (put_chunk i xs a) b) c ≡ put_chunk i xs (a ++ (b ++ c))
+store_three i xs a b c p q =
+    store_chunks (i + 32) (i + 64) (put_chunk i xs a) b c (omega arith)
+    ∙ store_chunks i (i + 32) xs a (b ++ c) (omega arith)
 
 -- a predicate that holds for the n lanes of a vector holds for the vector
 pub by_lanes : (n : ℕ) (P : List ℕ → Type 0) (v : List ℕ) → length v ≡ n → P (pick_l 0 v (range_with_len 0 n)) → P v

@@ -3,7 +3,7 @@ use Rattle.std.proofs.Common.{◌≡◌, ℕ, ◌+◌, ◌%◌, List, [], ◌∷
 use Rattle.std.specs.List.{range_with_len}
 use Rattle.std.specs.Simd.Lanes.{put_chunk, pick_l}
 use Rattle.jr_paint.specs.Lines.{interleaving_of, spread}
-use Rattle.jr_paint.proofs.Shuffled.{put_three}
+use Rattle.jr_paint.proofs.Shuffled.{store_three}
 
 -- the bytes of a colour at their positions
 abbrev pub spread_of : ℕ → List ℕ → List ℕ
@@ -25,4 +25,4 @@ lasts = 16 ∷ 17 ∷ 18 ∷ 19 ∷ 20 ∷ 21 ∷ 22 ∷ 23 ∷ 24 ∷ 25 ∷ 26
 
 pub stored : (i : ℕ) (out red green blue p q r first second third : List ℕ) → p ≡ spread_of 0 red → q ≡ spread_of 1 green → r ≡ spread_of 2 blue → first ≡ thirds_of p q r → second ≡ thirds_of q r p → third ≡ thirds_of r p q
     → put_chunk (i + 64) (put_chunk (i + 32) (put_chunk i out (pick_l 0 (first ++ second) firsts)) (pick_l 0 (third ++ first) first_and_last)) (pick_l 0 (second ++ third) lasts) ≡ put_chunk i out (interleaving_of red green blue 32)
-stored i out red green blue p q r first second third e f g h j k = rw (h, j, k, e, f, g) (put_three i out _ _ _ refl refl)
+stored i out red green blue p q r first second third e f g h j k = rw (h, j, k, e, f, g) (store_three i out _ _ _ refl refl)

@@ -69,5 +69,5 @@ abbrev pub line_size : HeadValue → ℕ
 line_size h = pixel_size h.kind * h.width
 
 -- the number of bytes that painting a line, or two, needs as scratch space
-abbrev pub line_room : HeadValue → ℕ
-line_room h = 4 * h.width
+abbrev pub line_space : HeadValue → ℕ
+line_space h = 4 * h.width

@@ -2,7 +2,7 @@
 
 ghost use Rattle.std.specs.Prelude.{◌≡◌, ℕ, ◌+◌, ◌*◌, ◌<◌, ◌≤◌};
 ghost use Rattle.jr_base.specs.declared.limits.TheConstants.{MAX_MCUS_ACROSS};
-ghost use Rattle.jr_head.specs.Geometry.{IsLawful, components_of, horizontal_of, vertical_of, mcus_of, blocks_before, blocks_of};
+ghost use Rattle.jr_head.specs.Geometry.{IsValid, components_of, horizontal_of, vertical_of, mcus_of, blocks_before, blocks_of};
 ghost use Rattle.jr_paint.specs.Geometry.{Place, Where, IsOnlyOne, samples_across, samples_down, place_of, spot_at};
 
 use jr_head::Head;
@@ -37,7 +37,7 @@ fn mcu_number(line: u32, column: u32, columns: u32) -> u32
 
 /// Returns the number of data units of an MCU before those of component c.
 fn earlier_blocks(head: &Head, c: u32) -> u32
-    requires lawful { IsLawful head.now }
+    requires valid { IsValid head.now }
     requires component { c < components_of head.now }
     ensures value { result ≡ blocks_before head.now c }
     ensures few { result ≤ 10 }

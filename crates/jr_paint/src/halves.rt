@@ -34,7 +34,7 @@ fn convert_block_of_one(luma: &[u8], cb: &[u8], cr: &[u8], i: usize, out: &mut [
     requires line { 2 * i + 32 ≤ length luma.now }
     requires second { i + 16 ≤ length cb.now }
     requires third { i + 16 ≤ length cr.now }
-    requires room { 6 * i + 96 ≤ length out.old }
+    requires space { 6 * i + 96 ≤ length out.old }
     ensures { out.new ≡ put_chunk (6 * i) out.old (halved_colours_of luma.now cb.now cr.now (2 * i) 32) }
 {
     let (red, green, blue) = raised(cb, cr, i);
@@ -56,8 +56,8 @@ fn convert_block(
     requires next { 2 * i + 32 ≤ length next_luma.now }
     requires second { i + 16 ≤ length cb.now }
     requires third { i + 16 ≤ length cr.now }
-    requires room { 6 * i + 96 ≤ length first.old }
-    requires more_room { 6 * i + 96 ≤ length second.old }
+    requires space { 6 * i + 96 ≤ length first.old }
+    requires more_space { 6 * i + 96 ≤ length second.old }
     ensures line { first.new ≡ put_chunk (6 * i) first.old (halved_colours_of luma.now cb.now cr.now (2 * i) 32) }
     ensures next { second.new ≡ put_chunk (6 * i) second.old (halved_colours_of next_luma.now cb.now cr.now (2 * i) 32) }
 {
@@ -85,7 +85,7 @@ fn last_block(count: usize) -> Option<usize>
 fn convert_whole_blocks_of_one(luma: &[u8], cb: &[u8], cr: &[u8], out: &mut [u8]) -> usize
     requires enough { length luma.now ≤ 2 * length cb.now }
     requires third { length cr.now ≡ length cb.now }
-    requires room { length out.old ≡ 3 * length luma.now }
+    requires space { length out.old ≡ 3 * length luma.now }
     ensures few { result ≤ length luma.now }
     ensures front { take (3 * result) out.new ≡ halved_colours_of luma.now cb.now cr.now 0 result }
 {
@@ -113,8 +113,8 @@ fn convert_whole_blocks(
     requires next { length next_luma.now ≡ length luma.now }
     requires enough { length luma.now ≤ 2 * length cb.now }
     requires third { length cr.now ≡ length cb.now }
-    requires room { length first.old ≡ 3 * length luma.now }
-    requires more_room { length second.old ≡ 3 * length luma.now }
+    requires space { length first.old ≡ 3 * length luma.now }
+    requires more_space { length second.old ≡ 3 * length luma.now }
     ensures few { result ≤ length luma.now }
     ensures line { take (3 * result) first.new ≡ halved_colours_of luma.now cb.now cr.now 0 result }
     ensures next { take (3 * result) second.new ≡ halved_colours_of next_luma.now cb.now cr.now 0 result }
@@ -135,7 +135,7 @@ fn convert_rest(luma: &[u8], cb: &[u8], cr: &[u8], done: usize, out: &mut [u8])
     requires few { done ≤ length luma.now }
     requires enough { length luma.now ≤ 2 * length cb.now }
     requires third { length cr.now ≡ length cb.now }
-    requires room { length out.old ≡ 3 * length luma.now }
+    requires space { length out.old ≡ 3 * length luma.now }
     requires front { take (3 * done) out.old ≡ halved_colours_of luma.now cb.now cr.now 0 done }
     ensures { out.new ≡ halved_colours_of luma.now cb.now cr.now 0 (length luma.now) }
 {
@@ -151,7 +151,7 @@ fn convert_rest(luma: &[u8], cb: &[u8], cr: &[u8], done: usize, out: &mut [u8])
 pub(crate) fn convert_one(luma: &[u8], cb: &[u8], cr: &[u8], out: &mut [u8])
     requires enough { length luma.now ≤ 2 * length cb.now }
     requires third { length cr.now ≡ length cb.now }
-    requires room { length out.old ≡ 3 * length luma.now }
+    requires space { length out.old ≡ 3 * length luma.now }
     ensures { out.new ≡ halved_colours_of luma.now cb.now cr.now 0 (length luma.now) }
 {
     let done = convert_whole_blocks_of_one(luma, cb, cr, out);
@@ -170,8 +170,8 @@ pub(crate) fn convert_two(
     requires next { length next_luma.now ≡ length luma.now }
     requires enough { length luma.now ≤ 2 * length cb.now }
     requires third { length cr.now ≡ length cb.now }
-    requires room { length first.old ≡ 3 * length luma.now }
-    requires more_room { length second.old ≡ 3 * length luma.now }
+    requires space { length first.old ≡ 3 * length luma.now }
+    requires more_space { length second.old ≡ 3 * length luma.now }
     ensures line { first.new ≡ halved_colours_of luma.now cb.now cr.now 0 (length luma.now) }
     ensures next { second.new ≡ halved_colours_of next_luma.now cb.now cr.now 0 (length luma.now) }
 {

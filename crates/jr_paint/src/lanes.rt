@@ -10,7 +10,7 @@ ghost use Rattle.std.specs.Simd.Lanes.{put_chunk};
 ghost use Rattle.jr_paint.specs.Lines.{colours_over};
 ghost use Rattle.jr_paint.specs.Shades.{red_over_of, green_over_of, blue_over_of, IsRaised, lowered};
 
-use crate::stores::put;
+use crate::stores::store;
 use std::simd::prelude::*;
 
 /// Loads the sixteen bytes starting at index i.
@@ -152,12 +152,12 @@ pub(crate) fn paint(
     requires even_blue { (k : ℕ) → k < 16 → slice_index blue.0 k < 4096 }
     requires odd_blue { (k : ℕ) → k < 16 → slice_index blue.1 k < 4096 }
     requires across { i + 32 ≤ length luma.now }
-    requires room { 3 * i + 96 ≤ length out.old }
+    requires space { 3 * i + 96 ≤ length out.old }
     ensures { out.new ≡ put_chunk (3 * i) out.old (colours_over luma.now i (red.0 ∷ red.1 ∷ []) (green.0 ∷ green.1 ∷ []) (blue.0 ∷ blue.1 ∷ []) 32) }
 {
     let y = load_by_turns(luma, i);
     let red = lit(y.0, y.1, red.0, red.1);
     let green = lit(y.0, y.1, green.0, green.1);
     let blue = lit(y.0, y.1, blue.0, blue.1);
-    put(red, green, blue, out, 3 * i);
+    store(red, green, blue, out, 3 * i);
 }

@@ -16,9 +16,9 @@ mod upsampling;
 
 pub use colours::{colour, colours_are_near};
 pub use geometry::{Spot, exactly_one_place, place};
-pub use header::{HEADER_ROOM, put_header};
+pub use header::{HEADER_SPACE, write_header};
 pub use jr_base::{Tally, WriteFault};
-pub use lines::{bytes_of_line, bytes_to, line_room, paint_lines};
-pub use netpbm::{BATCH, make_room, write_netpbm};
+pub use lines::{bytes_of_line, bytes_to, line_space, paint_lines};
+pub use netpbm::{BATCH, make_space, write_netpbm};
 pub use samples::Samples;
 pub use unit_lines::{Unit, Units, fill_line, sample_of_units};

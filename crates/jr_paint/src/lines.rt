@@ -1,8 +1,8 @@
 //! The pixels of a line, and of two that use the same samples of chrominance.
 
 ghost use Rattle.std.specs.Prelude.{◌≡◌, ◌+◌, ◌*◌, ◌<◌, ◌≤◌, length};
-ghost use Rattle.jr_head.specs.Geometry.{IsLawful, component_count};
-ghost use Rattle.jr_paint.specs.Lines.{IsStretched, line_of, two_lines_of, next_lines_of, line_room, line_size};
+ghost use Rattle.jr_head.specs.Geometry.{IsValid, component_count};
+ghost use Rattle.jr_paint.specs.Lines.{IsStretched, line_of, two_lines_of, next_lines_of, line_space, line_size};
 ghost use Rattle.jr_segments.specs.declared.kind.Kind.TheVariants.{Grey};
 ghost use Rattle.jr_paint.specs.Shades.{HalvesChroma, SharesChroma};
 
@@ -14,8 +14,8 @@ use jr_head::{Head, Kind};
 
 /// Returns the number of bytes that painting a line, or two at once, needs: four lines of those samples that are not
 /// used in place.
-pub fn line_room(head: &Head) -> usize
-    ensures value { result ≡ line_room head.now }
+pub fn line_space(head: &Head) -> usize
+    ensures value { result ≡ line_space head.now }
     ensures few { result < 262144 }
 {
     head.assert_invariant();
@@ -23,31 +23,31 @@ pub fn line_room(head: &Head) -> usize
 }
 
 /// The pixels of line y, in grey.
-fn fill_grey<S: Samples>(samples: &S, y: u32, room: &mut [u8], pixels: &mut [u8])
+fn fill_grey<S: Samples>(samples: &S, y: u32, space: &mut [u8], pixels: &mut [u8])
     requires kind { (S.head_of samples.now).kind ≡ Grey }
     requires down { y < (S.head_of samples.now).height }
-    requires room { line_room (S.head_of samples.now) ≤ length room.old }
+    requires space { line_space (S.head_of samples.now) ≤ length space.old }
     requires pixels { length pixels.old ≡ (S.head_of samples.now).width }
     ensures { pixels.new ≡ line_of (S.head_of samples.now) (S.shown samples.now) y }
 {
     let width = samples.head().width() as usize;
-    let (grey, near) = room.split_at_mut(width);
+    let (grey, near) = space.split_at_mut(width);
     pixels.copy_from_slice(upsample(samples, 0, y, near, grey));
 }
 
 /// The pixels of line y, in colours.
-fn fill_colours<S: Samples>(samples: &S, y: u32, room: &mut [u8], pixels: &mut [u8])
+fn fill_colours<S: Samples>(samples: &S, y: u32, space: &mut [u8], pixels: &mut [u8])
     requires kind { component_count (S.head_of samples.now).kind ≡ 3 }
     requires down { y < (S.head_of samples.now).height }
-    requires room { line_room (S.head_of samples.now) ≤ length room.old }
+    requires space { line_space (S.head_of samples.now) ≤ length space.old }
     requires pixels { length pixels.old ≡ 3 * (S.head_of samples.now).width }
     ensures { pixels.new ≡ line_of (S.head_of samples.now) (S.shown samples.now) y }
 {
     let head = samples.head();
     let width = head.width() as usize;
-    let (first, room) = room.split_at_mut(width);
-    let (second, room) = room.split_at_mut(width);
-    let (third, near) = room.split_at_mut(width);
+    let (first, space) = space.split_at_mut(width);
+    let (second, space) = space.split_at_mut(width);
+    let (third, near) = space.split_at_mut(width);
     let first = upsample(samples, 0, y, near, first);
     let second = upsample(samples, 1, y, near, second);
     let third = upsample(samples, 2, y, near, third);
@@ -55,35 +55,35 @@ fn fill_colours<S: Samples>(samples: &S, y: u32, room: &mut [u8], pixels: &mut [
 }
 
 /// Fills the pixels of line y if a sample of chrominance serves two of them.
-fn fill_halved<S: Samples>(samples: &S, y: u32, room: &mut [u8], pixels: &mut [u8])
+fn fill_halved<S: Samples>(samples: &S, y: u32, space: &mut [u8], pixels: &mut [u8])
     requires halves { HalvesChroma (S.head_of samples.now) }
     requires down { y < (S.head_of samples.now).height }
-    requires room { line_room (S.head_of samples.now) ≤ length room.old }
+    requires space { line_space (S.head_of samples.now) ≤ length space.old }
     requires pixels { length pixels.old ≡ 3 * (S.head_of samples.now).width }
     ensures { pixels.new ≡ line_of (S.head_of samples.now) (S.shown samples.now) y }
 {
     let head = samples.head();
     let width = head.width() as usize;
-    let (luma, room) = room.split_at_mut(width);
-    let (cb, room) = room.split_at_mut(width);
-    let (cr, near) = room.split_at_mut(width);
+    let (luma, space) = space.split_at_mut(width);
+    let (cb, space) = space.split_at_mut(width);
+    let (cr, near) = space.split_at_mut(width);
     let luma = upsample(samples, 0, y, near, luma);
     let (cb, cr) = read_halves(samples, y, cb, cr);
     convert_one(luma, cb, cr, pixels);
 }
 
 /// The pixels of line y and of the next, which use the same samples of chrominance.
-fn fill_two<S: Samples>(samples: &S, y: u32, room: &mut [u8], pixels: &mut [u8])
+fn fill_two<S: Samples>(samples: &S, y: u32, space: &mut [u8], pixels: &mut [u8])
     requires shares { SharesChroma (S.head_of samples.now) y }
-    requires room { line_room (S.head_of samples.now) ≤ length room.old }
+    requires space { line_space (S.head_of samples.now) ≤ length space.old }
     requires pixels { length pixels.old ≡ 6 * (S.head_of samples.now).width }
     ensures { pixels.new ≡ two_lines_of (S.head_of samples.now) (S.shown samples.now) y }
 {
     let head = samples.head();
     let width = head.width() as usize;
-    let (luma, room) = room.split_at_mut(width);
-    let (next_luma, room) = room.split_at_mut(width);
-    let (cb, cr) = room.split_at_mut(width);
+    let (luma, space) = space.split_at_mut(width);
+    let (next_luma, space) = space.split_at_mut(width);
+    let (cb, cr) = space.split_at_mut(width);
     // The space for chrominance served the luminance of both lines before.
     let luma = upsample(samples, 0, y, cb, luma);
     let next_luma = upsample(samples, 0, y + 1, cr, next_luma);
@@ -95,7 +95,7 @@ fn fill_two<S: Samples>(samples: &S, y: u32, room: &mut [u8], pixels: &mut [u8])
 /// Returns the number of lines that are painted at once starting at line y: two if both use the same samples of
 /// chrominance.
 pub(crate) fn lines_at_once(head: &Head, y: u32) -> u32
-    requires lawful { IsLawful head.now }
+    requires valid { IsValid head.now }
     requires down { y < head.now.height }
     ensures some { 0 < result }
     ensures few { result ≤ 2 }
@@ -110,24 +110,24 @@ pub(crate) fn fill_lines<S: Samples>(
     samples: &S,
     y: u32,
     count: u32,
-    room: &mut [u8],
+    space: &mut [u8],
     pixels: &mut [u8],
 )
     requires some { 0 < count }
     requires few { count ≤ 2 }
     requires down { y + count ≤ (S.head_of samples.now).height }
     requires shared { count ≡ 2 → SharesChroma (S.head_of samples.now) y }
-    requires room { line_room (S.head_of samples.now) ≤ length room.old }
+    requires space { line_space (S.head_of samples.now) ≤ length space.old }
     requires pixels { length pixels.old ≡ count * line_size (S.head_of samples.now) }
     ensures { pixels.new ≡ next_lines_of (S.head_of samples.now) (S.shown samples.now) y count }
 {
     if count == 2 {
-        return fill_two(samples, y, room, pixels);
+        return fill_two(samples, y, space, pixels);
     }
     match samples.head().kind() {
-        Kind::Grey => fill_grey(samples, y, room, pixels),
-        Kind::Ycc if halves_chroma(samples.head()) => fill_halved(samples, y, room, pixels),
-        Kind::Rgb | Kind::Ycc => fill_colours(samples, y, room, pixels),
+        Kind::Grey => fill_grey(samples, y, space, pixels),
+        Kind::Ycc if halves_chroma(samples.head()) => fill_halved(samples, y, space, pixels),
+        Kind::Rgb | Kind::Ycc => fill_colours(samples, y, space, pixels),
     }
 }
 
@@ -155,10 +155,10 @@ pub fn bytes_to(lines: u32, all: u32, line: usize) -> usize
 }
 
 /// Paints the pixels of `count` lines starting at line y, a line after the other, of one byte or three each. Samples
-/// that cannot be used in place are copied into `room`; its content does not matter.
-pub fn paint_lines<S: Samples>(samples: &S, y: u32, count: u32, room: &mut [u8], pixels: &mut [u8])
+/// that cannot be used in place are copied into `space`; its content does not matter.
+pub fn paint_lines<S: Samples>(samples: &S, y: u32, count: u32, space: &mut [u8], pixels: &mut [u8])
     requires down { y + count ≤ (S.head_of samples.now).height }
-    requires room { line_room (S.head_of samples.now) ≤ length room.old }
+    requires space { line_space (S.head_of samples.now) ≤ length space.old }
     requires pixels { length pixels.old ≡ count * line_size (S.head_of samples.now) }
     ensures { pixels.new ≡ next_lines_of (S.head_of samples.now) (S.shown samples.now) y count }
 {
@@ -168,7 +168,7 @@ pub fn paint_lines<S: Samples>(samples: &S, y: u32, count: u32, room: &mut [u8],
     'lines: while painted < count {
         let more = lines_at_once(samples.head(), y + painted).min(count - painted);
         let end = bytes_to(painted + more, count, line);
-        fill_lines(samples, y + painted, more, room, &mut pixels[filled..end]);
+        fill_lines(samples, y + painted, more, space, &mut pixels[filled..end]);
         filled = end;
         painted += more;
     }

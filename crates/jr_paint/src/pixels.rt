@@ -16,7 +16,7 @@ fn convert_block(luma: &[u8], cb: &[u8], cr: &[u8], i: usize, out: &mut [u8])
     requires first { i + 32 ≤ length luma.now }
     requires second { i + 32 ≤ length cb.now }
     requires third { i + 32 ≤ length cr.now }
-    requires room { 3 * i + 96 ≤ length out.old }
+    requires space { 3 * i + 96 ≤ length out.old }
     ensures { out.new ≡ put_chunk (3 * i) out.old (colours_of Ycc luma.now cb.now cr.now i 32) }
 {
     let b = load_by_turns(cb, i);
@@ -32,7 +32,7 @@ fn convert_block(luma: &[u8], cb: &[u8], cr: &[u8], i: usize, out: &mut [u8])
 fn convert_whole_blocks(luma: &[u8], cb: &[u8], cr: &[u8], out: &mut [u8]) -> usize
     requires second { length cb.now ≡ length luma.now }
     requires third { length cr.now ≡ length luma.now }
-    requires room { length out.old ≡ 3 * length luma.now }
+    requires space { length out.old ≡ 3 * length luma.now }
     ensures few { result ≤ length luma.now }
     ensures front { take (3 * result) out.new ≡ colours_of Ycc luma.now cb.now cr.now 0 result }
 {
@@ -52,7 +52,7 @@ fn convert_whole_blocks(luma: &[u8], cb: &[u8], cr: &[u8], out: &mut [u8]) -> us
 fn convert(luma: &[u8], cb: &[u8], cr: &[u8], out: &mut [u8])
     requires second { length cb.now ≡ length luma.now }
     requires third { length cr.now ≡ length luma.now }
-    requires room { length out.old ≡ 3 * length luma.now }
+    requires space { length out.old ≡ 3 * length luma.now }
     ensures { out.new ≡ colours_of Ycc luma.now cb.now cr.now 0 (length luma.now) }
 {
     let done = convert_whole_blocks(luma, cb, cr, out);
@@ -68,7 +68,7 @@ fn convert(luma: &[u8], cb: &[u8], cr: &[u8], out: &mut [u8])
 fn interleave(red: &[u8], green: &[u8], blue: &[u8], out: &mut [u8])
     requires second { length green.now ≡ length red.now }
     requires third { length blue.now ≡ length red.now }
-    requires room { length out.old ≡ 3 * length red.now }
+    requires space { length out.old ≡ 3 * length red.now }
     ensures { out.new ≡ colours_of Rgb red.now green.now blue.now 0 (length red.now) }
 {
     for i in 0..red.len() {
@@ -83,7 +83,7 @@ pub(crate) fn mix(kind: Kind, first: &[u8], second: &[u8], third: &[u8], out: &m
     requires kind { component_count kind ≡ 3 }
     requires second { length second.now ≡ length first.now }
     requires third { length third.now ≡ length first.now }
-    requires room { length out.old ≡ 3 * length first.now }
+    requires space { length out.old ≡ 3 * length first.now }
     ensures { out.new ≡ colours_of kind first.now second.now third.now 0 (length first.now) }
 {
     if kind == Kind::Ycc {

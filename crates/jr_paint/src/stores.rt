@@ -54,7 +54,7 @@ fn placed(red: u8x32, green: u8x32, blue: u8x32) -> (u8x32, u8x32, u8x32)
 
 /// Stores 32 pixels of three bytes starting at byte i, from interleaved halves.
 #[inline(always)]
-pub(crate) fn put(red: u8x32, green: u8x32, blue: u8x32, out: &mut [u8], i: usize)
+pub(crate) fn store(red: u8x32, green: u8x32, blue: u8x32, out: &mut [u8], i: usize)
     requires { i + 96 ≤ length out.old }
     ensures { out.new ≡ put_chunk i out.old (interleaving_of red green blue 32) }
 {

@@ -1,7 +1,7 @@
 //! Lines of samples of images that are stored by data units.
 
 ghost use Rattle.std.specs.Prelude.{◌≡◌, ℕ, ◌+◌, ◌*◌, ◌/◌, ◌%◌, ◌<◌, ◌≤◌, length, slice_index};
-ghost use Rattle.jr_head.specs.Geometry.{IsLawful, components_of, blocks_of, mcus_of};
+ghost use Rattle.jr_head.specs.Geometry.{IsValid, components_of, blocks_of, mcus_of};
 ghost use Rattle.jr_head.specs.HeadValue.{HeadValue};
 ghost use Rattle.jr_paint.specs.Geometry.{samples_across, samples_down, spot_of};
 ghost use Rattle.jr_paint.specs.Units.{sample_by_units, sample_in_unit};
@@ -48,7 +48,7 @@ fn copy(from: &[u8], out: &mut [u8])
 }
 
 /// Copies the samples of a data unit starting at one of them.
-fn put(unit: &Unit<'_>, from: usize, out: &mut [u8])
+fn store(unit: &Unit<'_>, from: usize, out: &mut [u8])
     requires { from + length out.old ≤ 64 }
     ensures { (k : ℕ) → k < length out.new → slice_index out.new k ≡ sample_in_unit unit.now (from + k) }
 {
@@ -103,7 +103,7 @@ pub fn sample_of_units<U: Units>(head: &Head, units: &U, c: u32, x: u32, y: u32)
 /// Fills the samples of data unit n of a line of component c, or the first ones of them. `start` is the spot of the line's
 /// column 0.
 fn fill_unit<U: Units>(head: &Head, units: &U, c: u32, y: u32, start: Spot, n: u32, out: &mut [u8])
-    requires lawful { IsLawful head.now }
+    requires valid { IsValid head.now }
     requires head { head.now ≡ U.head_of units.now }
     requires component { c < components_of head.now }
     requires line { y < samples_down head.now c }
@@ -117,7 +117,7 @@ fn fill_unit<U: Units>(head: &Head, units: &U, c: u32, y: u32, start: Spot, n: u
     let _mcus = head.mcus();
     let (column, part) = in_mcu(n, head.horizontal(c));
     let unit = units.unit(c, start.mcu + column, start.block + part);
-    put(&unit, 8 * start.row as usize, out);
+    store(&unit, 8 * start.row as usize, out);
 }
 
 /// Fills `out` with a line of samples of component c, starting at column 0: those of a data unit after the other.

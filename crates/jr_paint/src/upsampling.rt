@@ -1,7 +1,7 @@
 //! Lines of samples brought to the image's size: each sample covers a rectangle of pixels.
 
 ghost use Rattle.std.specs.Prelude.{◌≡◌, ℕ, ◌+◌, ◌*◌, ◌/◌, ◌<◌, ◌≤◌, length, slice_index};
-ghost use Rattle.jr_head.specs.Geometry.{IsLawful, components_of, horizontal_of, horizontal_max, vertical_of, vertical_max};
+ghost use Rattle.jr_head.specs.Geometry.{IsValid, components_of, horizontal_of, horizontal_max, vertical_of, vertical_max};
 ghost use Rattle.jr_paint.specs.Geometry.{samples_across, samples_down};
 ghost use Rattle.std.specs.Bool.{OnTrue};
 ghost use Rattle.jr_paint.specs.Shades.{HalvesChroma, IsHalved, IsShared, SharesChroma};
@@ -74,7 +74,7 @@ fn repeat(near: &[u8], factor: u32, out: &mut [u8])
 
 /// Returns the line of component c that pixels of line y take their samples from.
 fn sample_line(head: &Head, c: u32, y: u32) -> u32
-    requires lawful { IsLawful head.now }
+    requires valid { IsValid head.now }
     requires component { c < components_of head.now }
     requires down { y < head.now.height }
     ensures value { result ≡ y * vertical_of head.now c / vertical_max head.now }
@@ -85,7 +85,7 @@ fn sample_line(head: &Head, c: u32, y: u32) -> u32
 
 /// Returns the number of pixels of a line that each sample of component c covers.
 fn pixels_per_sample(head: &Head, c: u32) -> u32
-    requires lawful { IsLawful head.now }
+    requires valid { IsValid head.now }
     requires component { c < components_of head.now }
     ensures value { result ≡ horizontal_max head.now / horizontal_of head.now c }
     ensures some { 0 < result }
@@ -107,7 +107,7 @@ pub(crate) fn upsample<'a, S: Samples>(
     requires component { c < components_of (S.head_of samples.now) }
     requires down { y < (S.head_of samples.now).height }
     requires whole { length out.old ≡ (S.head_of samples.now).width }
-    requires room { length out.old ≤ length near.old }
+    requires space { length out.old ≤ length near.old }
     ensures long { length result.now ≡ (S.head_of samples.now).width }
     ensures samples { IsStretched (S.head_of samples.now) (S.shown samples.now) c y result.now }
 {
@@ -125,7 +125,7 @@ pub(crate) fn upsample<'a, S: Samples>(
 
 /// Returns the number of samples of each chrominance for the pixels of a line, two each.
 fn half_count(head: &Head) -> usize
-    requires lawful { IsLawful head.now }
+    requires valid { IsValid head.now }
     requires halves { HalvesChroma head.now }
     ensures enough { head.now.width ≤ 2 * result }
     ensures few { result ≤ head.now.width }
@@ -145,8 +145,8 @@ pub(crate) fn read_halves<'a, S: Samples>(
 ) -> (&'a [u8], &'a [u8])
     requires halves { HalvesChroma (S.head_of samples.now) }
     requires down { y < (S.head_of samples.now).height }
-    requires room_b { (S.head_of samples.now).width ≤ length cb.old }
-    requires room_c { (S.head_of samples.now).width ≤ length cr.old }
+    requires space_b { (S.head_of samples.now).width ≤ length cb.old }
+    requires space_c { (S.head_of samples.now).width ≤ length cr.old }
     ensures enough { (S.head_of samples.now).width ≤ 2 * length result.0.now }
     ensures same { length result.1.now ≡ length result.0.now }
     ensures second { IsHalfStretched (S.head_of samples.now) (S.shown samples.now) 1 y result.0.now }
@@ -161,7 +161,7 @@ pub(crate) fn read_halves<'a, S: Samples>(
 
 /// Returns whether a sample of component c covers two pixels of a line.
 fn is_halved(head: &Head, c: u32) -> bool
-    requires lawful { IsLawful head.now }
+    requires valid { IsValid head.now }
     requires component { c < components_of head.now }
     ensures { OnTrue result (IsHalved head.now c) }
 {
@@ -170,7 +170,7 @@ fn is_halved(head: &Head, c: u32) -> bool
 
 /// Returns whether line y and the next take their samples of component c from one line.
 fn is_shared(head: &Head, c: u32, y: u32) -> bool
-    requires lawful { IsLawful head.now }
+    requires valid { IsValid head.now }
     requires component { c < components_of head.now }
     requires down { y + 1 < head.now.height }
     ensures { OnTrue result (IsShared head.now c y) }
@@ -180,7 +180,7 @@ fn is_shared(head: &Head, c: u32, y: u32) -> bool
 
 /// Returns whether a sample of both chrominances covers two pixels of a line.
 pub(crate) fn halves_chroma(head: &Head) -> bool
-    requires { IsLawful head.now }
+    requires { IsValid head.now }
     ensures { OnTrue result (HalvesChroma head.now) }
 {
     match head.kind() {
@@ -192,7 +192,7 @@ pub(crate) fn halves_chroma(head: &Head) -> bool
 /// Returns whether line y has a next one that uses the same samples of both chrominances, each for two pixels of a
 /// line.
 pub(crate) fn shares_chroma(head: &Head, y: u32) -> bool
-    requires lawful { IsLawful head.now }
+    requires valid { IsValid head.now }
     requires down { y < head.now.height }
     ensures { OnTrue result (SharesChroma head.now y) }
 {

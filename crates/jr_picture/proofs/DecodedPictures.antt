@@ -29,14 +29,14 @@ use Rattle.jr_picture.specs.Headline.{interval_number, within_interval, spot_of,
 use Rattle.jr_picture.specs.Samples.{sample_in, sample_of_piece, samples_of}
 
 -- a sample of the image lies in an MCU of it, in a data unit of that
-mcu_there : (h : HeadValue) (c x y : ℕ) → heads.IsLawful h → c < components_of h → x < samples_across h c → y < samples_down h c → (spot_of h c x y).mcu < mcus_of h
+mcu_there : (h : HeadValue) (c x y : ℕ) → heads.IsValid h → c < components_of h → x < samples_across h c → y < samples_down h c → (spot_of h c x y).mcu < mcus_of h
 mcu_there h c x y l p q r =
     let s = sampled_at h c l p in
     let column = mcu_inside x h.width (horizontal_of h c) (horizontal_max h) s.across l.components.across q in
     let line = mcu_inside y h.height (vertical_of h c) (vertical_max h) s.down l.components.down r in
     mul-add-lt _ _ _ _ line column
 
-pub block_there : (h : HeadValue) (c x y : ℕ) → heads.IsLawful h → c < components_of h → (spot_of h c x y).block < blocks_of h
+pub block_there : (h : HeadValue) (c x y : ℕ) → heads.IsValid h → c < components_of h → (spot_of h c x y).block < blocks_of h
 block_there h c x y l p =
     let s = sampled_at h c l p in
     let there = place_of_lies (horizontal_of h c) (vertical_of h c) x y s.across s.down in
@@ -77,8 +77,8 @@ same_interval a s i same = ap (λ (h : HeadValue). interval_by i h a.intervals) 
 
 -- the interval of a piece of a decoded scan
 pub interval_is : (b : DecodedScan) (s : ScanValue) (i : ℕ) (p : PieceValue) → IsDecodedScan b → IsSameScan b.scan s → piece_at b i ≡ Some p → p.interval ≡ scans.interval_of s i
-interval_is b s i p lawful same e =
-    let of = lawful.each i p e in
+interval_is b s i p valid same e =
+    let of = valid.each i p e in
     of.interval.1 ∙ ap (scans.interval_of b.scan) of.number ∙ same_interval b.scan s i same
 
 -- the sample at the position that a header defines
@@ -98,7 +98,7 @@ shown_there b c x y i q e f =
     shown_is b c x y ∙ ap (λ (n : ℕ). sample_of_piece h.kind c (get_or b.pieces n None) (unit_number h spot) (place_in spot)) e
     ∙ ap (λ (p : Option PieceValue). sample_of_piece h.kind c p (unit_number h spot) (place_in spot)) f
 
-module _ (b : DecodedScan) (lawful : IsDecodedScan b) (head : heads.IsLawful b.scan.head) where
+module _ (b : DecodedScan) (valid : IsDecodedScan b) (head : heads.IsValid b.scan.head) where
   -- a sample that an interval holds lies in one of its data units
   unit_there : (i c x y : ℕ) → Holds (scans.interval_of b.scan i) c x y → unit_number b.scan.head (spot_of b.scan.head c x y) < mcus_in b.scan.head i * length (order_of b.scan.head)
   unit_there i c x y held =
@@ -109,8 +109,8 @@ module _ (b : DecodedScan) (lawful : IsDecodedScan b) (head : heads.IsLawful b.s
   shows_piece : (i : ℕ) (p : PieceValue) → piece_at b i ≡ Some p → (t : Bool) → p.is_sound ≡ t → Shows (cond t Sound Damaged) (scans.interval_of b.scan i) (samples_of b)
   shows_piece i p e true t =
       let v = scans.interval_of b.scan i in
-      let is = interval_is b b.scan i p lawful (refl, refl) e in
-      let s = (lawful.each i p e).outcome.sound t in
+      let is = interval_is b b.scan i p valid (refl, refl) e in
+      let s = (valid.each i p e).outcome.sound t in
       let d : Decodes v s.blocks = subst (λ (j : IntervalValue). Decodes j s.blocks) is s.decodes in
       let shows : AreSamples v.head s.blocks p.samples = subst (λ (j : IntervalValue). AreSamples j.head s.blocks p.samples) is s.samples in
       record {
@@ -122,8 +122,8 @@ module _ (b : DecodedScan) (lawful : IsDecodedScan b) (head : heads.IsLawful b.s
       }
   shows_piece i p e false t =
       let v = scans.interval_of b.scan i in
-      let is = interval_is b b.scan i p lawful (refl, refl) e in
-      let s = subst (λ (j : IntervalValue). IsDamaged j p.front p.samples) is ((lawful.each i p e).outcome.damaged t) in
+      let is = interval_is b b.scan i p valid (refl, refl) e in
+      let s = subst (λ (j : IntervalValue). IsDamaged j p.front p.samples) is ((valid.each i p e).outcome.damaged t) in
       record {
         undecodable = s.undecodable;
         front = p.front;
@@ -132,7 +132,7 @@ module _ (b : DecodedScan) (lawful : IsDecodedScan b) (head : heads.IsLawful b.s
         within = λ c x y held few.
             shown_there b c x y i (Some p) held.interval e
             ∙ unit_shown v.head s.blocks p.samples (unit_number v.head (spot_of v.head c x y)) (place_in (spot_of v.head c x y)) s.samples few;
-        behind = λ c x y held past.
+        after = λ c x y held past.
             shown_there b c x y i (Some p) held.interval e
             ∙ grey_shown v.head s.blocks p.samples (unit_number v.head (spot_of v.head c x y)) (place_in (spot_of v.head c x y)) s.samples past;
       }
@@ -147,7 +147,7 @@ marks_at (p ∷ ps) zero = refl
 marks_at (p ∷ ps) (suc i) = marks_at ps i
 
 -- the samples of a decoded scan are an image of it
-pub picture : (b : DecodedScan) → IsDecodedScan b → heads.IsLawful b.scan.head → IsPicture b.scan (marks_of b) (samples_of b)
+pub picture : (b : DecodedScan) → IsDecodedScan b → heads.IsValid b.scan.head → IsPicture b.scan (marks_of b) (samples_of b)
 picture b l h = record {
   count = length-map b.pieces mark_of ∙ l.places;
   each = λ i. subst (λ (m : Mark). Shows m (scans.interval_of b.scan i) (samples_of b)) (sym (marks_at b.pieces i)) (shows b l h i (piece_at b i) refl);

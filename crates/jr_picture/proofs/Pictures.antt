@@ -6,7 +6,7 @@ use Rattle.std.proofs.lemmas.List.{ext_get_or}
 use Rattle.jr_segments.specs.declared.kind.Kind.{Kind}
 use Rattle.jr_segments.specs.declared.kind.Kind.TheVariants.{Grey, Rgb, Ycc}
 use Rattle.jr_head.specs.HeadValue.{HeadValue}
-use Rattle.jr_head.specs.Geometry.{IsLawful, component_count, components_of, horizontal_of, vertical_of, horizontal_max, vertical_max}
+use Rattle.jr_head.specs.Geometry.{IsValid, component_count, components_of, horizontal_of, vertical_of, horizontal_max, vertical_max}
 use Rattle.jr_scan.specs.IntervalValue.{IntervalValue}
 use Rattle.jr_scan.specs.ScanValue.{ScanValue}
 use Rattle.jr_scan.specs.ScanValue as scans
@@ -44,7 +44,7 @@ same_shown one front i f g Damaged p q c x y held =
     let unit = unit_number i.head (spot_of i.head c x y) in
     elim (cases_lt unit (length q.blocks)) [
       | inl l ↦ p.within c x y held (subst (λ (zs : List (List ℤ)). unit < length zs) (sym same) l) ∙ ap (λ (zs : List (List ℤ)). decoded_sample i zs c x y) same ∙ sym (q.within c x y held l)
-      | inr r ↦ p.behind c x y held (subst (λ (zs : List (List ℤ)). length zs ≤ unit) (sym same) r) ∙ sym (q.behind c x y held r)
+      | inr r ↦ p.after c x y held (subst (λ (zs : List (List ℤ)). length zs ≤ unit) (sym same) r) ∙ sym (q.after c x y held r)
     ]
 same_shown one front i f g Blank p q c x y held = p c x y held ∙ sym (q c x y held)
 
@@ -65,7 +65,7 @@ module _ (one : OneDecoding) (front : OneFront) (scan : ScanValue) (n : ℕ) (k 
       same_shown one front (scans.interval_of scan i) f g (mark_in k i) (a.each i) shows c x y (record { component = lt; column = left; line = top; interval = refl })
 
 -- a line of the text reads one line of samples of each component
-module _ (h : HeadValue) (l : IsLawful h) (f g : ℕ → ℕ → ℕ → ℕ) (y : ℕ)
+module _ (h : HeadValue) (l : IsValid h) (f g : ℕ → ℕ → ℕ → ℕ) (y : ℕ)
     (same : (c x : ℕ) → c < components_of h → x < samples_across h c → f c x (y * vertical_of h c / vertical_max h) ≡ g c x (y * vertical_of h c / vertical_max h)) where
   value_same : (c x : ℕ) → c < components_of h → x < h.width → value_at h f c x y ≡ value_at h g c x y
   value_same c x lt left =
@@ -89,7 +89,7 @@ module _ (h : HeadValue) (l : IsLawful h) (f g : ℕ → ℕ → ℕ → ℕ) (y
   line_same = flat_map-moved (pixel_of h f y) (pixel_of h g y) 0 0 h.width (λ x left. pixel_same (0 + x) (omega (arith, left)))
 
 -- the text reads the image's samples alone
-module _ (h : HeadValue) (l : IsLawful h) (f g : ℕ → ℕ → ℕ → ℕ) (same : (c x y : ℕ) → c < components_of h → x < samples_across h c → y < samples_down h c → f c x y ≡ g c x y) where
+module _ (h : HeadValue) (l : IsValid h) (f g : ℕ → ℕ → ℕ → ℕ) (same : (c x y : ℕ) → c < components_of h → x < samples_across h c → y < samples_down h c → f c x y ≡ g c x y) where
   line_there : (y : ℕ) → y < h.height → pixels_of h f y 0 h.width ≡ pixels_of h g y 0 h.width
   line_there y top =
       line_same h l f g y
@@ -108,5 +108,5 @@ module _ (h : HeadValue) (l : IsLawful h) (f g : ℕ → ℕ → ℕ → ℕ) (s
 pub one_picture : (scan : ScanValue) (n : ℕ) → HasOnePicture scan n
 one_picture scan n = record {
   marks = λ k m f g a b. same_marks one_decoding one_front scan n k m f g a.picture b.picture a.first b.first;
-  text = λ k m f g a b. text_same scan.head a.lawful f g (same_samples one_decoding one_front scan n k m f g a.picture b.picture a.first b.first);
+  text = λ k m f g a b. text_same scan.head a.valid f g (same_samples one_decoding one_front scan n k m f g a.picture b.picture a.first b.first);
 }

@@ -52,7 +52,7 @@ pub record ShowsFront (i : IntervalValue) (f : ℕ → ℕ → ℕ → ℕ) : Ty
   pub blocks : List (List ℤ)
   pub longest : LongestFront i front blocks
   pub within : (c x y : ℕ) → Holds i c x y → unit_number i.head (spot_of i.head c x y) < length blocks → f c x y ≡ decoded_sample i blocks c x y
-  pub behind : (c x y : ℕ) → Holds i c x y → length blocks ≤ unit_number i.head (spot_of i.head c x y) → f c x y ≡ 128
+  pub after : (c x y : ℕ) → Holds i c x y → length blocks ≤ unit_number i.head (spot_of i.head c x y) → f c x y ≡ 128
 
 -- what an interval with this mark shows
 abbrev pub Shows : Mark → IntervalValue → (ℕ → ℕ → ℕ → ℕ) → Type 0
@@ -92,7 +92,7 @@ pub record AreFirst (n : ℕ) (marks : List Mark) : Type 0 where
 
 -- an image of a scan, of which the first n intervals are marked, and no other
 pub record ShowsFirst (scan : ScanValue) (n : ℕ) (marks : List Mark) (f : ℕ → ℕ → ℕ → ℕ) : Type 0 where
-  pub lawful : heads.IsLawful scan.head
+  pub valid : heads.IsValid scan.head
   pub picture : IsPicture scan marks f
   pub first : AreFirst n marks
 

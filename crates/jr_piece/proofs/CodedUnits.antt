@@ -4,7 +4,7 @@ use Rattle.std.specs.Prelude.{ℤ}
 use Rattle.std.proofs.lemmas.Bool.{cases_lt}
 use Rattle.std.proofs.lemmas.List.{get_or-drop, get_or_default, get_or_past}
 use Rattle.std.proofs.Math.Nat.{add-mul, mul-le-mul_right}
-use Rattle.jr_head.specs.Geometry.{IsLawful, order_of, quantiser_of}
+use Rattle.jr_head.specs.Geometry.{IsValid, order_of, quantiser_of}
 use Rattle.jr_idct.specs.Transform.{samples}
 use Rattle.jr_idct.proofs.Zeros.{grey}
 use Rattle.jr_mcu.specs.Mcus.{component}
@@ -20,7 +20,7 @@ use Rattle.jr_piece.specs.PieceValue.{PieceValue}
 use Rattle.jr_piece.specs.Outcome.{IsOutcome, unit_of}
 use Rattle.jr_piece.specs.Units.{CodesUnits, grey_unit, unit_in_piece}
 use Rattle.jr_piece.proofs.Strips.{Fronted, component_on, fronted}
-use Rattle.jr_piece.proofs.UnitReading.{behind, shown, zero_unit}
+use Rattle.jr_piece.proofs.UnitReading.{after, shown, zero_unit}
 
 -- those of whole MCUs
 pub blocks_code : (i : IntervalValue) (first n : ℕ) (ys : List (List ℤ)) → AreBlocks i first n ys → (o : PieceValue) → o.interval ≡ i → IsOutcome o
@@ -32,17 +32,17 @@ blocks_code i first n ys are o same is k lt =
     ∙ ap (λ (c : ℕ). samples (get_or are.all there []) (quantiser_of i.head c)) (sym (component_on i.head first k))
     ∙ shown one_front shorter_front i o same is (first + n) are.all are.front there (omega (arith, lt, add-mul first n per))
 
-pub whole_codes : (i : IntervalValue) → IsLawful i.head → (first : ℕ) (zs : List (List ℤ)) (p : Place) → IsNext i first zs p → (n : ℕ) (ys : List (List ℤ)) (q : Place) → IsRun (run_from i p n) ys q AllRead → first + n ≤ i.mcus → (o : PieceValue) → o.interval ≡ i → IsOutcome o
+pub whole_codes : (i : IntervalValue) → IsValid i.head → (first : ℕ) (zs : List (List ℤ)) (p : Place) → IsNext i first zs p → (n : ℕ) (ys : List (List ℤ)) (q : Place) → IsRun (run_from i p n) ys q AllRead → first + n ≤ i.mcus → (o : PieceValue) → o.interval ≡ i → IsOutcome o
     → (k : ℕ) → k < n * length (order_of i.head) → unit_of i.head ys k ≡ unit_in_piece o (first * length (order_of i.head) + k)
-whole_codes i lawful first zs p next n ys q run few =
+whole_codes i valid first zs p next n ys q run few =
     let here : FirstMcus (run_from i p n) n ys = record { to = q; run = run; none = λ lt. absurd (omega (arith, lt)) } in
-    blocks_code i first n ys (runs.blocks one_run runs_meet shorter_front i lawful first zs p next n n ys here few)
+    blocks_code i first n ys (runs.blocks one_run runs_meet shorter_front i valid first zs p next n n ys here few)
 
 -- those after the last whole MCU
 pub grey_codes : (i : IntervalValue) (front mcu : ℕ) (zs : List (List ℤ)) → front ≤ mcu → LongestFront i front zs → (o : PieceValue) → o.interval ≡ i → IsOutcome o → (k : ℕ) → grey_unit ≡ unit_in_piece o (mcu * length (order_of i.head) + k)
 grey_codes i front mcu zs le longest o same is k =
     let past : front * length (order_of i.head) ≤ mcu * length (order_of i.head) = mul-le-mul_right {m = front} {n = mcu} (length (order_of i.head)) le in
-    behind one_front shorter_front i o same is front zs longest (mcu * length (order_of i.head) + k) (omega (arith, past))
+    after one_front shorter_front i o same is front zs longest (mcu * length (order_of i.head) + k) (omega (arith, past))
 
 -- the blocks of an interval starting at an MCU have the samples of its data units
 pub read_codes : (i : IntervalValue) (first : ℕ) (us : List (List ℤ)) → AreBlocksFrom i first us → (o : PieceValue) → IsOutcome o → o.interval ≡ i → CodesUnits o (units_before i first) us

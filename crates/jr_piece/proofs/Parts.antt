@@ -11,7 +11,7 @@ module _ {X : Type 0} (d : X) (a k : ℕ) (xs ys : List X) (inside : a ≤ lengt
   pub kept_before : (i : ℕ) → i < a → get_or (put_mid a k xs ys) i d ≡ get_or xs i d
   kept_before i lt = front i (omega (arith, lt)) ∙ get_or_append_left (take a xs) ys d i (omega (arith, lt, length-take-le a xs inside)) ∙ get_or-take a xs i d lt
 
-  pub put_there : (j : ℕ) → j < length ys → get_or (put_mid a k xs ys) (a + j) d ≡ get_or ys j d
-  put_there j lt =
+  pub store_there : (j : ℕ) → j < length ys → get_or (put_mid a k xs ys) (a + j) d ≡ get_or ys j d
+  store_there j lt =
       let back : a + j - a ≡ j = omega arith in
       front (a + j) (omega (arith, lt)) ∙ get_or-append_right (take a xs) ys a (a + j) d (length-take-le a xs inside) (omega arith) ∙ ap (λ i. get_or ys i d) back

@@ -9,10 +9,10 @@ use Rattle.std.proofs.lemmas.Option.{get_or_from_slice_get, slice_get_within}
 use Rattle.std.proofs.Math.Nat.{add-mul, mul-le-mul_right}
 use Rattle.jr_head.specs.Geometry.{order_of}
 use Rattle.jr_scan.specs.IntervalValue.{IntervalValue}
-use Rattle.jr_scan.specs.Mcus.{Front, TellsSound}
+use Rattle.jr_scan.specs.Mcus.{Front, ReportsSound}
 use Rattle.jr_piece.specs.StripValue.{StripValue}
 use Rattle.jr_piece.specs.Outcome.{IsOutcome}
-use Rattle.jr_piece.specs.Strips.{AreInOrder, AreOf, Follows, IsStrip, IsStripAt, IsWhole, TellsEnd, joined, mcus_of_each, piece_of, shared_strips}
+use Rattle.jr_piece.specs.Strips.{AreInOrder, AreOf, Follows, IsStrip, IsStripAt, IsWhole, ReportsEnd, joined, mcus_of_each, piece_of, shared_strips}
 use Rattle.jr_piece.specs.DataUnits.{AreEven, units_of_strips}
 use Rattle.jr_piece.proofs.Outcomes.{no_samples}
 
@@ -21,7 +21,7 @@ abbrev pub StripsMeet : Type 0
 StripsMeet = (a b : StripValue) → Follows a b → IsStrip a → IsStrip b → IsStrip (joined a b)
 
 abbrev pub WholeIsOutcome : Type 0
-WholeIsOutcome = (s : StripValue) (t : Bool) → IsStrip s → IsWhole s → TellsSound t s.interval → IsOutcome (piece_of t s)
+WholeIsOutcome = (s : StripValue) (t : Bool) → IsStrip s → IsWhole s → ReportsSound t s.interval → IsOutcome (piece_of t s)
 
 -- strip k of an interval's strips
 record IsOne (i : IntervalValue) (each front k : ℕ) (s : StripValue) : Type 0 where
@@ -129,13 +129,13 @@ some_mcus front (s ∷ more) order = (order.at 0 s refl).some
 pub are_even : (i : IntervalValue) (front : ℕ) (ss : List StripValue) → Ordered i front ss → AreEven (mcus_of_each ss * length (order_of i.head)) ss
 are_even i front ss o = even i (mcus_of_each ss) front 0 ss (from_all i front ss o.of o.are o.order)
 
-pub tell_outcome : StripsMeet → WholeIsOutcome → (i : IntervalValue) (front : ℕ) (is_sound : Bool) (ss : List StripValue) → Ordered i front ss → TellsEnd i front is_sound
+pub report_outcome : StripsMeet → WholeIsOutcome → (i : IntervalValue) (front : ℕ) (is_sound : Bool) (ss : List StripValue) → Ordered i front ss → ReportsEnd i front is_sound
     → IsOutcome (record { interval = i; is_sound = is_sound; front = front; samples = units_of_strips ss })
-tell_outcome meet whole i front is_sound ss o tells =
+report_outcome meet whole i front is_sound ss o reports =
     let each = mcus_of_each ss in
     let long : length ss ≡ 0 + length ss = omega arith in
-    let one : IsStrip (strip_to i front (min front (0 * each)) ss) = together meet i each front tells.0.0 tells.0.1.front ss 0 (from_all i front ss o.of o.are o.order) (subst (λ (n : ℕ). front ≤ n * each) long o.order.all) in
+    let one : IsStrip (strip_to i front (min front (0 * each)) ss) = together meet i each front reports.0.0 reports.0.1.front ss 0 (from_all i front ss o.of o.are o.order) (subst (λ (n : ℕ). front ≤ n * each) long o.order.all) in
     let start : min front (0 * each) ≡ 0 = omega arith in
     let mcus : front - 0 ≡ front = omega arith in
     let all : IsStrip (strip_of i 0 front (units_of_strips ss)) = subst (λ (n : ℕ). IsStrip (strip_of i 0 n (units_of_strips ss))) mcus (subst (λ (n : ℕ). IsStrip (strip_to i front n ss)) start one) in
-    whole (strip_of i 0 front (units_of_strips ss)) is_sound all (refl, tells.0) tells.1
+    whole (strip_of i 0 front (units_of_strips ss)) is_sound all (refl, reports.0) reports.1

@@ -8,7 +8,7 @@ use Rattle.jr_head.specs.HeadValue.{HeadValue}
 use Rattle.jr_head.specs.Geometry.{order_of, quantiser_of}
 use Rattle.jr_scan.specs.IntervalValue.{IntervalValue}
 use Rattle.jr_mcu.specs.Mcus.{component}
-use Rattle.jr_scan.specs.Mcus.{Decodes, Front, LongestFront, AreBlocks, TellsSound}
+use Rattle.jr_scan.specs.Mcus.{Decodes, Front, LongestFront, AreBlocks, ReportsSound}
 use Rattle.jr_idct.specs.Transform.{samples}
 use Rattle.jr_scan.proofs.LongestFronts.{whole_longest}
 use Rattle.jr_scan.proofs.ScanLaws.{OneFront, ShorterFront}
@@ -71,12 +71,12 @@ appended h xs ys us vs k whole a b =
       count = omega (arith, length-append xs ys, length-append us vs, a.count, b.count);
       each = λ n lt. elim (cases_lt n (length xs)) [
         | inl l ↦ get_or_append_left us vs [] n (omega (arith, a.count, l)) ∙ a.each n l ∙ ap (λ (z : List ℤ). samples z (quantiser_of h (component h n))) (sym (get_or_append_left xs ys [] n l))
-        | inr g ↦ behind n (n - length xs) (omega (arith, g)) (omega (arith, length-append xs ys, lt, g))
+        | inr g ↦ after n (n - length xs) (omega (arith, g)) (omega (arith, length-append xs ys, lt, g))
       ];
     }
   where
-    behind : (n m : ℕ) → n ≡ length xs + m → m < length ys → get_or (us ++ vs) n [] ≡ unit_of h (xs ++ ys) n
-    behind n m e lt =
+    after : (n m : ℕ) → n ≡ length xs + m → m < length ys → get_or (us ++ vs) n [] ≡ unit_of h (xs ++ ys) n
+    after n m e lt =
         let c : component h n ≡ component h m = ap (component h) (e ∙ ap (λ (j : ℕ). j + m) whole) ∙ component_on h k m in
         let u : get_or (us ++ vs) n [] ≡ get_or vs m [] = get_or-append_right us vs (length us) n [] refl (omega (arith, e, a.count)) ∙ ap (λ (j : ℕ). get_or vs j []) (omega (arith, e, a.count)) in
         let z : get_or (xs ++ ys) n [] ≡ get_or ys m [] = get_or-append_right xs ys (length xs) n [] refl (omega (arith, e)) ∙ ap (λ (j : ℕ). get_or ys j []) (omega (arith, e)) in
@@ -90,12 +90,12 @@ placed h xs ys us new k whole a long kept here =
       count = long ∙ sym (length-append xs ys);
       each = λ n lt. elim (cases_lt n (length xs)) [
         | inl l ↦ kept n l ∙ a.each n l ∙ ap (λ (z : List ℤ). samples z (quantiser_of h (component h n))) (sym (get_or_append_left xs ys [] n l))
-        | inr g ↦ behind n (n - length xs) (omega (arith, g)) (omega (arith, length-append xs ys, lt, g))
+        | inr g ↦ after n (n - length xs) (omega (arith, g)) (omega (arith, length-append xs ys, lt, g))
       ];
     }
   where
-    behind : (n m : ℕ) → n ≡ length xs + m → m < length ys → get_or new n [] ≡ unit_of h (xs ++ ys) n
-    behind n m e lt =
+    after : (n m : ℕ) → n ≡ length xs + m → m < length ys → get_or new n [] ≡ unit_of h (xs ++ ys) n
+    after n m e lt =
         let c : component h n ≡ component h m = ap (component h) (e ∙ ap (λ (j : ℕ). j + m) whole) ∙ component_on h k m in
         let z : get_or (xs ++ ys) n [] ≡ get_or ys m [] = get_or-append_right xs ys (length xs) n [] refl (omega (arith, e)) ∙ ap (λ (j : ℕ). get_or ys j []) (omega (arith, e)) in
         ap (λ (j : ℕ). get_or new j []) e ∙ here m lt ∙ ap (λ (j : ℕ). samples (get_or ys m []) (quantiser_of h j)) (sym c) ∙ ap (λ (x : List ℤ). samples x (quantiser_of h (component h n))) (sym z)
@@ -151,8 +151,8 @@ meet one shorter a b next s t =
     })
 
 -- a strip of all whole MCUs of the interval determines the outcome
-pub all_there : OneFront → (s : StripValue) (t : Bool) → IsStrip s → IsWhole s → TellsSound t s.interval → IsOutcome (piece_of t s)
-all_there one s t is whole told =
+pub all_there : OneFront → (s : StripValue) (t : Bool) → IsStrip s → IsWhole s → ReportsSound t s.interval → IsOutcome (piece_of t s)
+all_there one s t is whole stated =
     let i = s.interval in
     let per = length (order_of i.head) in
     let zs = whole.1.0 in
@@ -162,21 +162,21 @@ all_there one s t is whole told =
     let none_before : s.first * per ≡ 0 = ap (λ (k : ℕ). k * per) whole.0 ∙ omega arith in
     let blocks : is.blocks ≡ zs = is.are.last ∙ ap (λ (k : ℕ). drop k is.are.all) none_before ∙ same in
     let shows : AreSamples i.head zs s.samples = subst (λ (l : List (List ℤ)). AreSamples i.head l s.samples) blocks is.samples in
-    go t told zs longest shows
+    go t stated zs longest shows
   where
-    go : (t : Bool) → TellsSound t s.interval → (zs : List (List ℤ)) → LongestFront s.interval s.mcus zs → AreSamples s.interval.head zs s.samples → IsOutcome (piece_of t s)
-    go true told zs longest shows =
-        let decoded : LongestFront s.interval s.interval.mcus told.0 = whole_longest s.interval told.0 told.1 in
-        let all : s.mcus ≡ s.interval.mcus = omega (arith, longest.longest s.interval.mcus told.0 decoded.front, longest.front.at_most) in
-        let same : told.0 ≡ zs = one s.interval s.interval.mcus told.0 zs decoded.front (subst (λ (k : ℕ). Front s.interval k zs) all longest.front) in
+    go : (t : Bool) → ReportsSound t s.interval → (zs : List (List ℤ)) → LongestFront s.interval s.mcus zs → AreSamples s.interval.head zs s.samples → IsOutcome (piece_of t s)
+    go true stated zs longest shows =
+        let decoded : LongestFront s.interval s.interval.mcus stated.0 = whole_longest s.interval stated.0 stated.1 in
+        let all : s.mcus ≡ s.interval.mcus = omega (arith, longest.longest s.interval.mcus stated.0 decoded.front, longest.front.at_most) in
+        let same : stated.0 ≡ zs = one s.interval s.interval.mcus stated.0 zs decoded.front (subst (λ (k : ℕ). Front s.interval k zs) all longest.front) in
         record {
-          sound = λ e. record { blocks = zs; decodes = subst (Decodes s.interval) same told.1; samples = shows };
+          sound = λ e. record { blocks = zs; decodes = subst (Decodes s.interval) same stated.1; samples = shows };
           whole = λ e. all;
           damaged = λ e. let f : true ≡ false = e in cc;
         }
-    go false told zs longest shows =
+    go false stated zs longest shows =
         record {
           sound = λ e. let f : false ≡ true = e in cc;
           whole = λ e. let f : false ≡ true = e in cc;
-          damaged = λ e. record { undecodable = told; blocks = zs; longest = longest; samples = shows };
+          damaged = λ e. record { undecodable = stated; blocks = zs; longest = longest; samples = shows };
         }

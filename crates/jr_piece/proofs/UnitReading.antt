@@ -7,7 +7,7 @@ use Rattle.jr_head.specs.HeadValue.{HeadValue}
 use Rattle.jr_head.specs.Geometry.{order_of, quantiser_of}
 use Rattle.jr_scan.specs.IntervalValue.{IntervalValue}
 use Rattle.jr_mcu.specs.Mcus.{component}
-use Rattle.jr_scan.specs.Mcus.{Decodes, HasNoDecoding, Front, LongestFront, TellsSound}
+use Rattle.jr_scan.specs.Mcus.{Decodes, HasNoDecoding, Front, LongestFront, ReportsSound}
 use Rattle.jr_idct.specs.Transform.{samples}
 use Rattle.jr_scan.specs.Cursors.{zero_block}
 use Rattle.jr_scan.proofs.ScanLaws.{OneFront, ShorterFront}
@@ -33,15 +33,15 @@ module _ (one : OneFront) (shorter : ShorterFront) (i : IntervalValue) (p : Piec
       let block : get_or zs j [] ≡ get_or f.blocks j [] = ap (λ (ys : List (List ℤ)). get_or ys j []) (sym e) ∙ get_or-take (m * n) f.blocks j [] lt in
       ap (λ (z : List ℤ). samples z (quantiser_of i.head (component i.head j))) block ∙ sym (f.samples.each j there) ∙ get_or_default p.samples j [] grey_unit (omega (arith, there, f.samples.count))
 
-  pub behind : LongestFront i m zs → (j : ℕ) → m * n ≤ j → grey_unit ≡ unit_in_piece p j
-  behind longest j le =
+  pub after : LongestFront i m zs → (j : ℕ) → m * n ≤ j → grey_unit ≡ unit_in_piece p j
+  after longest j le =
       let e : p.front ≡ m = omega (arith, f.longest.longest m zs longest.front, longest.longest p.front f.blocks f.longest.front) in
       let past : length p.samples ≤ j = omega (arith, le, f.samples.count, f.longest.front.mcus.0, ap (λ (k : ℕ). k * n) e) in
       sym (get_or_past p.samples j grey_unit past)
 
 -- each piece of the interval says whether it has a decoding
-pub tells : (p : PieceValue) (i : IntervalValue) (zs : List (List ℤ)) (b : Bool) → p.interval ≡ i → IsOutcome p → (b ≡ true → Decodes i zs) → (b ≡ false → HasNoDecoding i) → p.is_sound ≡ b
-tells p i zs b same o sound damaged = go p.is_sound b refl refl
+pub reports : (p : PieceValue) (i : IntervalValue) (zs : List (List ℤ)) (b : Bool) → p.interval ≡ i → IsOutcome p → (b ≡ true → Decodes i zs) → (b ≡ false → HasNoDecoding i) → p.is_sound ≡ b
+reports p i zs b same o sound damaged = go p.is_sound b refl refl
   where
     go : (s t : Bool) → p.is_sound ≡ s → b ≡ t → p.is_sound ≡ b
     go true true e f = e ∙ sym f
@@ -50,9 +50,9 @@ tells p i zs b same o sound damaged = go p.is_sound b refl refl
     go false true e f = absurd ((o.damaged e).undecodable zs (subst (λ (v : IntervalValue). Decodes v zs) (sym same) (sound f)))
 
 -- each piece of an interval says whether the interval has a decoding
-pub outcome_tells : (i : IntervalValue) (b : Bool) → TellsSound b i → (p : PieceValue) → IsOutcome p → p.interval ≡ i → p.is_sound ≡ b
-outcome_tells i true told p o e = tells p i told.0 true e o (λ t. told.1) (λ f. absurd cc)
-outcome_tells i false told p o e = tells p i [] false e o (λ t. absurd cc) (λ f. told)
+pub outcome_reports : (i : IntervalValue) (b : Bool) → ReportsSound b i → (p : PieceValue) → IsOutcome p → p.interval ≡ i → p.is_sound ≡ b
+outcome_reports i true stated p o e = reports p i stated.0 true e o (λ t. stated.1) (λ f. absurd cc)
+outcome_reports i false stated p o e = reports p i [] false e o (λ t. absurd cc) (λ f. stated)
 
 -- the samples of a block of zeros
 abbrev pub ZerosAreGrey : Type 0

@@ -7,7 +7,7 @@ use Rattle.std.specs.declared.alloc.Global.{Global}
 use Rattle.jr_scan.specs.declared.place.Place.{Place}
 use Rattle.jr_scan.specs.declared.place.RunEnd.TheVariants.{AllRead}
 use Rattle.jr_scan.specs.IntervalValue.{IntervalValue}
-use Rattle.jr_scan.specs.Mcus.{AreBlocks, HasLongestFront, TellsSound, units_before}
+use Rattle.jr_scan.specs.Mcus.{AreBlocks, HasLongestFront, ReportsSound, units_before}
 use Rattle.jr_scan.specs.Run.{CanReadFrom, IsRun, run_from}
 use Rattle.jr_piece.specs.PieceValue.{PieceValue}
 use Rattle.jr_piece.specs.Outcome.{AreSamples}
@@ -77,5 +77,5 @@ pub record AreInOrder (front : ℕ) (strips : List StripValue) : Type 0 where
   pub all : front ≤ length strips * mcus_of_each strips
 
 -- the interval's bits begin with that number of whole MCUs and no more, and the flag is whether it has a decoding
-abbrev pub TellsEnd : IntervalValue → ℕ → Bool → Type 0
-TellsEnd i front is_sound = HasLongestFront i front × TellsSound is_sound i
+abbrev pub ReportsEnd : IntervalValue → ℕ → Bool → Type 0
+ReportsEnd i front is_sound = HasLongestFront i front × ReportsSound is_sound i

@@ -3,7 +3,7 @@
 ghost use Rattle.std.specs.Prelude.{◌≡◌, ℕ, ℤ, Bool, List};
 ghost use Rattle.jr_scan.specs.Cursors.{AreBlocksFrom};
 ghost use Rattle.jr_scan.specs.IntervalValue.{IntervalValue};
-ghost use Rattle.jr_scan.specs.Mcus.{TellsSound, units_before};
+ghost use Rattle.jr_scan.specs.Mcus.{ReportsSound, units_before};
 ghost use Rattle.jr_piece.specs.PieceValue.{PieceValue};
 ghost use Rattle.jr_piece.specs.Outcome.{HasOutcome, IsOutcome};
 ghost use Rattle.jr_piece.specs.Units.{CodesUnits};
@@ -45,5 +45,5 @@ pub fn strips_meet()
 
 /// States that a strip of all whole MCUs that an interval has says its outcome.
 pub fn whole_strip_is_outcome()
-    ensures { (s : StripValue) (t : Bool) → IsStrip s → IsWhole s → TellsSound t s.interval → IsOutcome (piece_of t s) }
+    ensures { (s : StripValue) (t : Bool) → IsStrip s → IsWhole s → ReportsSound t s.interval → IsOutcome (piece_of t s) }
 {}

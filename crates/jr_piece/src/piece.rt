@@ -4,7 +4,7 @@ ghost use Rattle.std.specs.Prelude.{◌≡◌, ◌↔◌, IsTrue, IsOk, IfOk, If
 ghost use Rattle.std.specs.Option.{option_copied};
 ghost use Rattle.jr_scan.specs.ScanValue.{HasInterval};
 ghost use Rattle.jr_piece.specs.Outcome.{IsOutcome};
-ghost use Rattle.jr_piece.specs.Strips.{AreInOrder, AreOf, TellsEnd, shared_strips};
+ghost use Rattle.jr_piece.specs.Strips.{AreInOrder, AreOf, ReportsEnd, shared_strips};
 
 use crate::data_units::DataUnits;
 use crate::decoded::decode;
@@ -74,7 +74,7 @@ impl Piece {
         is_sound: bool,
     ) -> Result<Piece, OrderError>
         requires of { AreOf interval (shared_strips strips.items) }
-        requires tells { TellsEnd interval front is_sound }
+        requires reports { ReportsEnd interval front is_sound }
         ensures ok { IfOk result (λ p. p.interval ≡ interval) }
         ensures outcome { IfOk result IsOutcome }
         ensures order { AreInOrder front (shared_strips strips.items) → IsOk result }

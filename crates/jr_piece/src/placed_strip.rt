@@ -69,7 +69,7 @@ impl PlacedStrip {
     {
         let coded: &Interval = &self.interval;
         // By its contract an interval's header is valid.
-        let _lawful = coded.head();
+        let _valid = coded.head();
         let mut reader = McuReader::at(coded.as_ref(), self.from, self.mcus);
         let samples = read_samples(alloc, &mut reader, guesses, self.mcus as usize)?;
         let interval = Arc::try_clone(&self.interval)?;

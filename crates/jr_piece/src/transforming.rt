@@ -12,11 +12,11 @@ use jr_idct::{transform_one, transform_two};
 /// Transforms an MCU, and the next one or a part of it. Blocks j of both share a component, and are transformed side by
 /// side.
 fn transform_mcus<U: UnitSink>(head: &Head, mcu: usize, blocks: &[Coefficients], units: &mut U)
-    requires room { U.has_room head.now units.old }
+    requires space { U.has_space head.now units.old }
     requires small { mcu + 1 < 2 ^ 64 }
     requires few { length blocks.now ≤ 2 * blocks_of head.now }
     requires inside { mcu * blocks_of head.now + length blocks.now ≤ length (U.units head.now units.old) }
-    ensures room { U.has_room head.now units.new }
+    ensures space { U.has_space head.now units.new }
     ensures count { length (U.units head.now units.new) ≡ length (U.units head.now units.old) }
     ensures kept { (k : ℕ) → k < mcu * blocks_of head.now → slice_index_or (U.units head.now units.new) k [] ≡ slice_index_or (U.units head.now units.old) k [] }
     ensures here { (k : ℕ) → k < length blocks.now → slice_index_or (U.units head.now units.new) (mcu * blocks_of head.now + k) [] ≡ unit_of head.now blocks.now k }
@@ -27,10 +27,10 @@ fn transform_mcus<U: UnitSink>(head: &Head, mcu: usize, blocks: &[Coefficients],
         let quantisers = head.quantisers(u32::from(order[j]));
         if count + j < blocks.len() {
             let (first, second) = transform_two(&blocks[j], &blocks[count + j], quantisers);
-            units.put(head, mcu, j, &first);
-            units.put(head, mcu + 1, j, &second);
+            units.store(head, mcu, j, &first);
+            units.store(head, mcu + 1, j, &second);
         } else {
-            units.put(head, mcu, j, &transform_one(&blocks[j], quantisers));
+            units.store(head, mcu, j, &transform_one(&blocks[j], quantisers));
         }
     }
 }
@@ -45,9 +45,9 @@ pub fn transform_blocks<U: UnitSink>(
     blocks: &[Coefficients],
     units: &mut U,
 )
-    requires room { U.has_room head.now units.old }
+    requires space { U.has_space head.now units.old }
     requires inside { first * blocks_of head.now + length blocks.now ≤ length (U.units head.now units.old) }
-    ensures room { U.has_room head.now units.new }
+    ensures space { U.has_space head.now units.new }
     ensures count { length (U.units head.now units.new) ≡ length (U.units head.now units.old) }
     ensures kept { (k : ℕ) → k < first * blocks_of head.now → slice_index_or (U.units head.now units.new) k [] ≡ slice_index_or (U.units head.now units.old) k [] }
     ensures here { (k : ℕ) → k < length blocks.now → slice_index_or (U.units head.now units.new) (first * blocks_of head.now + k) [] ≡ unit_of head.now blocks.now k }

@@ -2,7 +2,7 @@
 use Rattle.std.proofs.Common.{◌≡◌, ℕ, ◌+◌, ◌-◌, ◌*◌, ◌/◌, ◌%◌, ◌<◌, ◌≤◌, List, length, ap, subst, ◌∙◌, arith}
 use Rattle.std.proofs.lemmas.Nat.{div-add-mod', mod_below}
 use Rattle.jr_head.specs.HeadValue.{HeadValue}
-use Rattle.jr_head.specs.Geometry.{IsLawful, components_of, horizontal_max, horizontal_of, mcus_across, vertical_of}
+use Rattle.jr_head.specs.Geometry.{IsValid, components_of, horizontal_max, horizontal_of, mcus_across, vertical_of}
 use Rattle.jr_paint.specs.Geometry.{samples_across}
 use Rattle.jr_paint.proofs.Factors.{sampled_at}
 use Rattle.jr_paint.proofs.Places.{mcu_inside}
@@ -14,7 +14,7 @@ use Rattle.jr_rows.specs.BandValue.{BandValue}
 use Rattle.jr_rows.specs.Bands.{sample_in_groups, samples_in}
 use Rattle.jr_rows.proofs.GroupNumbers.{inside, on_line}
 
-module _ (h : HeadValue) (l : IsLawful h) (groups : List (List ℕ)) (room : HasGroups h (groups_across h) groups) (c y : ℕ) (p : c < components_of h) where
+module _ (h : HeadValue) (l : IsValid h) (groups : List (List ℕ)) (space : HasGroups h (groups_across h) groups) (c y : ℕ) (p : c < components_of h) where
   pub sample_inside : (x : ℕ) → x < samples_across h c → 8 * ((lines_before_component h c + y % (8 * vertical_of h c)) * groups_across h) + x < 8 * length groups
   sample_inside x left =
       let s = sampled_at h c l p in
@@ -24,7 +24,7 @@ module _ (h : HeadValue) (l : IsLawful h) (groups : List (List ℕ)) (room : Has
       let low = mod_below y 8 (omega arith) in
       let there = inside h m block (y % 8) l few (block_there h c x y l p) low in
       let at = on_line h c x y l p in
-      omega (arith, there, at, room.long, div-add-mod' x 8, mod_below x 8 (omega arith))
+      omega (arith, there, at, space.long, div-add-mod' x 8, mod_below x 8 (omega arith))
 
   pub line_inside : (x n : ℕ) → 0 < n → x + n ≤ samples_across h c → 8 * ((lines_before_component h c + y % (8 * vertical_of h c)) * groups_across h) + x + n ≤ 8 * length groups
   line_inside x n some left =
@@ -32,11 +32,11 @@ module _ (h : HeadValue) (l : IsLawful h) (groups : List (List ℕ)) (room : Has
       omega (arith, last, some)
 
 -- the same of a band that is read through a reference
-pub within : (i b : BandValue) → i ≡ b → IsLawful i.head → HasGroups i.head (groups_across i.head) i.groups → (gs : List (List ℕ)) → gs ≡ i.groups → (c y x n start : ℕ) → c < components_of b.head
+pub within : (i b : BandValue) → i ≡ b → IsValid i.head → HasGroups i.head (groups_across i.head) i.groups → (gs : List (List ℕ)) → gs ≡ i.groups → (c y x n start : ℕ) → c < components_of b.head
     → start ≡ 8 * ((lines_before_component b.head c + y % (8 * vertical_of b.head c)) * groups_across b.head) → 0 < n → x + n ≤ samples_across b.head c → start + x + n ≤ 8 * length gs
-within i b e lawful room gs same c y x n start p at some left =
-    let own = subst IsLawful (ap (λ (v : BandValue). v.head) e) lawful in
-    let there = subst (λ (v : BandValue). HasGroups v.head (groups_across v.head) v.groups) e room in
+within i b e valid space gs same c y x n start p at some left =
+    let own = subst IsValid (ap (λ (v : BandValue). v.head) e) valid in
+    let there = subst (λ (v : BandValue). HasGroups v.head (groups_across v.head) v.groups) e space in
     let long : length gs ≡ length b.groups = ap (λ (l : List (List ℕ)). length l) (same ∙ ap (λ (v : BandValue). v.groups) e) in
     omega (arith, line_inside b.head own b.groups there c y p x n some left, at, long)
 

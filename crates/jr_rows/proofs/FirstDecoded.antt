@@ -7,7 +7,7 @@ use Rattle.std.proofs.lemmas.Bool.Decides.{leb_tells}
 use Rattle.std.proofs.lemmas.List.{get_or_past, length-map}
 use Rattle.std.proofs.lemmas.List.FromFn.{get_or-map-range_with_len, length-map-range_with_len}
 use Rattle.std.proofs.lemmas.Option.{none-some}
-use Rattle.jr_head.specs.Geometry.{IsLawful}
+use Rattle.jr_head.specs.Geometry.{IsValid}
 use Rattle.jr_scan.specs.IntervalValue.{IntervalValue}
 use Rattle.jr_scan.specs.ScanValue.{ScanValue, IsSameScan, interval_of}
 use Rattle.jr_scan.specs.FirstIntervalsValue.{least}
@@ -80,8 +80,8 @@ module _ (each : (i : IntervalValue) → HasOutcome i) (scan : ScanValue) (n : �
     ]
   ]
 
-  lawful : IsDecodedScan board
-  lawful = record { places = length-map-range_with_len posted_at 0 (length scan.intervals); each = each_piece }
+  valid : IsDecodedScan board
+  valid = record { places = length-map-range_with_len posted_at 0 (length scan.intervals); each = each_piece }
 
   blank_at : (i : ℕ) → n ≤ i → mark_at board i ≡ Blank
   blank_at i le = elim (cases_lt i (length scan.intervals)) [
@@ -93,21 +93,21 @@ module _ (each : (i : IntervalValue) → HasOutcome i) (scan : ScanValue) (n : �
   pub first_decoded : n ≤ length scan.intervals → (b : DecodedScan) × DecodesFirst scan n b
   first_decoded few =
       let marked : (i : ℕ) → i < n → mark_at board i ≢ Blank = λ i lt e. not_blank (outcome_at i).is_sound (sym (ap mark_of (there i (omega (arith, lt, few)) ∙ posted i lt)) ∙ e) in
-      (board, record { scan_is = refl; lawful = lawful; first = first_marked board n marked blank_at })
+      (board, record { scan_is = refl; valid = valid; first = first_marked board n marked blank_at })
 
 -- its samples are an image of the scan
 module _ (scan : ScanValue) (n : ℕ) (b : DecodedScan) (f : DecodesFirst scan n b) where
   same_scan : IsSameScan b.scan scan
   same_scan = (ap (λ (s : ScanValue). s.head) f.scan_is, ap (λ (s : ScanValue). s.intervals) f.scan_is)
 
-  pub shows_first : IsLawful scan.head → ShowsFirst scan n (marks_of b) (samples_of b)
+  pub shows_first : IsValid scan.head → ShowsFirst scan n (marks_of b) (samples_of b)
   shows_first l =
-      let head : IsLawful b.scan.head = subst IsLawful (sym same_scan.0) l in
-      record { lawful = l; picture = same_picture b.scan scan (marks_of b) (samples_of b) same_scan (picture b f.lawful head); first = f.first }
+      let head : IsValid b.scan.head = subst IsValid (sym same_scan.0) l in
+      record { valid = l; picture = same_picture b.scan scan (marks_of b) (samples_of b) same_scan (picture b f.valid head); first = f.first }
 
   -- a mark for each interval
   pub marks_there : length (marks_of b) ≡ length scan.intervals
-  marks_there = length-map b.pieces mark_of ∙ f.lawful.places ∙ ap (λ (s : ScanValue). length s.intervals) f.scan_is
+  marks_there = length-map b.pieces mark_of ∙ f.valid.places ∙ ap (λ (s : ScanValue). length s.intervals) f.scan_is
 
   pub counts_of : (s d k : ℕ) → s ≡ count_by is_sound (marks_of b) → d ≡ count_by is_damaged (marks_of b) → s + d + k ≡ length scan.intervals → AreCounts (marks_of b) s d k
   counts_of s d k sound damaged all = record { sound = sound; damaged = damaged; blank = all ∙ sym marks_there }

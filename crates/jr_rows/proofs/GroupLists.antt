@@ -23,8 +23,8 @@ module _ (h : HeadValue) (groups : List (List ℕ)) (m j : ℕ) where
   unit_sample n lt = get_or-map-range_with_len (λ n. slice_index (slice_index_or groups (group_of h m j (n / 8)) []) (n % 8)) 0 64 n n 0 lt (omega arith)
 
   -- a data unit with these rows of samples
-  pub unit_put : (unit : List ℕ) → length unit ≡ 64 → ((r k : ℕ) → r < 8 → k < 8 → slice_index (slice_index_or groups (group_of h m j r) []) k ≡ slice_index unit (8 * r + k)) → unit_in h groups m j ≡ unit
-  unit_put unit long rows = same_number_lists (unit_in h groups m j) unit (unit_long ∙ sym long) (λ n lt.
+  pub unit_stored : (unit : List ℕ) → length unit ≡ 64 → ((r k : ℕ) → r < 8 → k < 8 → slice_index (slice_index_or groups (group_of h m j r) []) k ≡ slice_index unit (8 * r + k)) → unit_in h groups m j ≡ unit
+  unit_stored unit long rows = same_number_lists (unit_in h groups m j) unit (unit_long ∙ sym long) (λ n lt.
       let small : n < 64 = omega (arith, lt, unit_long) in
       let whole = div-add-mod' n 8 in
       let at : 8 * (n / 8) + n % 8 ≡ n = omega (arith, whole) in
@@ -76,23 +76,23 @@ module _ (h : HeadValue) (m j : ℕ) (new old : List (List ℕ)) (unit : List �
   some : 0 < blocks_of h
   some = omega (arith, low)
 
-  put_here : (k : ℕ) → k ≡ m * blocks_of h + j → k < mcus_across h * blocks_of h → slice_index_or (units_in h new) k [] ≡ slice_index_or (set (units_in h old) (m * blocks_of h + j) unit) k []
-  put_here k e lt =
+  store_here : (k : ℕ) → k ≡ m * blocks_of h + j → k < mcus_across h * blocks_of h → slice_index_or (units_in h new) k [] ≡ slice_index_or (set (units_in h old) (m * blocks_of h + j) unit) k []
+  store_here k e lt =
       let mcu : k / blocks_of h ≡ m = ap (λ n. n / blocks_of h) e ∙ div-mul-add m (blocks_of h) j low in
       let rest : k % blocks_of h ≡ j = ap (λ n. n % blocks_of h) e ∙ mod-mul-add m (blocks_of h) j low in
       units_at h new k lt ∙ ap (λ n. unit_in h new n (k % blocks_of h)) mcu ∙ ap (λ n. unit_in h new m n) rest ∙ here
       ∙ sym (ap (λ n. slice_index_or (set (units_in h old) (m * blocks_of h + j) unit) n []) e ∙ get_or-set_same (units_in h old) (m * blocks_of h + j) unit [] (omega (arith, inside, units_long h old)))
 
-  put_there : (k : ℕ) → k ≢ m * blocks_of h + j → k < mcus_across h * blocks_of h → slice_index_or (units_in h new) k [] ≡ slice_index_or (set (units_in h old) (m * blocks_of h + j) unit) k []
-  put_there k away lt =
+  store_there : (k : ℕ) → k ≢ m * blocks_of h + j → k < mcus_across h * blocks_of h → slice_index_or (units_in h new) k [] ≡ slice_index_or (set (units_in h old) (m * blocks_of h + j) unit) k []
+  store_there k away lt =
       units_at h new k lt
       ∙ others (k / blocks_of h) (k % blocks_of h) ((div-lt_iff_lt-mul some).1 lt) (mod_below k (blocks_of h) some) (λ e d. away (sym (div-add-mod' k (blocks_of h)) ∙ ap (λ n. n * blocks_of h + k % blocks_of h) e ∙ ap (λ n. m * blocks_of h + n) d))
       ∙ sym (units_at h old k lt) ∙ sym (get_or-set_other (units_in h old) (m * blocks_of h + j) k unit [] away)
 
-  pub one_put : units_in h new ≡ set (units_in h old) (m * blocks_of h + j) unit
-  one_put = ext_get_or [] (units_in h new) (set (units_in h old) (m * blocks_of h + j) unit) (units_long h new ∙ sym (length-set (units_in h old) (m * blocks_of h + j) unit ∙ units_long h old)) (λ k lt.
+  pub one_stored : units_in h new ≡ set (units_in h old) (m * blocks_of h + j) unit
+  one_stored = ext_get_or [] (units_in h new) (set (units_in h old) (m * blocks_of h + j) unit) (units_long h new ∙ sym (length-set (units_in h old) (m * blocks_of h + j) unit ∙ units_long h old)) (λ k lt.
       let all : k < mcus_across h * blocks_of h = omega (arith, lt, units_long h new) in
       elim (eqb_tells k (m * blocks_of h + j)) [
-        | inl t ↦ put_here k t.1 all
-        | inr f ↦ put_there k f.1 all
+        | inl t ↦ store_here k t.1 all
+        | inr f ↦ store_there k f.1 all
       ])

@@ -10,7 +10,7 @@ use Rattle.std.proofs.lemmas.List.Sums.{sum_by-cons, sum_by_more, sum_by-take-le
 use Rattle.std.proofs.lemmas.Nat.{div-add-mod', div-mul-add, div_below, mod-mul-add, mod_below, mul-add-lt, same_from_place}
 use Rattle.jr_head.specs.declared.component.Component.{Component}
 use Rattle.jr_head.specs.HeadValue.{HeadValue}
-use Rattle.jr_head.specs.Geometry.{IsLawful, no_component, units_of, order_from, order_of, blocks_before, blocks_of, components_of, horizontal_of, vertical_of, horizontal_max, mcus_across}
+use Rattle.jr_head.specs.Geometry.{IsValid, no_component, units_of, order_from, order_of, blocks_before, blocks_of, components_of, horizontal_of, vertical_of, horizontal_max, mcus_across}
 use Rattle.jr_head.proofs.SamplingLaws.{length-order}
 use Rattle.jr_paint.proofs.Factors.{sampled_at, subsampled_at}
 use Rattle.jr_paint.proofs.Places.{place_of_lies}
@@ -37,16 +37,16 @@ owner i (x ∷ cs) n lt =
           (0, (is, (omega arith, omega arith, omega (arith, few))))
       | inr more ↦
           let rest = owner (suc i) cs (n - units_of x) (omega (arith, all, lt, more)) in
-          let behind : n ≡ length own + (n - units_of x) = omega (arith, long, more) in
+          let after : n ≡ length own + (n - units_of x) = omega (arith, long, more) in
           let number : suc i + rest.0 ≡ i + suc rest.0 = omega arith in
           let before = sum_by-cons units_of x (take rest.0 cs) in
           let there = rest.1.1 in
-          let is = ap (λ (k : ℕ). get_or (order_from i (x ∷ cs)) k 0) behind ∙ get_or-append-add own (order_from (suc i) cs) (n - units_of x) 0 ∙ rest.1.0 ∙ number in
+          let is = ap (λ (k : ℕ). get_or (order_from i (x ∷ cs)) k 0) after ∙ get_or-append-add own (order_from (suc i) cs) (n - units_of x) 0 ∙ rest.1.0 ∙ number in
           (suc rest.0, (is, (omega (arith, there.0), omega (arith, before, there.1, more), omega (arith, before, there.2, more))))
     ]
 
 -- the component of a data unit of an MCU has it
-pub whose : (h : HeadValue) (j : ℕ) → IsLawful h → j < blocks_of h
+pub whose : (h : HeadValue) (j : ℕ) → IsValid h → j < blocks_of h
     → (let c = component h j in (c < components_of h) × (blocks_before h c ≤ j) × (j < blocks_before h c + horizontal_of h c * vertical_of h c))
 whose h j l lt =
     let found = owner 0 h.components j lt in
@@ -82,7 +82,7 @@ lines_within : (h : HeadValue) (c : ℕ) → c < components_of h → lines_befor
 lines_within h c p = lines_apart h c (components_of h) p p
 
 -- data unit i of component c
-module _ (h : HeadValue) (l : IsLawful h) (c m i r : ℕ) (p : c < components_of h) (few : i < horizontal_of h c * vertical_of h c) (column : m < mcus_across h) (row : r < 8) where
+module _ (h : HeadValue) (l : IsValid h) (c m i r : ℕ) (p : c < components_of h) (few : i < horizontal_of h c * vertical_of h c) (column : m < mcus_across h) (row : r < 8) where
   in_lines : lines_before_component h c + 8 * (i / horizontal_of h c) + r < lines_before_component h c + 8 * vertical_of h c
   in_lines =
       let turned : horizontal_of h c * vertical_of h c ≡ vertical_of h c * horizontal_of h c = grind arith in
@@ -107,11 +107,11 @@ module _ (h : HeadValue) (l : IsLawful h) (c m i r : ℕ) (p : c < components_of
       omega (arith, place, turned)
 
 -- the number of a data unit among those of its component
-own_number : (h : HeadValue) (j : ℕ) → IsLawful h → j < blocks_of h → (let c = component h j in j - blocks_before h c < horizontal_of h c * vertical_of h c)
+own_number : (h : HeadValue) (j : ℕ) → IsValid h → j < blocks_of h → (let c = component h j in j - blocks_before h c < horizontal_of h c * vertical_of h c)
 own_number h j l lt = let w = whose h j l lt in omega (arith, w.1, w.2)
 
 -- all rows of all data units lie within the lines of the row of MCUs
-pub inside : (h : HeadValue) (m j r : ℕ) → IsLawful h → m < mcus_across h → j < blocks_of h → r < 8 → group_of h m j r < all_lines h * groups_across h
+pub inside : (h : HeadValue) (m j r : ℕ) → IsValid h → m < mcus_across h → j < blocks_of h → r < 8 → group_of h m j r < all_lines h * groups_across h
 inside h m j r l column lt row =
     let c = component h j in
     group_inside h l c m (j - blocks_before h c) r (whose h j l lt).0 (own_number h j l lt) column row
@@ -122,8 +122,8 @@ one_component h c n d k p q few less e =
     elim (cases_lt c d) [
       | inl before ↦ absurd (omega (arith, lines_apart h c d p before, few, e))
       | inr not_before ↦ elim (cases_lt d c) [
-        | inl behind ↦ absurd (omega (arith, lines_apart h d c q behind, less, e))
-        | inr not_behind ↦ omega (arith, not_before, not_behind)
+        | inl after ↦ absurd (omega (arith, lines_apart h d c q after, less, e))
+        | inr not_after ↦ omega (arith, not_before, not_after)
       ]
     ]
 
@@ -135,7 +135,7 @@ one_unit a m i r m' i' r' some row row' line place =
     let whole : i / a * a ≡ i' / a * a = ap (λ (n : ℕ). n * a) rows.0 in
     (columns.0, omega (arith, div-add-mod' i a, div-add-mod' i' a, whole, columns.1), rows.1)
 
-module _ (h : HeadValue) (l : IsLawful h) (c m i r c' m' i' r' : ℕ) (p : c < components_of h) (p' : c' < components_of h) (few : i < horizontal_of h c * vertical_of h c) (few' : i' < horizontal_of h c' * vertical_of h c')
+module _ (h : HeadValue) (l : IsValid h) (c m i r c' m' i' r' : ℕ) (p : c < components_of h) (p' : c' < components_of h) (few : i < horizontal_of h c * vertical_of h c) (few' : i' < horizontal_of h c' * vertical_of h c')
     (column : m < mcus_across h) (column' : m' < mcus_across h) (row : r < 8) (row' : r' < 8) where
   groups_apart : group_in h c i m r ≡ group_in h c' i' m' r' → (c ≡ c') × (m ≡ m') × (i ≡ i') × (r ≡ r')
   groups_apart e =
@@ -155,7 +155,7 @@ module _ (h : HeadValue) (l : IsLawful h) (c m i r c' m' i' r' : ℕ) (p : c < c
       (one, rest.0, rest.1, rest.2)
 
 -- no two rows of data units have the same position
-pub apart : (h : HeadValue) (m j r m' j' r' : ℕ) → IsLawful h → m < mcus_across h → m' < mcus_across h → j < blocks_of h → j' < blocks_of h → r < 8 → r' < 8 → group_of h m j r ≡ group_of h m' j' r'
+pub apart : (h : HeadValue) (m j r m' j' r' : ℕ) → IsValid h → m < mcus_across h → m' < mcus_across h → j < blocks_of h → j' < blocks_of h → r < 8 → r' < 8 → group_of h m j r ≡ group_of h m' j' r'
     → (m ≡ m') × ((j ≡ j') × (r ≡ r'))
 apart h m j r m' j' r' l column column' lt lt' row row' e =
     let c = component h j in
@@ -187,7 +187,7 @@ group_at : (line place line' place' w : ℕ) → line ≡ line' → place ≡ pl
 group_at line place line' place' w e f = ap (λ (n : ℕ). n * w + place) e ∙ ap (λ (n : ℕ). line' * w + n) f
 
 -- a sample lies in its line, in the group of eight of its column
-pub on_line : (h : HeadValue) (c x y : ℕ) → IsLawful h → c < components_of h
+pub on_line : (h : HeadValue) (c x y : ℕ) → IsValid h → c < components_of h
     → (let s = spot_of h c x y in group_of h (x / (8 * horizontal_of h c)) s.block (y % 8) ≡ (lines_before_component h c + y % (8 * vertical_of h c)) * groups_across h + x / 8)
 on_line h c x y l p =
     let a = horizontal_of h c in

@@ -75,7 +75,7 @@ last_there h number mcu lt few some all = elim (eqb_tells h.restart 0) [
       let there : number < div_ceil (mcus_of h) h.restart = subst (λ (b : Bool). number < cond b 1 (div_ceil (mcus_of h) h.restart)) f.0 lt in
       let least : mcu ≤ min h.restart (mcus_of h - number * h.restart) = subst (λ (b : Bool). mcu ≤ cond b (mcus_of h) (min h.restart (mcus_of h - number * h.restart))) f.0 few in
       let last : number + 1 ≡ div_ceil (mcus_of h) h.restart = elim (cases_lt (number + 1) (div_ceil (mcus_of h) h.restart)) [
-        | inl more ↦ let behind = below_div_ceil (number + 1) (mcus_of h) h.restart r more in absurd (omega (arith, behind, least, all, add-mul number 1 h.restart))
+        | inl more ↦ let after = below_div_ceil (number + 1) (mcus_of h) h.restart r more in absurd (omega (arith, after, least, all, add-mul number 1 h.restart))
         | inr no_more ↦ omega (arith, there, no_more)
       ] in
       let whole : mcu ≡ min h.restart (mcus_of h - number * h.restart) = omega (arith, least, all) in
@@ -137,8 +137,8 @@ of_first h n number mcu some lt positive few = elim (leb_tells (intervals_of h) 
 ]
 
 -- an MCU after those of the first n intervals is of none of them
-pub behind_first : (h : HeadValue) (n mcu : ℕ) → mcu < mcus_of h → mcus_before h n ≤ mcu → n ≤ interval_number h mcu
-behind_first h n mcu inside far = elim (leb_tells (intervals_of h) n) [
+pub after_first : (h : HeadValue) (n mcu : ℕ) → mcu < mcus_of h → mcus_before h n ≤ mcu → n ≤ interval_number h mcu
+after_first h n mcu inside far = elim (leb_tells (intervals_of h) n) [
   | inl t ↦ let all = subst (λ (b : Bool). cond b (mcus_of h) (n * h.restart) ≤ mcu) t.0 far in absurd (omega (arith, all, inside))
   | inr f ↦
       let past : n * h.restart ≤ mcu = subst (λ (b : Bool). cond b (mcus_of h) (n * h.restart) ≤ mcu) f.0 far in

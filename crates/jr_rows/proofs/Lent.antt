@@ -12,8 +12,8 @@ all_back n new old long = ap (λ (k : ℕ). take k (new ++ drop (length new) old
 pub part_back : {X : Type 0} (a k : ℕ) (xs ys : List X) → a ≤ length xs → length ys ≡ k → take k (drop a (put_mid a k xs ys)) ≡ ys
 part_back a k xs ys within long =
     let rest = ys ++ post_of a k xs in
-    let behind : drop a (put_mid a k xs ys) ≡ rest = ap (λ (j : ℕ). drop j (take a xs ++ rest)) (sym (length-take-le a xs within)) ∙ drop-append_seam (take a xs) rest in
-    ap (take k) behind ∙ ap (λ (j : ℕ). take j rest) (sym long) ∙ take-append_seam ys (post_of a k xs)
+    let after : drop a (put_mid a k xs ys) ≡ rest = ap (λ (j : ℕ). drop j (take a xs ++ rest)) (sym (length-take-le a xs within)) ∙ drop-append_seam (take a xs) rest in
+    ap (take k) after ∙ ap (λ (j : ℕ). take j rest) (sym long) ∙ take-append_seam ys (post_of a k xs)
 
 -- the elements before the part
 pub front_kept : {X : Type 0} (a k : ℕ) (xs ys : List X) → a ≤ length xs → take a (put_mid a k xs ys) ≡ take a xs

@@ -9,7 +9,7 @@ pub mod Lent
 pub mod PaintedRows
 pub mod PictureLines
 pub mod PictureRows
-pub mod PutMarks
+pub mod StoredMarks
 pub mod ReadRows
 pub mod RowCursors
 pub mod RowStarts

@@ -7,7 +7,7 @@ use Rattle.std.proofs.lemmas.List.{get_or-replicate, get_or_past}
 use Rattle.std.proofs.lemmas.Nat.{div-mul-add, mod-mul-add, mod_below, mul-add-lt}
 use Rattle.std.proofs.lemmas.Option.{slice_get-get_or, slice_get_past}
 use Rattle.jr_head.specs.HeadValue.{HeadValue}
-use Rattle.jr_head.specs.Geometry.{IsLawful, components_of, horizontal_of, vertical_of, horizontal_max, vertical_max, mcus_across, blocks_of}
+use Rattle.jr_head.specs.Geometry.{IsValid, components_of, horizontal_of, vertical_of, horizontal_max, vertical_max, mcus_across, blocks_of}
 use Rattle.jr_paint.specs.Geometry.{samples_across, samples_down}
 use Rattle.jr_paint.specs.Lines.{line_of, next_lines_of}
 use Rattle.jr_paint.proofs.Factors.{sampled_at, scaled_below}
@@ -51,7 +51,7 @@ in_eights groups g x =
     ap (λ n. slice_index (slice_index_or groups n []) ((8 * g + x) % 8)) eights ∙ ap (λ n. slice_index (slice_index_or groups (g + x / 8) []) n) rest
 
 -- the sample of a band is that of its data unit
-in_band : (h : HeadValue) (l : IsLawful h) (groups : List (List ℕ)) (c x y : ℕ) → c < components_of h → (let s = spot_of h c x y in
+in_band : (h : HeadValue) (l : IsValid h) (groups : List (List ℕ)) (c x y : ℕ) → c < components_of h → (let s = spot_of h c x y in
     samples_in (record { head = h; groups = groups }) c x y ≡ slice_index (unit_in h groups (x / (8 * horizontal_of h c)) s.block) (8 * (y % 8) + x % 8))
 unfolding samples_in
 in_band h l groups c x y p =
@@ -76,7 +76,7 @@ row_of r k a m some lt =
     let whole : m * (8 * a) ≡ a * (8 * m) = grind arith in
     div-div-eq-div-mul (n * a) m (8 * a) ∙ ap (λ (d : ℕ). n * a / d) whole ∙ ap (λ (z : ℕ). z / (a * (8 * m))) turned ∙ mul-div-mul_left n (8 * m) some ∙ div-mul-add r (8 * m) k lt
 
-module _ (b : DecodedScan) (l : IsLawful b.scan.head) (r : ℕ) (groups : List (List ℕ)) (shows : ShowsMcus b (r * mcus_across b.scan.head) (units_in b.scan.head groups)) where
+module _ (b : DecodedScan) (l : IsValid b.scan.head) (r : ℕ) (groups : List (List ℕ)) (shows : ShowsMcus b (r * mcus_across b.scan.head) (units_in b.scan.head groups)) where
   -- the samples of a row are those of the image
   pub row_samples : (c x y : ℕ) → c < components_of b.scan.head → x < samples_across b.scan.head c → y < samples_down b.scan.head c → y / (8 * vertical_of b.scan.head c) ≡ r
       → samples_in (record { head = b.scan.head; groups = groups }) c x y ≡ samples_of b c x y

@@ -3,14 +3,14 @@ use Rattle.std.proofs.Common.{◌≡◌, ℕ, ◌+◌, ◌*◌, ◌≤◌, ◌<�
 use Rattle.std.proofs.Math.Nat.{add-mul, mul_comm, mul-le-mul_right}
 use Rattle.std.proofs.lemmas.Grind.{div_ceil_times}
 use Rattle.jr_head.specs.HeadValue.{HeadValue}
-use Rattle.jr_head.specs.Geometry.{IsLawful, mcus_across, mcus_down, mcus_of, vertical_max}
+use Rattle.jr_head.specs.Geometry.{IsValid, mcus_across, mcus_down, mcus_of, vertical_max}
 
 -- no line is before the first row
 pub no_lines : (h : HeadValue) → min (0 * (8 * vertical_max h)) h.height ≡ 0
 no_lines h = omega arith
 
 -- the rows of MCUs have all lines
-pub all_lines : (h : HeadValue) → IsLawful h → min (mcus_down h * (8 * vertical_max h)) h.height ≡ h.height
+pub all_lines : (h : HeadValue) → IsValid h → min (mcus_down h * (8 * vertical_max h)) h.height ≡ h.height
 all_lines h l =
     let some : 0 < 8 * vertical_max h = omega (arith, l.components.down) in
     omega (arith, (div_ceil_times h.height (8 * vertical_max h) some).0)

@@ -27,7 +27,7 @@ use Rattle.jr_rows.proofs.FirstDecoded.{marks_there, not_blank}
 use Rattle.jr_rows.proofs.IntervalPlaces.{interval_at}
 use Rattle.jr_rows.specs.Bands.{unit_shown_of}
 use Rattle.jr_rows.specs.Cursors.{mcus_to}
-use Rattle.jr_rows.specs.Rows.{DecodesFirst, CountsMarks, GivesBehind}
+use Rattle.jr_rows.specs.Rows.{DecodesFirst, CountsMarks, ReturnsAfter}
 use Rattle.jr_rows.specs.declared.marked.Marked.{Marked}
 
 -- a count after one more mark
@@ -55,8 +55,8 @@ there scan n b first number lt None e = absurd (first.first.marked number lt (ma
 there scan n b first number lt (Some p) e = record {
   piece = p;
   at = e;
-  outcome = (first.lawful.each number p e).outcome;
-  interval = interval_is b scan number p first.lawful (same_scans b.scan scan first.scan_is) e;
+  outcome = (first.valid.each number p e).outcome;
+  interval = interval_is b scan number p first.valid (same_scans b.scan scan first.scan_is) e;
 }
 
 pub posted_there : (scan : ScanValue) (n : ℕ) (b : DecodedScan) → DecodesFirst scan n b → (number : ℕ) → number < n → IsThere scan b number
@@ -81,9 +81,9 @@ counts_none scan n from to m s d e = record {
 -- the mark of a decoded interval, if its outcome is known
 pub mark_there : (scan : ScanValue) (n number : ℕ) → number < n → (t : Bool) → ((p : PieceValue) → IsOutcome p → p.interval ≡ interval_of scan number → p.is_sound ≡ t)
     → (b : DecodedScan) → DecodesFirst scan n b → mark_of (piece_at b number) ≡ cond t Sound Damaged
-mark_there scan n number decoded t tells b first =
+mark_there scan n number decoded t reports b first =
     let p = posted_there scan n b first number decoded in
-    ap mark_of p.at ∙ ap (λ (s : Bool). cond s Sound Damaged) (tells p.piece p.outcome p.interval)
+    ap mark_of p.at ∙ ap (λ (s : Bool). cond s Sound Damaged) (reports p.piece p.outcome p.interval)
 
 -- the mark of one interval
 module _ (scan : ScanValue) (n number : ℕ) (m : Marked) (decoded : number < n) (few : number < length scan.intervals) where
@@ -93,15 +93,15 @@ module _ (scan : ScanValue) (n number : ℕ) (m : Marked) (decoded : number < n)
       count_next f (marks_of b) number k inside (marks_at b.pieces number ∙ e)
 
   pub counts_one : (t : Bool) → m.sound ≡ cond t 1 0 → m.damaged ≡ cond t 0 1 → ((p : PieceValue) → IsOutcome p → p.interval ≡ interval_of scan number → p.is_sound ≡ t) → CountsMarks scan n number (number + 1) m
-  counts_one true s d tells = record {
+  counts_one true s d reports = record {
     few = omega (arith, s, d);
-    sound = λ b first. let e = one_more is_sound b first Sound (mark_there scan n number decoded true tells b first) in omega (arith, s, e);
-    damaged = λ b first. let e = one_more is_damaged b first Sound (mark_there scan n number decoded true tells b first) in omega (arith, d, e);
+    sound = λ b first. let e = one_more is_sound b first Sound (mark_there scan n number decoded true reports b first) in omega (arith, s, e);
+    damaged = λ b first. let e = one_more is_damaged b first Sound (mark_there scan n number decoded true reports b first) in omega (arith, d, e);
   }
-  counts_one false s d tells = record {
+  counts_one false s d reports = record {
     few = omega (arith, s, d);
-    sound = λ b first. let e = one_more is_sound b first Damaged (mark_there scan n number decoded false tells b first) in omega (arith, s, e);
-    damaged = λ b first. let e = one_more is_damaged b first Damaged (mark_there scan n number decoded false tells b first) in omega (arith, d, e);
+    sound = λ b first. let e = one_more is_sound b first Damaged (mark_there scan n number decoded false reports b first) in omega (arith, s, e);
+    damaged = λ b first. let e = one_more is_damaged b first Damaged (mark_there scan n number decoded false reports b first) in omega (arith, d, e);
   }
 
 -- the marks of two parts
@@ -128,8 +128,8 @@ module _ (scan : ScanValue) (limit : ℕ) (r : Cursor) (mcus done : ℕ) (sub ne
       let per : length (order_of h) ≡ n = length-order 0 h.components in
       ap (λ (j : ℕ). slice_index_or (order_of h) j 0) (ap (λ (m : ℕ). (done * m + k) % length (order_of h)) (sym per) ∙ mul-add-mod_self_right done (length (order_of h)) k)
 
-  pub gives_there : GivesBehind scan limit (mcus_to h r) (done * n) mcus new
-  gives_there b first k lt =
+  pub returns_there : ReturnsAfter scan limit (mcus_to h r) (done * n) mcus new
+  returns_there b first k lt =
       let j = k / n in
       let here : k < length sub = omega (arith, lt, long) in
       let near : j < mcus = (div-lt_iff_lt-mul some).1 lt in
@@ -150,7 +150,7 @@ module _ (scan : ScanValue) (limit : ℕ) (r : Cursor) (mcus done : ℕ) (sub ne
 -- the data units of more MCUs after those of the first
 pub shown_more : (n done some start : ℕ) (f : ℕ → ℕ → List ℕ) (old new : ℕ → List ℕ) → 0 < n → ((k : ℕ) → k < done * n → old k ≡ f (start + k / n) (k % n)) → ((k : ℕ) → k < done * n → new k ≡ old k)
     → ((k : ℕ) → k < some * n → new (done * n + k) ≡ f (start + done + k / n) (k % n)) → (k : ℕ) → k < (done + some) * n → new k ≡ f (start + k / n) (k % n)
-shown_more n done some start f old new positive before kept behind k lt = elim (cases_lt k (done * n)) [
+shown_more n done some start f old new positive before kept after k lt = elim (cases_lt k (done * n)) [
   | inl l ↦ kept k l ∙ before k l
   | inr r ↦
       let j = k - done * n in
@@ -158,5 +158,5 @@ shown_more n done some start f old new positive before kept behind k lt = elim (
       let near : j < some * n = omega (arith, lt, there, add-mul done some n) in
       let number : start + done + j / n ≡ start + k / n = omega (arith, ap (λ m. m / n) there ∙ mul-add-div_right positive done j) in
       let part : j % n ≡ k % n = sym (ap (λ m. m % n) there ∙ mul-add-mod_self_right done n j) in
-      ap new there ∙ behind j near ∙ ap (λ m. f m (j % n)) number ∙ ap (f (start + k / n)) part
+      ap new there ∙ after j near ∙ ap (λ m. f m (j % n)) number ∙ ap (f (start + k / n)) part
 ]

@@ -10,7 +10,7 @@ use Rattle.jr_picture.specs.DecodedScan.{DecodedScan, piece_at}
 use Rattle.jr_picture.specs.Headline.{blank_of, interval_number, within_interval}
 use Rattle.jr_rows.specs.Bands.{ShowsMcus, unit_shown, unit_shown_of}
 use Rattle.jr_rows.specs.Rows.{DecodesFirst, ShowsFirstUnits, coded_before, coded_in, mcus_before}
-use Rattle.jr_rows.proofs.IntervalPlaces.{behind_first}
+use Rattle.jr_rows.proofs.IntervalPlaces.{after_first}
 use Rattle.jr_rows.proofs.PictureRows.{row_inside}
 use Rattle.jr_rows.proofs.ReadRows.{none_there}
 
@@ -33,8 +33,8 @@ module _ (scan : ScanValue) (n row : ℕ) (below : row < mcus_down scan.head) (s
   first_ones positive = omega (arith, positive, add-mul row 1 (mcus_across h))
 
   -- the others are after all decoded ones
-  behind : (j : ℕ) → coded_in h n row ≤ j → j < mcus_across h → mcus_before h n ≤ row * mcus_across h + j
-  behind j le lt = omega (arith, le, lt, add-mul row 1 (mcus_across h))
+  after : (j : ℕ) → coded_in h n row ≤ j → j < mcus_across h → mcus_before h n ≤ row * mcus_across h + j
+  after j le lt = omega (arith, le, lt, add-mul row 1 (mcus_across h))
 
   module _ (units : List (List ℕ)) (long : length units ≡ mcus_across h * per)
       (decoded : ShowsFirstUnits scan n (coded_before h n row) (coded_in h n row) units)
@@ -55,7 +55,7 @@ module _ (scan : ScanValue) (n row : ℕ) (below : row < mcus_down scan.head) (s
             | inr le ↦ le
           ] in
           let mcu : row * mcus_across h + j < mcus_of h = omega (arith, near, row_inside h row below) in
-          let none = none_there scan n b first (interval_number h (row * mcus_across h + j)) (behind_first h n (row * mcus_across h + j) mcu (behind j far near)) in
+          let none = none_there scan n b first (interval_number h (row * mcus_across h + j)) (after_first h n (row * mcus_across h + j) mcu (after j far near)) in
           blank k g lt ∙ ap (λ q. unit_shown_of h (k % per) q (within_interval h (row * mcus_across h + j) * per + k % per)) (sym none)
           ∙ ap (λ (t : ScanValue). unit_shown_of t.head (k % per) (piece_at b (interval_number t.head (row * mcus_across h + j))) (within_interval t.head (row * mcus_across h + j) * blocks_of t.head + k % per)) (sym first.scan_is)
     ]

@@ -6,7 +6,7 @@ use Rattle.std.proofs.Math.Nat.{add-mul}
 use Rattle.std.proofs.lemmas.Grind.{div_ceil_times}
 use Rattle.std.proofs.lemmas.Nat.{div-add-mod', mod_below}
 use Rattle.jr_head.specs.HeadValue.{HeadValue}
-use Rattle.jr_head.specs.Geometry.{IsLawful, vertical_max}
+use Rattle.jr_head.specs.Geometry.{IsValid, vertical_max}
 use Rattle.jr_paint.proofs.Places.{below_div_ceil, in_div_ceil}
 use Rattle.jr_paint.specs.Lines.{next_lines_of}
 use Rattle.jr_scan.specs.IntervalValue.{IntervalValue}
@@ -15,7 +15,7 @@ use Rattle.jr_piece.specs.Outcome.{HasOutcome}
 use Rattle.jr_picture.specs.DecodedScan.{DecodedScan, marks_of}
 use Rattle.jr_picture.specs.Samples.{samples_of}
 use Rattle.jr_rows.specs.Rows.{DecodesFirst}
-use Rattle.jr_rows.specs.SomeLines.{CountsBetween, PaintsLines, row_behind, row_with}
+use Rattle.jr_rows.specs.SomeLines.{CountsBetween, PaintsLines, row_after, row_with}
 use Rattle.jr_rows.specs.declared.marked.Marked.{Marked}
 use Rattle.jr_rows.proofs.FirstDecoded.{first_decoded, shows_first}
 
@@ -54,23 +54,23 @@ next_done h first end row y count some starts reaches at to =
     (omega (arith, some, starts, at), omega (arith, some, starts, reaches, at, to, next))
 
 -- the lines of a decoded scan there are lines of its image
-pub painted_lines : ((i : IntervalValue) → HasOutcome i) → (scan : ScanValue) → IsLawful scan.head → (first count : ℕ) (pixels : List ℕ) (m : Marked)
+pub painted_lines : ((i : IntervalValue) → HasOutcome i) → (scan : ScanValue) → IsValid scan.head → (first count : ℕ) (pixels : List ℕ) (m : Marked)
     → ((b : DecodedScan) → DecodesFirst scan (length scan.intervals) b → pixels ≡ next_lines_of scan.head (samples_of b) first (first + count - first))
-    → CountsBetween scan (row_with scan.head first) (row_behind scan.head (first + count)) m → PaintsLines scan first count pixels m
-painted_lines each scan lawful first count pixels m lines counts =
+    → CountsBetween scan (row_with scan.head first) (row_after scan.head (first + count)) m → PaintsLines scan first count pixels m
+painted_lines each scan valid first count pixels m lines counts =
     let n = length scan.intervals in
     let board = first_decoded each scan n (omega arith) in
     let size : first + count - first ≡ count = omega arith in
     record {
       marks = marks_of board.0;
       f = samples_of board.0;
-      shows = shows_first scan n board.0 board.1 lawful;
+      shows = shows_first scan n board.0 board.1 valid;
       lines = lines board.0 board.1 ∙ ap (next_lines_of scan.head (samples_of board.0) first) size;
       counted = record { sound_are = counts.sound board.0 board.1; damaged_are = counts.damaged board.0 board.1 };
     }
 
 -- some lines of a row of MCUs fit if all of them do
-pub lines_fit : (count deep line size room : ℕ) → count ≤ deep → line ≡ size → deep * size ≤ room → count * line ≤ room
-lines_fit count deep line size room few is all =
+pub lines_fit : (count deep line size space : ℕ) → count ≤ deep → line ≡ size → deep * size ≤ space → count * line ≤ space
+lines_fit count deep line size space few is all =
     let same : count * line ≡ count * size = ap (λ (k : ℕ). count * k) is in
     omega (arith, same, mul-le count size deep size few (omega arith), all)

@@ -7,7 +7,7 @@ use Rattle.std.proofs.lemmas.List.Sums.{sum_by-cons}
 use Rattle.std.proofs.lemmas.Nat.{mul-add-lt}
 use Rattle.jr_head.specs.declared.component.Component.{Component}
 use Rattle.jr_head.specs.HeadValue.{HeadValue}
-use Rattle.jr_head.specs.Geometry.{IsLawful, no_component, units_of, order_from, order_of, blocks_before, components_of, horizontal_of, vertical_of}
+use Rattle.jr_head.specs.Geometry.{IsValid, no_component, units_of, order_from, order_of, blocks_before, components_of, horizontal_of, vertical_of}
 use Rattle.jr_head.proofs.SamplingLaws.{length-order}
 use Rattle.jr_paint.proofs.Factors.{sampled_at}
 use Rattle.jr_paint.proofs.Places.{place_of_lies}
@@ -26,13 +26,13 @@ in_order i (x ∷ cs) zero k lt few =
     ap (λ (n : ℕ). get_or (order_from i (x ∷ cs)) n 0) first ∙ get_or_append_left own (order_from (suc i) cs) 0 k here ∙ get_or-replicate (units_of x) k i 0 few ∙ number
 in_order i (x ∷ cs) (suc c) k lt few =
     let own = replicate (units_of x) i in
-    let behind : sum_by units_of (x ∷ take c cs) + k ≡ length own + (sum_by units_of (take c cs) + k) = omega (arith, sum_by-cons units_of x (take c cs), length-replicate (units_of x) i) in
+    let after : sum_by units_of (x ∷ take c cs) + k ≡ length own + (sum_by units_of (take c cs) + k) = omega (arith, sum_by-cons units_of x (take c cs), length-replicate (units_of x) i) in
     let number : suc i + c ≡ i + suc c = omega arith in
-    ap (λ (n : ℕ). get_or (order_from i (x ∷ cs)) n 0) behind ∙ get_or-append-add own (order_from (suc i) cs) (sum_by units_of (take c cs) + k) 0
+    ap (λ (n : ℕ). get_or (order_from i (x ∷ cs)) n 0) after ∙ get_or-append-add own (order_from (suc i) cs) (sum_by units_of (take c cs) + k) 0
     ∙ in_order (suc i) cs c k (omega (arith, lt)) few ∙ number
 
 -- the data unit of a sample of component c is one of component c
-pub component_there : (h : HeadValue) (c x y : ℕ) → IsLawful h → c < components_of h → component h (spot_of h c x y).block ≡ c
+pub component_there : (h : HeadValue) (c x y : ℕ) → IsValid h → c < components_of h → component h (spot_of h c x y).block ≡ c
 component_there h c x y l p =
     let s = sampled_at h c l p in
     let there = place_of_lies (horizontal_of h c) (vertical_of h c) x y s.across s.down in

@@ -29,6 +29,6 @@ pub record AreStarts (h : HeadValue) (starts : List UnitStart) : Type 0 where
 
 -- these are the lines of a row of MCUs of an image with this header
 pub record HasLines (h : HeadValue) (v : RowLinesValue) : Type 0 where
-  pub room : HasGroups h (groups_across h) v.groups
+  pub space : HasGroups h (groups_across h) v.groups
   pub across : v.across ≡ groups_across h
   pub starts : AreStarts h v.starts

@@ -4,7 +4,7 @@ use Rattle.jr_head.specs.HeadValue.{HeadValue}
 use Rattle.jr_head.specs.Geometry.{blocks_of, mcus_across, mcus_down, mcus_of, vertical_max}
 use Rattle.jr_scan.specs.ScanValue.{ScanValue, intervals_of}
 use Rattle.jr_scan.specs.FirstIntervalsValue.{FirstIntervalsValue}
-use Rattle.jr_paint.specs.Lines.{line_room, next_lines_of}
+use Rattle.jr_paint.specs.Lines.{line_space, next_lines_of}
 use Rattle.jr_piece.specs.Outcome.{unit_of}
 use Rattle.jr_picture.specs.DecodedScan.{DecodedScan, IsDecodedScan, marks_of}
 use Rattle.jr_picture.specs.Headline.{AreFirst, is_sound, is_damaged, interval_number}
@@ -20,7 +20,7 @@ use Rattle.jr_rows.specs.declared.rows.Rows.{Rows}
 -- the scan with its first n intervals decoded, and no other
 pub record DecodesFirst (scan : ScanValue) (n : ℕ) (b : DecodedScan) : Type 0 where
   pub scan_is : b.scan ≡ scan
-  pub lawful : IsDecodedScan b
+  pub valid : IsDecodedScan b
   pub first : AreFirst n (marks_of b)
 
 -- the MCUs of the first n intervals
@@ -41,7 +41,7 @@ coded_in h n row = coded_before h n (row + 1) - coded_before h n row
 
 -- the cursor is where the decoded MCUs of the next row start
 pub record AreRowsOf (part : FirstIntervalsValue) (r : Rows) : Type 0 where
-  pub stands : IsCursorOf part.scan r.cursor
+  pub lies : IsCursorOf part.scan r.cursor
   pub at : mcus_to part.scan.head r.cursor ≡ coded_before part.scan.head part.limit r.row
 
 -- the numbers of the intervals starting at number `from` and before `to` that are sound and damaged, if the first n are decoded
@@ -55,18 +55,18 @@ abbrev pub CountsMcus : ScanValue → (n from to : ℕ) → Marked → Type 0
 CountsMcus scan n from to m = CountsMarks scan n (intervals_before scan.head from) (intervals_before scan.head to) m
 
 -- the samples of the first `mcus` MCUs of these blocks are those of the decoded scan starting at MCU `from`
-abbrev pub GivesMcus : ScanValue → (n from mcus : ℕ) → List (List ℤ) → Type 0
-GivesMcus scan n from mcus blocks = (b : DecodedScan) → DecodesFirst scan n b → (k : ℕ) → k < mcus * blocks_of scan.head
+abbrev pub ReturnsMcus : ScanValue → (n from mcus : ℕ) → List (List ℤ) → Type 0
+ReturnsMcus scan n from mcus blocks = (b : DecodedScan) → DecodesFirst scan n b → (k : ℕ) → k < mcus * blocks_of scan.head
     → unit_of scan.head blocks k ≡ unit_shown b (from + k / blocks_of scan.head) (k % blocks_of scan.head)
 
 -- the same of the blocks after the first `before`
-abbrev pub GivesBehind : ScanValue → (n from before mcus : ℕ) → List (List ℤ) → Type 0
-GivesBehind scan n from before mcus blocks = (b : DecodedScan) → DecodesFirst scan n b → (k : ℕ) → k < mcus * blocks_of scan.head
+abbrev pub ReturnsAfter : ScanValue → (n from before mcus : ℕ) → List (List ℤ) → Type 0
+ReturnsAfter scan n from before mcus blocks = (b : DecodedScan) → DecodesFirst scan n b → (k : ℕ) → k < mcus * blocks_of scan.head
     → unit_of scan.head blocks (before + k) ≡ unit_shown b (from + k / blocks_of scan.head) (k % blocks_of scan.head)
 
 -- the data units of `mcus` MCUs, after the first `before`, are those of the decoded scan starting at MCU `from`
-abbrev pub ShowsBehind : ScanValue → (n from before mcus : ℕ) → List (List ℕ) → Type 0
-ShowsBehind scan n from before mcus units = (b : DecodedScan) → DecodesFirst scan n b → (k : ℕ) → k < mcus * blocks_of scan.head
+abbrev pub ShowsAfter : ScanValue → (n from before mcus : ℕ) → List (List ℕ) → Type 0
+ShowsAfter scan n from before mcus units = (b : DecodedScan) → DecodesFirst scan n b → (k : ℕ) → k < mcus * blocks_of scan.head
     → slice_index_or units (before + k) [] ≡ unit_shown b (from + k / blocks_of scan.head) (k % blocks_of scan.head)
 
 -- the same of the first ones
@@ -76,7 +76,7 @@ ShowsFirstUnits scan n from mcus units = (b : DecodedScan) → DecodesFirst scan
 
 -- the blocks of a row's decoded MCUs are read
 abbrev pub AreRead : ScanValue → (n row : ℕ) → List (List ℤ) → Type 0
-AreRead scan n row blocks = GivesMcus scan n (coded_before scan.head n row) (coded_in scan.head n row) blocks
+AreRead scan n row blocks = ReturnsMcus scan n (coded_before scan.head n row) (coded_in scan.head n row) blocks
 
 -- the marks of the intervals that end in a row of MCUs
 abbrev pub CountsRow : ScanValue → (n row : ℕ) → Marked → Type 0
@@ -87,15 +87,15 @@ abbrev pub CountsRows : ScanValue → (n : ℕ) → Marked → Type 0
 CountsRows scan n m = CountsMcus scan n (coded_before scan.head n 0) (coded_before scan.head n (mcus_down scan.head)) m
 
 -- the blocks and the samples of a row of MCUs fit
-pub record HasRowRoom (h : HeadValue) (r : RowValue) : Type 0 where
+pub record HasRowSpace (h : HeadValue) (r : RowValue) : Type 0 where
   pub blocks : length r.blocks ≡ mcus_across h * blocks_of h
   pub lines : HasLines h r.lines
 
 -- the samples of a row of MCUs, the blocks of those that are read at once, and the scratch space for painting fit
-pub record HasSampleRoom (h : HeadValue) (r : SampleRowValue) : Type 0 where
+pub record HasSampleSpace (h : HeadValue) (r : SampleRowValue) : Type 0 where
   pub blocks : length r.blocks ≡ mcus_at_once h * blocks_of h
   pub lines : HasLines h r.lines
-  pub room : r.room ≡ line_room h
+  pub space : r.space ≡ line_space h
 
 -- the first line of pixels of a row of MCUs, and the number of its lines
 abbrev pub first_line : HeadValue → ℕ → ℕ

@@ -18,4 +18,4 @@ pub record RowValue : Type 0 where
 pub record SampleRowValue : Type 0 where
   pub blocks : List (List ℤ)
   pub lines : RowLinesValue
-  pub room : ℕ
+  pub space : ℕ

@@ -14,8 +14,8 @@ use Rattle.jr_rows.specs.declared.marked.Marked.{Marked}
 abbrev pub row_with : HeadValue → ℕ → ℕ
 row_with h y = y / (8 * vertical_max h)
 
-abbrev pub row_behind : HeadValue → ℕ → ℕ
-row_behind h end = div_ceil end (8 * vertical_max h)
+abbrev pub row_after : HeadValue → ℕ → ℕ
+row_after h end = div_ceil end (8 * vertical_max h)
 
 -- the marks of the intervals that end in the rows of MCUs starting at one and before another, if all are decoded
 abbrev pub CountsBetween : ScanValue → (from to : ℕ) → Marked → Type 0
@@ -28,8 +28,8 @@ ended_before scan row = intervals_before scan.head (coded_before scan.head (leng
 
 -- the numbers of the intervals that end in the rows of MCUs of these lines and are sound and damaged
 pub record EndInLines (scan : ScanValue) (first count : ℕ) (marks : List Mark) (sound damaged : ℕ) : Type 0 where
-  pub sound_are : count_by is_sound (take (ended_before scan (row_with scan.head first)) marks) + sound ≡ count_by is_sound (take (ended_before scan (row_behind scan.head (first + count))) marks)
-  pub damaged_are : count_by is_damaged (take (ended_before scan (row_with scan.head first)) marks) + damaged ≡ count_by is_damaged (take (ended_before scan (row_behind scan.head (first + count))) marks)
+  pub sound_are : count_by is_sound (take (ended_before scan (row_with scan.head first)) marks) + sound ≡ count_by is_sound (take (ended_before scan (row_after scan.head (first + count))) marks)
+  pub damaged_are : count_by is_damaged (take (ended_before scan (row_with scan.head first)) marks) + damaged ≡ count_by is_damaged (take (ended_before scan (row_after scan.head (first + count))) marks)
 
 -- these are lines of the scan's image, `count` of them starting at this one, and the numbers of sound and damaged intervals that
 -- end in their rows of MCUs

@@ -14,5 +14,5 @@ pub record PaintsWhole (scan : ScanValue) (pixels old_bytes bytes : List ℕ) (c
   pub f : ℕ → ℕ → ℕ → ℕ
   pub shows : ShowsFirst scan (length scan.intervals) marks f
   pub lines : pixels ≡ lines_of scan.head f scan.head.height
-  pub put : 0 < length old_bytes → bytes ≡ map mark_byte marks
+  pub store : 0 < length old_bytes → bytes ≡ map mark_byte marks
   pub counted : AreCounts marks c.sound c.damaged c.blank

@@ -1,7 +1,7 @@
 //! A band: one row of MCUs, by its lines of samples.
 
 ghost use Rattle.std.specs.Prelude.{◌≡◌, ℕ, ◌+◌, ◌*◌, ◌/◌, ◌%◌, ◌<◌, ◌≤◌, [], length, slice_index, slice_index_or};
-ghost use Rattle.jr_head.specs.Geometry.{IsLawful, components_of, vertical_of};
+ghost use Rattle.jr_head.specs.Geometry.{IsValid, components_of, vertical_of};
 ghost use Rattle.jr_paint.specs.Geometry.{samples_down};
 ghost use Rattle.jr_rows.specs.Bands.{sample_in_groups, samples_in};
 ghost use Rattle.jr_rows.specs.Groups.{groups_across, lines_before_component};
@@ -20,7 +20,7 @@ pub(crate) struct Band<'a> {
 }
 
 impl<'a> Model for Band<'a> {
-    ghost use Rattle.jr_head.specs.Geometry.{IsLawful};
+    ghost use Rattle.jr_head.specs.Geometry.{IsValid};
     ghost use Rattle.jr_rows.specs.Groups.{groups_across};
     ghost use Rattle.jr_rows.specs.RowLines.{HasGroups};
     ghost use Rattle.jr_rows.specs.BandValue.{BandValue};
@@ -29,7 +29,7 @@ impl<'a> Model for Band<'a> {
 
     ghost view = { λ b. record { head = b.head.now; groups = b.lines.now.groups } };
 
-    ghost invariant = { λ b. IsLawful b.head.now × HasGroups b.head.now (groups_across b.head.now) b.lines.now.groups };
+    ghost invariant = { λ b. IsValid b.head.now × HasGroups b.head.now (groups_across b.head.now) b.lines.now.groups };
 }
 
 /// Returns the samples of groups of eight, one after the other.
@@ -53,7 +53,7 @@ impl<'a> Band<'a> {
     pub(crate) fn of(head: &'a Head, lines: &'a RowLines) -> Band<'a>
         requires { HasGroups head.now (groups_across head.now) lines.now.groups }
         ensures value { result ≡ record { head = head.now; groups = lines.now.groups } }
-        ensures lawful { IsLawful head.now }
+        ensures valid { IsValid head.now }
     {
         head.assert_invariant();
         Band { head, lines }
@@ -84,7 +84,7 @@ impl Samples for Band<'_> {
         sample_at(groups, self.start(c, y) + x as usize)
     }
 
-    fn line<'a>(&'a self, c: u32, y: u32, count: usize, _room: &'a mut [u8]) -> &'a [u8] {
+    fn line<'a>(&'a self, c: u32, y: u32, count: usize, _space: &'a mut [u8]) -> &'a [u8] {
         if count == 0 {
             return &[];
         }

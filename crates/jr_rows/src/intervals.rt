@@ -4,11 +4,11 @@ ghost use Rattle.std.specs.Prelude.{◌≡◌, ◌+◌, ◌*◌, ◌<◌, ◌≤
 ghost use Rattle.jr_head.specs.Geometry.{blocks_of, mcus_of};
 ghost use Rattle.jr_scan.specs.ScanValue.{interval_of, intervals_of, mcus_in};
 ghost use Rattle.jr_rows.specs.Cursors.{AreGuessesIn, IsCursorOf, mcus_to};
-ghost use Rattle.jr_rows.specs.MarkBytes.{HasMarkRoom, PutsMarks, PutsMcus};
-ghost use Rattle.jr_rows.specs.Rows.{CountsMarks, CountsMcus, GivesMcus, intervals_before, mcus_before};
+ghost use Rattle.jr_rows.specs.MarkBytes.{HasMarkSpace, StoresMarks, StoresMcus};
+ghost use Rattle.jr_rows.specs.Rows.{CountsMarks, CountsMcus, ReturnsMcus, intervals_before, mcus_before};
 
 use crate::interval_guesses::{IntervalGuesses, of_interval};
-use crate::mark_bytes::put_mark;
+use crate::mark_bytes::write_mark;
 use crate::marked::Marked;
 use crate::shape::units_to;
 use jr_base::Coefficients;
@@ -16,9 +16,9 @@ use jr_scan::{Cursor, FirstIntervals, IntervalRef, Scan};
 
 /// Moves to the next interval if this one is read to its end. Returns the number of its MCUs that are left.
 fn ready(cursor: &mut Cursor, scan: &Scan) -> u32
-    requires stands { IsCursorOf scan.now cursor.old }
+    requires lies { IsCursorOf scan.now cursor.old }
     requires more { mcus_to scan.now.head cursor.old < mcus_of scan.now.head }
-    ensures stands { IsCursorOf scan.now cursor.new }
+    ensures lies { IsCursorOf scan.now cursor.new }
     ensures some { 0 < result }
     ensures left { cursor.new.mcu + result ≡ mcus_in scan.now.head cursor.new.number }
     ensures number { cursor.new.number < intervals_of scan.now.head }
@@ -42,12 +42,12 @@ fn mark_ended(
     marks: &mut [u8],
 ) -> Marked
     requires interval { interval.now ≡ interval_of part.now.scan cursor.now.number }
-    requires stands { IsCursorOf part.now.scan cursor.now }
+    requires lies { IsCursorOf part.now.scan cursor.now }
     requires decoded { cursor.now.number < part.now.limit }
     requires some { 0 < cursor.now.mcu }
-    requires places { HasMarkRoom part.now.scan marks.old }
+    requires places { HasMarkSpace part.now.scan marks.old }
     ensures counts { CountsMarks part.now.scan part.now.limit cursor.now.number (intervals_before part.now.scan.head (mcus_to part.now.scan.head cursor.now)) result }
-    ensures puts { PutsMarks part.now.scan part.now.limit cursor.now.number (intervals_before part.now.scan.head (mcus_to part.now.scan.head cursor.now)) marks.old marks.new }
+    ensures stores { StoresMarks part.now.scan part.now.limit cursor.now.number (intervals_before part.now.scan.head (mcus_to part.now.scan.head cursor.now)) marks.old marks.new }
 {
     // By contract the number of a scan's intervals is that of its header, and an image has an MCU.
     let _counts = (part.scan().intervals(), part.scan().head().mcus());
@@ -55,7 +55,7 @@ fn mark_ended(
         return Marked::none();
     }
     let is_sound = cursor.is_sound(interval);
-    put_mark(is_sound, cursor.number, marks);
+    write_mark(is_sound, cursor.number, marks);
     Marked::one(is_sound)
 }
 
@@ -69,16 +69,16 @@ pub(crate) fn read_mcus(
     blocks: &mut [Coefficients],
     marks: &mut [u8],
 ) -> Marked
-    requires stands { IsCursorOf part.now.scan cursor.old }
+    requires lies { IsCursorOf part.now.scan cursor.old }
     requires same { IfSome guesses (λ g. AreGuessesIn part.now.scan g.now) }
     requires few { mcus_to part.now.scan.head cursor.old + mcus ≤ mcus_before part.now.scan.head part.now.limit }
-    requires room { length blocks.old ≡ mcus * blocks_of part.now.scan.head }
-    requires places { HasMarkRoom part.now.scan marks.old }
-    ensures stands { IsCursorOf part.now.scan cursor.new }
+    requires space { length blocks.old ≡ mcus * blocks_of part.now.scan.head }
+    requires places { HasMarkSpace part.now.scan marks.old }
+    ensures lies { IsCursorOf part.now.scan cursor.new }
     ensures moved { mcus_to part.now.scan.head cursor.new ≡ mcus_to part.now.scan.head cursor.old + mcus }
-    ensures gives { GivesMcus part.now.scan part.now.limit (mcus_to part.now.scan.head cursor.old) mcus blocks.new }
+    ensures returned { ReturnsMcus part.now.scan part.now.limit (mcus_to part.now.scan.head cursor.old) mcus blocks.new }
     ensures counts { CountsMcus part.now.scan part.now.limit (mcus_to part.now.scan.head cursor.old) (mcus_to part.now.scan.head cursor.new) result }
-    ensures puts { PutsMcus part.now.scan part.now.limit (mcus_to part.now.scan.head cursor.old) (mcus_to part.now.scan.head cursor.new) marks.old marks.new }
+    ensures stores { StoresMcus part.now.scan part.now.limit (mcus_to part.now.scan.head cursor.old) (mcus_to part.now.scan.head cursor.new) marks.old marks.new }
 {
     let scan = part.scan();
     let per_mcu = scan.head().order().len();
@@ -107,10 +107,10 @@ pub(crate) fn skip_mcus(
     guesses: Option<&IntervalGuesses>,
     mcus: u32,
 )
-    requires stands { IsCursorOf scan.now cursor.old }
+    requires lies { IsCursorOf scan.now cursor.old }
     requires same { IfSome guesses (λ g. AreGuessesIn scan.now g.now) }
     requires few { mcus_to scan.now.head cursor.old + mcus ≤ mcus_of scan.now.head }
-    ensures stands { IsCursorOf scan.now cursor.new }
+    ensures lies { IsCursorOf scan.now cursor.new }
     ensures moved { mcus_to scan.now.head cursor.new ≡ mcus_to scan.now.head cursor.old + mcus }
 {
     let mut left = mcus;

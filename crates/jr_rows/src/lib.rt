@@ -23,7 +23,7 @@ mod writing;
 pub use announcing::announce;
 pub use interval_guesses::IntervalGuesses;
 pub use lines::paint_scan_lines;
-pub use mark_bytes::put_mark;
+pub use mark_bytes::write_mark;
 pub use marked::Marked;
 pub use painter::RowPainter;
 pub use painting::paint_row;
@@ -31,7 +31,7 @@ pub use row_lines::RowLines;
 pub use rows::Rows;
 pub use sample_row::SampleRow;
 pub use shape::{
-    Shape, bytes_of_row, coded_of_row, intervals_of_row, lines_of, room_for, shape_of,
+    Shape, bytes_of_row, coded_of_row, intervals_of_row, lines_of, shape_of, space_for,
 };
 pub use whole::paint_scan;
 pub use writing::{counts_of, write_rows, write_scan};

@@ -5,9 +5,9 @@ ghost use Rattle.jr_head.specs.Geometry.{mcus_down, vertical_max};
 ghost use Rattle.jr_paint.specs.Lines.{line_size, next_lines_of};
 ghost use Rattle.jr_picture.specs.DecodedScan.{DecodedScan};
 ghost use Rattle.jr_picture.specs.Samples.{samples_of};
-ghost use Rattle.jr_rows.specs.MarkBytes.{HasMarkRoom, PutsBetween};
-ghost use Rattle.jr_rows.specs.Rows.{DecodesFirst, HasSampleRoom};
-ghost use Rattle.jr_rows.specs.SomeLines.{CountsBetween, PaintsLines, row_behind, row_with};
+ghost use Rattle.jr_rows.specs.MarkBytes.{HasMarkSpace, StoresBetween};
+ghost use Rattle.jr_rows.specs.Rows.{DecodesFirst, HasSampleSpace};
+ghost use Rattle.jr_rows.specs.SomeLines.{CountsBetween, PaintsLines, row_after, row_with};
 
 use crate::{Marked, Rows, SampleRow, shape_of};
 use jr_base::Memory;
@@ -21,7 +21,7 @@ fn rows_of(head: &Head, first: u32, end: u32) -> (u32, u32)
     requires some { first < end }
     requires inside { end ≤ head.now.height }
     ensures first { result.0 ≡ row_with head.now first }
-    ensures behind { result.1 ≡ row_behind head.now end }
+    ensures after { result.1 ≡ row_after head.now end }
     ensures some { result.0 < result.1 }
     ensures few { result.1 ≤ mcus_down head.now }
     ensures starts { result.0 * (8 * vertical_max head.now) ≤ first }
@@ -60,22 +60,22 @@ pub(crate) fn paint_between(
 ) -> Marked
     requires some { first < end }
     requires inside { end ≤ scan.now.head.height }
-    requires room { HasSampleRoom scan.now.head work.old }
+    requires space { HasSampleSpace scan.now.head work.old }
     requires pixels { length pixels.old ≡ (end - first) * line_size scan.now.head }
-    requires places { HasMarkRoom scan.now marks.old }
+    requires places { HasMarkSpace scan.now marks.old }
     ensures lines { (b : DecodedScan) → DecodesFirst scan.now (length scan.now.intervals) b → pixels.new ≡ next_lines_of scan.now.head (samples_of b) first (end - first) }
-    ensures counts { CountsBetween scan.now (row_with scan.now.head first) (row_behind scan.now.head end) result }
-    ensures puts { PutsBetween scan.now (row_with scan.now.head first) (row_behind scan.now.head end) marks.old marks.new }
+    ensures counts { CountsBetween scan.now (row_with scan.now.head first) (row_after scan.now.head end) result }
+    ensures stores { StoresBetween scan.now (row_with scan.now.head first) (row_after scan.now.head end) marks.old marks.new }
 {
     let head = scan.head();
     // By its contract a scan has the number of intervals that its header says.
     let _intervals = scan.intervals();
     let line = shape_of(head).line;
-    let (row, behind) = rows_of(head, first, end);
+    let (row, after) = rows_of(head, first, end);
     let part = FirstIntervals::of(scan, None);
     let mut rows = Rows::at(&part, row);
     let mut marked = Marked::none();
-    'rows: while rows.row() < behind {
+    'rows: while rows.row() < after {
         let row = rows.row();
         let (y, count) = lines_in(head, row, first, end);
         let more = rows.decode(&part, None, work, marks);
@@ -102,7 +102,7 @@ pub fn paint_scan_lines(
 ) -> Result<Marked, Memory>
     requires some { 0 < count }
     requires inside { first + count ≤ scan.now.head.height }
-    requires room { length pixels.old ≡ count * line_size scan.now.head }
+    requires space { length pixels.old ≡ count * line_size scan.now.head }
     ensures painted { IfOk result (PaintsLines scan.now first count pixels.new) }
     ensures memory { IfErr result (λ _. pixels.new ≡ pixels.old) }
 {

@@ -11,10 +11,10 @@ const SOUND: u8 = 1;
 const DAMAGED: u8 = 2;
 
 /// Stores the mark of interval `number` at its index if marks are asked for.
-pub fn put_mark(is_sound: bool, number: u32, marks: &mut [u8])
+pub fn write_mark(is_sound: bool, number: u32, marks: &mut [u8])
     requires { 0 < length marks.old → number < length marks.old }
     ensures long { length marks.new ≡ length marks.old }
-    ensures put { 0 < length marks.old → slice_index marks.new number ≡ mark_byte (cond is_sound Sound Damaged) }
+    ensures store { 0 < length marks.old → slice_index marks.new number ≡ mark_byte (cond is_sound Sound Damaged) }
     ensures kept { (k : ℕ) → k < number → slice_index marks.new k ≡ slice_index marks.old k }
 {
     if !marks.is_empty() {

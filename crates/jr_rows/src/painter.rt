@@ -16,7 +16,7 @@ pub trait RowPainter {
     /// them stays; an equally long buffer may replace all. Returns the marks of the intervals that end in the row.
     fn paint(&mut self, pixels: &mut Vec<u8>, from: usize, to: usize) -> Marked
         requires row { (at self.old).row < mcus_down (at self.old).scan.head }
-        requires room { to ≡ from + line_count (at self.old).scan.head (at self.old).row * line_size (at self.old).scan.head }
+        requires space { to ≡ from + line_count (at self.old).scan.head (at self.old).row * line_size (at self.old).scan.head }
         requires within { to ≤ length pixels.old.items }
         ensures moved { at self.new ≡ record (at self.old) { row = (at self.old).row + 1 } }
         ensures long { length pixels.new.items ≡ length pixels.old.items }

@@ -1,7 +1,7 @@
 //! The samples of a row of MCUs as lines of its components.
 
 ghost use Rattle.std.specs.Prelude.{◌≡◌, ◌≢◌, ℕ, ◌+◌, ◌*◌, ◌/◌, ◌%◌, ◌<◌, ◌≤◌, ◌^◌, [], length, slice_index, slice_index_or, None, IfOk};
-ghost use Rattle.jr_head.specs.Geometry.{IsLawful, blocks_before, blocks_of, components_of, mcus_across};
+ghost use Rattle.jr_head.specs.Geometry.{IsValid, blocks_before, blocks_of, components_of, mcus_across};
 ghost use Rattle.jr_piece.specs.Outcome.{unit_of};
 ghost use Rattle.jr_rows.specs.Bands.{unit_shown_of};
 ghost use Rattle.jr_rows.specs.Groups.{all_lines, group_of, groups_across, lines_before_component, unit_in, units_in};
@@ -56,9 +56,9 @@ fn row_of(unit: &[u8; 64], row: usize) -> [u8; 8]
 
 /// Stores the rows of samples of a data unit in groups of lines below one another.
 #[inline(always)]
-fn put_rows(groups: &mut [[u8; 8]], at: usize, across: usize, unit: &[u8; 64])
+fn store_rows(groups: &mut [[u8; 8]], at: usize, across: usize, unit: &[u8; 64])
     requires some { 0 < across }
-    requires room { at + 7 * across < length groups.old }
+    requires space { at + 7 * across < length groups.old }
     ensures rows { (row k : ℕ) → row < 8 → k < 8 → slice_index (slice_index_or groups.new (at + row * across) []) k ≡ slice_index unit.now (8 * row + k) }
     ensures others { (n : ℕ) → ((row : ℕ) → row < 8 → n ≢ at + row * across) → slice_index_or groups.new n [] ≡ slice_index_or groups.old n [] }
 {
@@ -69,7 +69,7 @@ fn put_rows(groups: &mut [[u8; 8]], at: usize, across: usize, unit: &[u8; 64])
 
 /// Stores data unit j of an MCU.
 #[inline(always)]
-fn put_unit(
+fn store_unit(
     head: &Head,
     groups: &mut [[u8; 8]],
     across: usize,
@@ -78,7 +78,7 @@ fn put_unit(
     j: usize,
     unit: &[u8; 64],
 )
-    requires room { HasGroups head.now across groups.old }
+    requires space { HasGroups head.now across groups.old }
     requires starts { AreStarts head.now starts.now }
     requires mcu { mcu < mcus_across head.now }
     requires unit { j < blocks_of head.now }
@@ -87,12 +87,12 @@ fn put_unit(
 {
     head.assert_invariant();
     let start = starts[j];
-    put_rows(groups, start.first + mcu * start.step, across, unit);
+    store_rows(groups, start.first + mcu * start.step, across, unit);
 }
 
 /// Returns the number of groups of a line.
 pub(crate) fn groups_across(head: &Head) -> u32
-    requires { IsLawful head.now }
+    requires { IsValid head.now }
     ensures value { result ≡ groups_across head.now }
     ensures few { result < 2 ^ 18 }
 {
@@ -101,14 +101,14 @@ pub(crate) fn groups_across(head: &Head) -> u32
 
 /// Makes an MCU black.
 fn blank_mcu(head: &Head, groups: &mut [[u8; 8]], across: usize, starts: &[UnitStart], mcu: usize)
-    requires room { HasGroups head.now across groups.old }
+    requires space { HasGroups head.now across groups.old }
     requires starts { AreStarts head.now starts.now }
     requires mcu { mcu < mcus_across head.now }
     ensures here { (j : ℕ) → j < blocks_of head.now → unit_in head.now groups.new mcu j ≡ unit_shown_of head.now j None 0 }
     ensures others { (m j : ℕ) → m < mcus_across head.now → j < blocks_of head.now → m ≢ mcu → unit_in head.now groups.new m j ≡ unit_in head.now groups.old m j }
 {
     for j in 0..head.order().len() {
-        put_unit(head, groups, across, starts, mcu, j, &blank_unit(head, j));
+        store_unit(head, groups, across, starts, mcu, j, &blank_unit(head, j));
     }
 }
 
@@ -120,7 +120,7 @@ fn blank_mcus(
     starts: &[UnitStart],
     first: usize,
 )
-    requires room { HasGroups head.now across groups.old }
+    requires space { HasGroups head.now across groups.old }
     requires starts { AreStarts head.now starts.now }
     ensures here { (m j : ℕ) → first ≤ m → m < mcus_across head.now → j < blocks_of head.now → unit_in head.now groups.new m j ≡ unit_shown_of head.now j None 0 }
     ensures kept { (m j : ℕ) → m < first → m < mcus_across head.now → j < blocks_of head.now → unit_in head.now groups.new m j ≡ unit_in head.now groups.old m j }
@@ -133,7 +133,7 @@ fn blank_mcus(
 
 /// Returns the number of lines of the components before c in a row of MCUs.
 pub(crate) fn lines_before_component(head: &Head, c: u32) -> u32
-    requires lawful { IsLawful head.now }
+    requires valid { IsValid head.now }
     requires component { c ≤ components_of head.now }
     ensures value { result ≡ lines_before_component head.now c }
     ensures few { result ≤ 32 * c }
@@ -147,7 +147,7 @@ pub(crate) fn lines_before_component(head: &Head, c: u32) -> u32
 
 /// Returns the number of data units of an MCU before component c.
 fn units_before(head: &Head, c: u32) -> u32
-    requires lawful { IsLawful head.now }
+    requires valid { IsValid head.now }
     requires component { c < components_of head.now }
     ensures value { result ≡ blocks_before head.now c }
 {
@@ -156,7 +156,7 @@ fn units_before(head: &Head, c: u32) -> u32
 
 /// Returns where data unit j of an MCU is, if a line has `across` groups.
 fn start_of(head: &Head, across: u32, j: u32) -> UnitStart
-    requires lawful { IsLawful head.now }
+    requires valid { IsValid head.now }
     requires across { across ≡ groups_across head.now }
     requires few { across < 2 ^ 18 }
     requires unit { j < blocks_of head.now }
@@ -201,10 +201,10 @@ impl RowLines {
 
     /// Transforms the blocks of the first `coded` MCUs of a row; the others are black.
     pub fn decode(&mut self, head: &Head, coded: u32, blocks: &[Coefficients])
-        requires room { HasLines head.now self.old }
+        requires space { HasLines head.now self.old }
         requires few { coded ≤ mcus_across head.now }
         requires blocks { coded * blocks_of head.now ≤ length blocks.now }
-        ensures room { HasLines head.now self.new }
+        ensures space { HasLines head.now self.new }
         ensures decoded { (k : ℕ) → k < coded * blocks_of head.now → slice_index_or (units_in head.now self.new.groups) k [] ≡ unit_of head.now blocks.now k }
         ensures blank { (k : ℕ) → coded * blocks_of head.now ≤ k → k < mcus_across head.now * blocks_of head.now → slice_index_or (units_in head.now self.new.groups) k [] ≡ unit_shown_of head.now (k % blocks_of head.now) None 0 }
     {
@@ -215,8 +215,8 @@ impl RowLines {
 
     /// Makes the MCUs of the row starting at `first` black; those before are kept.
     pub fn fill_blank(&mut self, head: &Head, first: u32)
-        requires room { HasLines head.now self.old }
-        ensures room { HasLines head.now self.new }
+        requires space { HasLines head.now self.old }
+        ensures space { HasLines head.now self.new }
         ensures kept { (k : ℕ) → k < first * blocks_of head.now → k < mcus_across head.now * blocks_of head.now → slice_index_or (units_in head.now self.new.groups) k [] ≡ slice_index_or (units_in head.now self.old.groups) k [] }
         ensures blank { (k : ℕ) → first * blocks_of head.now ≤ k → k < mcus_across head.now * blocks_of head.now → slice_index_or (units_in head.now self.new.groups) k [] ≡ unit_shown_of head.now (k % blocks_of head.now) None 0 }
     {
@@ -228,13 +228,13 @@ impl RowLines {
 }
 
 impl UnitSink for RowLines {
-    ghost has_room = { HasLines };
+    ghost has_space = { HasLines };
 
     ghost units = { λ h lines. units_in h lines.groups };
 
     #[inline(always)]
-    fn put(&mut self, head: &Head, mcu: usize, j: usize, samples: &[u8; 64]) {
+    fn store(&mut self, head: &Head, mcu: usize, j: usize, samples: &[u8; 64]) {
         let groups = &mut self.groups;
-        put_unit(head, groups, self.across, &self.starts, mcu, j, samples);
+        store_unit(head, groups, self.across, &self.starts, mcu, j, samples);
     }
 }

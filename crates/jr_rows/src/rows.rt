@@ -6,8 +6,8 @@ ghost use Rattle.jr_picture.specs.DecodedScan.{DecodedScan};
 ghost use Rattle.jr_rows.specs.Bands.{ShowsMcus};
 ghost use Rattle.jr_rows.specs.Cursors.{AreGuessesIn};
 ghost use Rattle.jr_rows.specs.Groups.{units_in};
-ghost use Rattle.jr_rows.specs.MarkBytes.{HasMarkRoom, PutsRow};
-ghost use Rattle.jr_rows.specs.Rows.{AreRead, AreRowsOf, CountsRow, DecodesFirst, HasSampleRoom};
+ghost use Rattle.jr_rows.specs.MarkBytes.{HasMarkSpace, StoresRow};
+ghost use Rattle.jr_rows.specs.Rows.{AreRead, AreRowsOf, CountsRow, DecodesFirst, HasSampleSpace};
 
 use crate::interval_guesses::IntervalGuesses;
 use crate::intervals::{read_mcus, skip_mcus};
@@ -120,7 +120,7 @@ impl Rows {
         requires rows { AreRowsOf part.now self.old }
         requires same { IfSome guesses (λ g. AreGuessesIn part.now.scan g.now) }
         requires row { self.old.row < mcus_down part.now.scan.head }
-        requires room { length blocks.old ≡ mcus_across part.now.scan.head * blocks_of part.now.scan.head }
+        requires space { length blocks.old ≡ mcus_across part.now.scan.head * blocks_of part.now.scan.head }
         ensures rows { AreRowsOf part.now self.new }
         ensures row { self.new.row ≡ self.old.row + 1 }
         ensures read { AreRead part.now.scan part.now.limit self.old.row blocks.new }
@@ -147,14 +147,14 @@ impl Rows {
         requires rows { AreRowsOf part.now self.old }
         requires same { IfSome guesses (λ g. AreGuessesIn part.now.scan g.now) }
         requires row { self.old.row < mcus_down part.now.scan.head }
-        requires room { HasSampleRoom part.now.scan.head work.old }
-        requires places { HasMarkRoom part.now.scan marks.old }
+        requires space { HasSampleSpace part.now.scan.head work.old }
+        requires places { HasMarkSpace part.now.scan marks.old }
         ensures rows { AreRowsOf part.now self.new }
         ensures row { self.new.row ≡ self.old.row + 1 }
-        ensures room { HasSampleRoom part.now.scan.head work.new }
+        ensures space { HasSampleSpace part.now.scan.head work.new }
         ensures units { (b : DecodedScan) → DecodesFirst part.now.scan part.now.limit b → ShowsMcus b (self.old.row * mcus_across part.now.scan.head) (units_in part.now.scan.head work.new.lines.groups) }
         ensures counts { CountsRow part.now.scan part.now.limit self.old.row result }
-        ensures puts { PutsRow part.now.scan part.now.limit self.old.row marks.old marks.new }
+        ensures stores { StoresRow part.now.scan part.now.limit self.old.row marks.old marks.new }
     {
         let head = part.scan().head();
         let per_mcu = head.order().len();

@@ -7,17 +7,17 @@ ghost use Rattle.jr_scan.specs.McuReader.{HasEnded};
 ghost use Rattle.jr_piece.specs.Units.{grey_unit};
 ghost use Rattle.jr_rows.specs.Bands.{samples_in};
 ghost use Rattle.jr_rows.specs.Groups.{units_in};
-ghost use Rattle.jr_rows.specs.Rows.{HasSampleRoom, PaintsRowLines, line_count};
+ghost use Rattle.jr_rows.specs.Rows.{HasSampleSpace, PaintsRowLines, line_count};
 ghost use Rattle.jr_rows.specs.WholeMcus.{DecodesMcus};
 
 use crate::band::Band;
 use crate::painting::paint_row;
 use crate::row_lines::RowLines;
 use crate::shape::mcus_at_once;
-use crate::whole_mcus::{decode_whole, put_grey};
+use crate::whole_mcus::{decode_whole, write_grey};
 use jr_base::{Coefficients, Memory};
 use jr_head::Head;
-use jr_paint::{line_room, paint_lines};
+use jr_paint::{line_space, paint_lines};
 use jr_scan::McuReader;
 use std::alloc::Global;
 use std::marker::Model;
@@ -29,7 +29,7 @@ pub struct SampleRow {
     pub(crate) blocks: Vec<Coefficients>,
     pub(crate) lines: RowLines,
     /// For painting.
-    room: Vec<u8>,
+    space: Vec<u8>,
 }
 
 impl Model for SampleRow {
@@ -38,22 +38,22 @@ impl Model for SampleRow {
 
     ghost Value = { SampleRowValue };
 
-    ghost view = { λ r. record { blocks = r.blocks.items; lines = r.lines; room = length r.room.items } };
+    ghost view = { λ r. record { blocks = r.blocks.items; lines = r.lines; space = length r.space.items } };
 }
 
 impl SampleRow {
     /// Allocates memory for a row of an image with this header.
     pub fn open(alloc: Global, head: &Head) -> Result<SampleRow, Memory>
-        ensures { IfOk result (HasSampleRoom head.now) }
+        ensures { IfOk result (HasSampleSpace head.now) }
     {
         let per_mcu = head.order().len();
         let blocks = vec![in alloc; Coefficients::zeros(); mcus_at_once(head) as usize * per_mcu]?;
         let lines = RowLines::open(alloc, head)?;
-        let room = vec![in alloc; 0; line_room(head)]?;
+        let space = vec![in alloc; 0; line_space(head)]?;
         Ok(SampleRow {
             blocks,
             lines,
-            room,
+            space,
         })
     }
 
@@ -62,8 +62,8 @@ impl SampleRow {
     pub fn decode_whole(&mut self, head: &Head, reader: &mut McuReader<'_>, done: u32) -> u32
         requires head { reader.old.run.interval.head ≡ head.now }
         requires within { done < mcus_across head.now }
-        requires room { HasSampleRoom head.now self.old }
-        ensures room { HasSampleRoom head.now self.new }
+        requires space { HasSampleSpace head.now self.old }
+        ensures space { HasSampleSpace head.now self.new }
         ensures run { reader.new.run ≡ reader.old.run }
         ensures mcu { reader.new.mcu ≡ reader.old.mcu + result }
         ensures few { done + result ≤ mcus_across head.now }
@@ -76,40 +76,40 @@ impl SampleRow {
 
     /// Makes MCUs of a row after the first `done` grey: as many as are asked for, and at most those that are decoded at
     /// once. Returns their number.
-    pub fn put_grey(&mut self, head: &Head, done: u32, mcus: u32) -> u32
+    pub fn write_grey(&mut self, head: &Head, done: u32, mcus: u32) -> u32
         requires some { 0 < mcus }
         requires within { done + mcus ≤ mcus_across head.now }
-        requires room { HasSampleRoom head.now self.old }
-        ensures room { HasSampleRoom head.now self.new }
+        requires space { HasSampleSpace head.now self.old }
+        ensures space { HasSampleSpace head.now self.new }
         ensures some { 0 < result }
         ensures few { result ≤ mcus }
         ensures kept { (k : ℕ) → k < done * blocks_of head.now → slice_index_or (units_in head.now self.new.lines.groups) k [] ≡ slice_index_or (units_in head.now self.old.lines.groups) k [] }
         ensures grey { (k : ℕ) → k < result * blocks_of head.now → slice_index_or (units_in head.now self.new.lines.groups) (done * blocks_of head.now + k) [] ≡ grey_unit }
     {
-        put_grey(head, done, mcus, &mut self.blocks, &mut self.lines)
+        write_grey(head, done, mcus, &mut self.blocks, &mut self.lines)
     }
 
     /// Paints lines of the image of which each row of MCUs has the samples of the row that is decoded.
     pub fn paint_some(&mut self, head: &Head, y: u32, count: u32, pixels: &mut [u8])
-        requires room { HasSampleRoom head.now self.old }
+        requires space { HasSampleSpace head.now self.old }
         requires inside { y + count ≤ head.now.height }
         requires pixels { length pixels.old ≡ count * line_size head.now }
-        ensures room { HasSampleRoom head.now self.new }
+        ensures space { HasSampleSpace head.now self.new }
         ensures kept { self.new.lines ≡ self.old.lines }
         ensures lines { pixels.new ≡ next_lines_of head.now (samples_in (record { head = head.now; groups = self.old.lines.groups })) y count }
     {
         let band = Band::of(head, &self.lines);
-        paint_lines(&band, y, count, &mut self.room, pixels);
+        paint_lines(&band, y, count, &mut self.space, pixels);
     }
 
     /// Paints the lines of the row of MCUs that is decoded.
     pub fn paint_row(&mut self, head: &Head, row: u32, pixels: &mut [u8])
         requires row { row < mcus_down head.now }
-        requires room { HasSampleRoom head.now self.old }
+        requires space { HasSampleSpace head.now self.old }
         requires pixels { length pixels.old ≡ line_count head.now row * line_size head.now }
-        ensures room { HasSampleRoom head.now self.new }
+        ensures space { HasSampleSpace head.now self.new }
         ensures lines { PaintsRowLines head.now row self.old.lines.groups pixels.new }
     {
-        paint_row(head, &self.lines, row, &mut self.room, pixels);
+        paint_row(head, &self.lines, row, &mut self.space, pixels);
     }
 }

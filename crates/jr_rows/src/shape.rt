@@ -3,13 +3,13 @@
 ghost use Rattle.std.specs.Prelude.{max, ◌≡◌, ◌+◌, ◌-◌, ◌*◌, ◌<◌, ◌≤◌, min, Option, Some, OnSome, IfSome};
 ghost use Rattle.jr_head.specs.Geometry.{mcus_across, mcus_down, mcus_of, vertical_max};
 ghost use Rattle.jr_paint.specs.Lines.{line_size};
-ghost use Rattle.jr_paint.specs.declared.header.TheConstants.{HEADER_ROOM};
+ghost use Rattle.jr_paint.specs.declared.header.TheConstants.{HEADER_SPACE};
 ghost use Rattle.jr_paint.specs.declared.netpbm.TheConstants.{BATCH};
 ghost use Rattle.jr_rows.specs.Rows.{coded_before, coded_in, mcus_before, first_line, line_count};
 ghost use Rattle.jr_rows.specs.RowLines.{mcus_at_once};
 
 use jr_head::Head;
-use jr_paint::{BATCH, HEADER_ROOM, bytes_of_line, bytes_to};
+use jr_paint::{BATCH, HEADER_SPACE, bytes_of_line, bytes_to};
 use jr_scan::Scan;
 
 /// Maximum number of blocks that are read before they are transformed: 8 KB, which stay in the cache.
@@ -96,14 +96,14 @@ pub fn bytes_of_row(head: &Head) -> usize
 
 /// Returns the size in bytes of the buffer that an image is written from: that of a write, or of the header and all
 /// lines if they need less, but at least that of a row of MCUs.
-pub fn room_for(head: &Head) -> usize
-    ensures value { result ≡ max (min BATCH (HEADER_ROOM + head.now.height * line_size head.now)) (8 * vertical_max head.now * line_size head.now) }
+pub fn space_for(head: &Head) -> usize
+    ensures value { result ≡ max (min BATCH (HEADER_SPACE + head.now.height * line_size head.now)) (8 * vertical_max head.now * line_size head.now) }
     ensures lines { 8 * vertical_max head.now * line_size head.now ≤ result }
-    ensures header { HEADER_ROOM ≤ result }
+    ensures header { HEADER_SPACE ≤ result }
 {
     let height = head.height();
     let lines = bytes_to(height, height, shape_of(head).line);
-    BATCH.min(HEADER_ROOM + lines).max(bytes_of_row(head))
+    BATCH.min(HEADER_SPACE + lines).max(bytes_of_row(head))
 }
 
 /// Returns the number of MCUs of the first n intervals of a scan.

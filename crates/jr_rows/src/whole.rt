@@ -23,7 +23,7 @@ pub fn paint_scan(
     pixels: &mut [u8],
     marks: &mut [u8],
 ) -> Result<Counts, Memory>
-    requires room { length pixels.old ≡ scan.now.head.height * line_size scan.now.head }
+    requires space { length pixels.old ≡ scan.now.head.height * line_size scan.now.head }
     requires places { 0 < length marks.old → length marks.old ≡ length scan.now.intervals }
     ensures painted { IfOk result (λ c. PaintsWhole scan.now pixels.new marks.old marks.new c) }
     ensures pixels { IfErr result (λ _. pixels.new ≡ pixels.old) }

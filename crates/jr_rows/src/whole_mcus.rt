@@ -24,7 +24,7 @@ fn read_whole(
 ) -> u32
     requires head { reader.old.run.interval.head ≡ head.now }
     requires some { 0 < most }
-    requires room { length blocks.old ≡ most * blocks_of head.now }
+    requires space { length blocks.old ≡ most * blocks_of head.now }
     ensures run { reader.new.run ≡ reader.old.run }
     ensures mcu { reader.new.mcu ≡ reader.old.mcu + result }
     ensures few { result ≤ most }
@@ -49,8 +49,8 @@ pub(crate) fn decode_whole(
     requires head { reader.old.run.interval.head ≡ head.now }
     requires within { done < mcus_across head.now }
     requires near { length blocks.old ≡ mcus_at_once head.now * blocks_of head.now }
-    requires room { HasLines head.now lines.old }
-    ensures room { HasLines head.now lines.new }
+    requires space { HasLines head.now lines.old }
+    ensures space { HasLines head.now lines.new }
     ensures run { reader.new.run ≡ reader.old.run }
     ensures mcu { reader.new.mcu ≡ reader.old.mcu + result }
     ensures few { done + result ≤ mcus_across head.now }
@@ -61,8 +61,8 @@ pub(crate) fn decode_whole(
     let per_mcu = head.order().len();
     let at_once = mcus_at_once(head);
     let most = at_once.min(shape_of(head).across - done);
-    let room = units_to(most, at_once, per_mcu);
-    let whole = read_whole(head, reader, most, &mut blocks[..room]);
+    let space = units_to(most, at_once, per_mcu);
+    let whole = read_whole(head, reader, most, &mut blocks[..space]);
     let read = units_to(whole, at_once, per_mcu);
     transform_blocks(head, done, &blocks[..read], lines);
     whole
@@ -70,7 +70,7 @@ pub(crate) fn decode_whole(
 
 /// Makes MCUs of a row after the first `done` grey: as many as are asked for, and as fit into `blocks`. Returns their
 /// number.
-pub(crate) fn put_grey(
+pub(crate) fn write_grey(
     head: &Head,
     done: u32,
     mcus: u32,
@@ -80,8 +80,8 @@ pub(crate) fn put_grey(
     requires some { 0 < mcus }
     requires within { done + mcus ≤ mcus_across head.now }
     requires near { length blocks.old ≡ mcus_at_once head.now * blocks_of head.now }
-    requires room { HasLines head.now lines.old }
-    ensures room { HasLines head.now lines.new }
+    requires space { HasLines head.now lines.old }
+    ensures space { HasLines head.now lines.new }
     ensures some { 0 < result }
     ensures few { result ≤ mcus }
     ensures kept { (k : ℕ) → k < done * blocks_of head.now → slice_index_or (units_in head.now lines.new.groups) k [] ≡ slice_index_or (units_in head.now lines.old.groups) k [] }

@@ -6,17 +6,17 @@ ghost use Rattle.jr_head.specs.Geometry.{vertical_max};
 ghost use Rattle.jr_scan.specs.ScanValue.{intervals_of};
 ghost use Rattle.jr_scan.specs.FirstIntervalsValue.{least};
 ghost use Rattle.jr_paint.specs.Lines.{line_size};
-ghost use Rattle.jr_paint.specs.declared.header.TheConstants.{HEADER_ROOM};
-ghost use Rattle.jr_rows.specs.Rows.{CountsRows, HasSampleRoom};
+ghost use Rattle.jr_paint.specs.declared.header.TheConstants.{HEADER_SPACE};
+ghost use Rattle.jr_rows.specs.Rows.{CountsRows, HasSampleSpace};
 ghost use Rattle.jr_picture.specs.Writing.{WritesPicture, BeginsPicture};
 ghost use Rattle.jr_rows.specs.Stream.{SendsPicture, HasCounts};
 
 use crate::announcing::announce;
 use crate::painter::RowPainter;
-use crate::{Marked, Rows, SampleRow, lines_of, room_for, shape_of};
+use crate::{Marked, Rows, SampleRow, lines_of, shape_of, space_for};
 use jr_base::{Tally, WriteFault, write_all};
 use jr_head::Head;
-use jr_paint::{make_room, put_header};
+use jr_paint::{make_space, write_header};
 use jr_picture::{Counts, Gate, PictureError};
 use jr_scan::{FirstIntervals, Scan};
 use std::alloc::Global;
@@ -37,20 +37,20 @@ pub fn write_rows<W: Write, P: RowPainter>(
     requires intervals { intervals_of head.now < 2 ^ 32 }
     requires unfailed { has_failed out.old ≡ false }
     requires pixels { 8 * vertical_max head.now * line_size head.now ≤ length pixels.old.items }
-    requires header { HEADER_ROOM ≤ length pixels.old.items }
+    requires header { HEADER_SPACE ≤ length pixels.old.items }
     ensures counts { IfOk result (CountsRows (P.at painter.old).scan (P.at painter.old).limit) }
     ensures failed { has_failed out.new ≡ is_err result }
     ensures sent { SendsPicture W.contents out.old out.new result (P.at painter.old).scan (P.at painter.old).limit }
 {
     head.assert_invariant();
     let shape = shape_of(head);
-    let mut filled = put_header(head, pixels);
+    let mut filled = write_header(head, pixels);
     let mut marked = Marked::none();
     let mut row = 0;
     'rows: while row < shape.down {
         let (_y, count) = lines_of(head, row);
         let size = count as usize * shape.line;
-        filled = make_room(pixels, filled, size, out)?;
+        filled = make_space(pixels, filled, size, out)?;
         let end = filled + size;
         let more = painter.paint(pixels, filled, end);
         marked = marked.with(more);
@@ -87,20 +87,20 @@ struct Alone<'a, G: Gate> {
 }
 
 impl<'a, G: Gate> Model for Alone<'a, G> {
-    ghost use Rattle.jr_rows.specs.Rows.{AreRowsOf, HasSampleRoom};
+    ghost use Rattle.jr_rows.specs.Rows.{AreRowsOf, HasSampleSpace};
     ghost use Rattle.jr_rows.specs.RowsValue.{RowsValue};
 
     ghost Value = { RowsValue };
 
     ghost view = { λ a. record { scan = a.part.scan; limit = a.part.limit; row = a.rows.row } };
 
-    ghost invariant = { λ a. AreRowsOf a.part a.rows × HasSampleRoom a.part.scan.head a.work };
+    ghost invariant = { λ a. AreRowsOf a.part a.rows × HasSampleSpace a.part.scan.head a.work };
 }
 
 impl<'a, G: Gate> Alone<'a, G> {
     /// Returns a painter that has painted nothing yet of the part of a scan that is decoded.
     fn of(part: FirstIntervals<'a>, work: SampleRow, gate: &'a G) -> Alone<'a, G>
-        requires room { HasSampleRoom part.scan.head work }
+        requires space { HasSampleSpace part.scan.head work }
         ensures { result ≡ record { scan = part.entry.scan; limit = part.entry.limit; row = 0 } }
     {
         let rows = Rows::of(&part);
@@ -146,7 +146,7 @@ pub fn write_scan<W: Write, G: Gate>(
     let Ok(work) = SampleRow::open(alloc, scan.head()) else {
         return Err(PictureError::Memory);
     };
-    let Ok(mut pixels) = vec![in alloc; 0; room_for(scan.head())] else {
+    let Ok(mut pixels) = vec![in alloc; 0; space_for(scan.head())] else {
         return Err(PictureError::Memory);
     };
     let part = FirstIntervals::of(scan, first);

@@ -4,7 +4,7 @@ use Rattle.std.specs.Prelude.{ℤ}
 use Rattle.std.specs.List.{All}
 use Rattle.std.proofs.lemmas.Bool.{cases_lt}
 use Rattle.std.proofs.Math.Seq.{drop-append_seam, take-append_seam}
-use Rattle.jr_head.specs.Geometry.{order_of, IsLawful}
+use Rattle.jr_head.specs.Geometry.{order_of, IsValid}
 use Rattle.jr_scan.specs.declared.place.Place.{Place}
 use Rattle.jr_scan.specs.declared.place.RunEnd.{RunEnd}
 use Rattle.jr_scan.specs.declared.place.RunEnd.TheVariants.{AllRead, NoMcu}
@@ -48,8 +48,8 @@ abbrev read : (r : RunOf) (zs : List (List ℤ)) (to : Place) (end : RunEnd) →
 read r zs to end is = record { blocks = zs; to = to; end = end; is = is }
 
 -- a reader that has ended has read the blocks of its run, if this has all its MCUs
-pub all_read : OneRun → (r : McuReaderValue) (zs ys : List (List ℤ)) (to : Place) → IsLawful r.run.interval.head → IsRun r.run ys to AllRead → HasRead r zs → HasEnded r → zs ≡ ys
-all_read one r zs ys to lawful run has ended =
+pub all_read : OneRun → (r : McuReaderValue) (zs ys : List (List ℤ)) (to : Place) → IsValid r.run.interval.head → IsRun r.run ys to AllRead → HasRead r zs → HasEnded r → zs ≡ ys
+all_read one r zs ys to valid run has ended =
     let s = has.run in
     let count : s.count ≡ r.mcu = s.ends in
     elim (cases_lt r.mcu r.run.mcus) [
@@ -57,17 +57,17 @@ all_read one r zs ys to lawful run has ended =
         | inl full ↦ absurd (omega (arith, full, lt))
         | inr none ↦
             let here : IsRun r.run zs r.place NoMcu = record { count = s.count; few = omega (arith, count, lt); taken = s.taken; mcus = s.mcus; spelled = s.spelled; bit = s.bit; predictions = s.predictions; ends = (omega (arith, count, lt), none) } in
-            let e : NoMcu ≡ AllRead = (one r.run (read r.run zs r.place NoMcu here) (read r.run ys to AllRead run) lawful).2 in
+            let e : NoMcu ≡ AllRead = (one r.run (read r.run zs r.place NoMcu here) (read r.run ys to AllRead run) valid).2 in
             absurd (let z : NoMcu ≡ AllRead = e in cc)
       ]
       | inr ge ↦
           let here : IsRun r.run zs r.place AllRead = record { count = s.count; few = omega (arith, count, has.few); taken = s.taken; mcus = s.mcus; spelled = s.spelled; bit = s.bit; predictions = s.predictions; ends = omega (arith, count, ge, has.few) } in
-          (one r.run (read r.run zs r.place AllRead here) (read r.run ys to AllRead run) lawful).0
+          (one r.run (read r.run zs r.place AllRead here) (read r.run ys to AllRead run) valid).0
     ]
 
 -- if no whole MCU follows, the prefix is the longest
-stuck : OneRun → ShorterFront → (i : IntervalValue) (k : ℕ) (zs : List (List ℤ)) (to : Place) → IsLawful i.head → IsRun (run_from i start_of_interval k) zs to AllRead → HasNoMcu i to → k ≤ i.mcus → LongestFront i k zs
-stuck one shorter i k zs to lawful r none few = record { front = front_of_run i k zs to r few; longest = λ j ys f. most j ys f }
+stuck : OneRun → ShorterFront → (i : IntervalValue) (k : ℕ) (zs : List (List ℤ)) (to : Place) → IsValid i.head → IsRun (run_from i start_of_interval k) zs to AllRead → HasNoMcu i to → k ≤ i.mcus → LongestFront i k zs
+stuck one shorter i k zs to valid r none few = record { front = front_of_run i k zs to r few; longest = λ j ys f. most j ys f }
   where
     most : (j : ℕ) (ys : List (List ℤ)) → Front i j ys → j ≤ k
     most j ys f = elim (cases_lt k j) [
@@ -77,7 +77,7 @@ stuck one shorter i k zs to lawful r none few = record { front = front_of_run i 
           let count : r.count ≡ k = r.ends in
           let here : IsRun (run_from i start_of_interval (k + 1)) zs to NoMcu = record { count = r.count; few = omega (arith, count); taken = r.taken; mcus = r.mcus; spelled = r.spelled; bit = r.bit; predictions = r.predictions; ends = (omega (arith, count), none) } in
           let more = run_from i start_of_interval (k + 1) in
-          let e : NoMcu ≡ AllRead = (one more (read more zs to NoMcu here) (read more _ there.0 AllRead there.1) lawful).2 in
+          let e : NoMcu ≡ AllRead = (one more (read more zs to NoMcu here) (read more _ there.0 AllRead there.1) valid).2 in
           absurd (let z : NoMcu ≡ AllRead = e in cc)
     ]
 
@@ -107,9 +107,9 @@ at_start i = record {
 }
 
 -- the first MCUs of an interval, and those of the run after them
-module _ (one : OneRun) (meet : RunsMeet) (shorter : ShorterFront) (i : IntervalValue) (lawful : IsLawful i.head) (first : ℕ) (zs : List (List ℤ)) (p : Place) (next : IsNext i first zs p) (n m : ℕ) (ys : List (List ℤ)) (here : FirstMcus (run_from i p m) n ys) (few : first + n ≤ i.mcus) where
+module _ (one : OneRun) (meet : RunsMeet) (shorter : ShorterFront) (i : IntervalValue) (valid : IsValid i.head) (first : ℕ) (zs : List (List ℤ)) (p : Place) (next : IsNext i first zs p) (n m : ℕ) (ys : List (List ℤ)) (here : FirstMcus (run_from i p m) n ys) (few : first + n ≤ i.mcus) where
   joined : IsRun (run_from i start_of_interval (first + n)) (zs ++ ys) here.to AllRead
-  joined = meet i start_of_interval first n (read _ zs p AllRead next.run) (read _ ys here.to AllRead here.run) lawful refl
+  joined = meet i start_of_interval first n (read _ zs p AllRead next.run) (read _ ys here.to AllRead here.run) valid refl
 
   pub front : Front i (first + n) (zs ++ ys)
   front = front_of_run i (first + n) (zs ++ ys) here.to joined few
@@ -120,17 +120,17 @@ module _ (one : OneRun) (meet : RunsMeet) (shorter : ShorterFront) (i : Interval
       record { all = zs ++ ys; front = front; last = sym (ap (λ (k : ℕ). drop k (zs ++ ys)) (sym long) ∙ drop-append_seam zs ys) }
 
   pub longest : n < m → LongestFront i (first + n) (zs ++ ys)
-  longest lt = stuck one shorter i (first + n) (zs ++ ys) here.to lawful joined (here.none lt) few
+  longest lt = stuck one shorter i (first + n) (zs ++ ys) here.to valid joined (here.none lt) few
 
   pub going : (q : Place) → IsRun (run_from i p n) ys q AllRead → CanReadFrom i q → IsNext i (first + n) (zs ++ ys) q
-  going q r can = record { run = meet i start_of_interval first n (read _ zs p AllRead next.run) (read _ ys q AllRead r) lawful refl; can = can }
+  going q r can = record { run = meet i start_of_interval first n (read _ zs p AllRead next.run) (read _ ys q AllRead r) valid refl; can = can }
 
   -- the next position is this one, or no further MCU is whole
   pub after : (q : Option Place) → first + m ≤ i.mcus → ((x : Place) → q ≡ Some x → IsRun (run_from i p n) ys x AllRead) → ((x : Place) → q ≡ Some x → CanReadFrom i x) → (q ≡ None → n < m) → IsPlaceAfter i (first + n) q
-  after q room there can none = record {
+  after q space there can none = record {
     few = few;
     next = λ x e. (zs ++ ys, going x (there x e) (can x e));
-    none = λ e. let lt = none e in (first + n, zs ++ ys, omega arith, omega (arith, lt, room), longest lt);
+    none = λ e. let lt = none e in (first + n, zs ++ ys, omega arith, omega (arith, lt, space), longest lt);
   }
 
   -- fewer than are asked for are taken only if no further one follows

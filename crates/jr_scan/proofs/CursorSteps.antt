@@ -4,14 +4,14 @@ use Rattle.std.specs.Prelude.{ℤ}
 use Rattle.std.proofs.lemmas.Bool.{cases_lt}
 use Rattle.std.proofs.lemmas.List.{get_or-drop, get_or-take, get_or_default, get_or_past}
 use Rattle.std.proofs.Math.Nat.{add-mul, mul-le-mul_right}
-use Rattle.jr_head.specs.Geometry.{IsLawful, order_of}
+use Rattle.jr_head.specs.Geometry.{IsValid, order_of}
 use Rattle.jr_scan.specs.declared.place.Place.{Place}
 use Rattle.jr_scan.specs.declared.place.RunEnd.TheVariants.{AllRead}
 use Rattle.jr_scan.specs.IntervalValue.{IntervalValue}
-use Rattle.jr_scan.specs.Mcus.{Decodes, Front, HasDecoding, HasLongestFront, HasNoDecoding, LongestFront, TellsSound, units_before}
+use Rattle.jr_scan.specs.Mcus.{Decodes, Front, HasDecoding, HasLongestFront, HasNoDecoding, LongestFront, ReportsSound, units_before}
 use Rattle.jr_scan.specs.McuReader.{HasEnded, HasRead, McuReaderValue}
 use Rattle.jr_scan.specs.Run.{IsRun, RunOf, left_at, run_from, start_of_interval, whole_run, CanReadFrom, FirstMcus, IsNext}
-use Rattle.jr_scan.proofs.McuReaders.{left_is, no_room}
+use Rattle.jr_scan.proofs.McuReaders.{left_is, no_space}
 use Rattle.jr_scan.specs.Cursors.{IsPlaceAfter, TakesMcus, zero_block}
 use Rattle.jr_scan.proofs.ScanLaws as laws
 use Rattle.jr_scan.proofs.CursorRuns as runs
@@ -27,7 +27,7 @@ pub record GoesOn (i : IntervalValue) (p : Place) (m n : ℕ) (ys : List (List �
   pub ended : n < m → HasEnded r'
 
 -- the MCUs that are taken starting at a position, and the next position
-module _ (i : IntervalValue) (lawful : IsLawful i.head) (first m n : ℕ) (p : Place) (zs : List (List ℤ)) (next : IsNext i first zs p) (few : first + m ≤ i.mcus) (most : n ≤ m) (ys : List (List ℤ)) (r r' : McuReaderValue) (on : GoesOn i p m n ys r r')
+module _ (i : IntervalValue) (valid : IsValid i.head) (first m n : ℕ) (p : Place) (zs : List (List ℤ)) (next : IsNext i first zs p) (few : first + m ≤ i.mcus) (most : n ≤ m) (ys : List (List ℤ)) (r r' : McuReaderValue) (on : GoesOn i p m n ys r r')
     (q : Option Place) (there : (x : Place) → q ≡ Some x → x ≡ r'.place) (can : (x : Place) → q ≡ Some x → CanReadFrom r'.run.interval x) (none : q ≡ None → n < m) where
   here : FirstMcus (run_from i p m) n ys
   here = runs.passed_part r r' i i p m n ys refl on.run on.start on.run' on.mcu on.read on.ended
@@ -39,16 +39,16 @@ module _ (i : IntervalValue) (lawful : IsLawful i.head) (first m n : ℕ) (p : P
   after =
       let run = runs.passed_place r r' i i p m n ys refl on.run on.start on.run' on.mcu on.read in
       let own : r'.run.interval ≡ i = ap (λ (o : RunOf). o.interval) (on.run' ∙ on.run) in
-      runs.after laws.one_run laws.runs_meet laws.shorter_front i lawful first zs p next n m ys here fewer q few
+      runs.after laws.one_run laws.runs_meet laws.shorter_front i valid first zs p next n m ys here fewer q few
       (λ x e. subst (λ (y : Place). IsRun (run_from i p n) ys y AllRead) (sym (there x e)) run) (λ x e. subst (λ (v : IntervalValue). CanReadFrom v x) own (can x e)) none
 
   pub takes : (all : ℕ) → m ≡ min all (i.mcus - first) → TakesMcus i first p all n ys q
-  takes all asked = runs.takes laws.one_run laws.runs_meet laws.shorter_front i lawful first zs p next n m ys here fewer all asked q none
+  takes all asked = runs.takes laws.one_run laws.runs_meet laws.shorter_front i valid first zs p next n m ys here fewer all asked q none
 
 -- no more are taken where the bits can code no more
-pub takes_all : (i : IntervalValue) → IsLawful i.head → (first : ℕ) (p : Place) (zs : List (List ℤ)) → IsNext i first zs p → (most m coded n : ℕ) (ys : List (List ℤ)) (q : Option Place) → m ≡ min most (i.mcus - first) → n ≤ coded
+pub takes_all : (i : IntervalValue) → IsValid i.head → (first : ℕ) (p : Place) (zs : List (List ℤ)) → IsNext i first zs p → (most m coded n : ℕ) (ys : List (List ℤ)) (q : Option Place) → m ≡ min most (i.mcus - first) → n ≤ coded
     → ((k : ℕ) (xs : List (List ℤ)) (to : Place) → IsRun (run_from i p k) xs to AllRead → k ≤ m → k ≤ coded) → TakesMcus i first p coded n ys q → TakesMcus i first p most n ys q
-takes_all i lawful first p zs next most m coded n ys q asked few enough t =
+takes_all i valid first p zs next most m coded n ys q asked few enough t =
     record {
       are = t.are;
       to = t.to;
@@ -58,8 +58,8 @@ takes_all i lawful first p zs next most m coded n ys q asked few enough t =
         | inr full ↦ elim (cases_lt n m) [
           | inl more ↦
               let within : t.to.bit ≤ 8 * length i.bytes = omega (arith, next.can.0, t.run.bit, ap length t.run.spelled, length-append t.run.taken (left_at i t.to), left_is i p) in
-              let none = no_room i p t.to n m coded ys lawful within t.run enough full more in
-              (_, runs.longest laws.one_run laws.runs_meet laws.shorter_front i lawful first zs p next n m ys (record { to = t.to; run = t.run; none = λ less. none }) t.are.front.at_most more)
+              let none = no_space i p t.to n m coded ys valid within t.run enough full more in
+              (_, runs.longest laws.one_run laws.runs_meet laws.shorter_front i valid first zs p next n m ys (record { to = t.to; run = t.run; none = λ less. none }) t.are.front.at_most more)
           | inr all ↦ (t.are.all, runs.whole i (first + n) t.are.all t.are.front (omega (arith, t.are.front.at_most, all, asked, lt)))
         ]
       ];
@@ -132,7 +132,7 @@ pub all_decode : (i : IntervalValue) (first : ℕ) (zs : List (List ℤ)) → fi
 all_decode i first zs all d front = subst (Decodes i) (laws.one_front i i.mcus d.0 zs (whole_longest i d.0 d.1).front (subst (λ (k : ℕ). Front i k zs) all front)) d.1
 
 -- if all MCUs are whole the interval has a decoding, provided that fewer than eight bits are left
-module _ (i : IntervalValue) (lawful : IsLawful i.head) (mcu : ℕ) (place : Option Place) (at : IsPlaceAfter i mcu place) (p : Place) (is : place ≡ Some p) (all : mcu ≡ i.mcus) where
+module _ (i : IntervalValue) (valid : IsValid i.head) (mcu : ℕ) (place : Option Place) (at : IsPlaceAfter i mcu place) (p : Place) (is : place ≡ Some p) (all : mcu ≡ i.mcus) where
   abbrev blocks : List (List ℤ)
   blocks = (at.next p is).0
 
@@ -147,9 +147,9 @@ module _ (i : IntervalValue) (lawful : IsLawful i.head) (mcu : ℕ) (place : Opt
       let w = (laws.whole_run i ys).0 d in
       let to = w.0 in
       let few = w.2 in
-      let same : p ≡ to = (laws.one_run (whole_run i) (record { blocks = blocks; to = p; end = AllRead; is = mine }) (record { blocks = ys; to = to; end = AllRead; is = w.1 }) lawful).1 in
+      let same : p ≡ to = (laws.one_run (whole_run i) (record { blocks = blocks; to = p; end = AllRead; is = mine }) (record { blocks = ys; to = to; end = AllRead; is = w.1 }) valid).1 in
       many (omega (arith, left_is i p, ap (λ (x : Place). length (left_at i x)) same, few))
 
-  pub tells_there : (b : Bool) → (b ≡ true → 8 * length i.bytes - p.bit < 8) → (b ≡ false → 8 * length i.bytes - p.bit < 8 → ⊥) → TellsSound b i
-  tells_there true few many = (blocks, sound_there (few refl))
-  tells_there false few many = bits_there (many refl)
+  pub reports_there : (b : Bool) → (b ≡ true → 8 * length i.bytes - p.bit < 8) → (b ≡ false → 8 * length i.bytes - p.bit < 8 → ⊥) → ReportsSound b i
+  reports_there true few many = (blocks, sound_there (few refl))
+  reports_there false few many = bits_there (many refl)

@@ -22,22 +22,22 @@ pub front_less : (i : IntervalValue) (j k : ℕ) (zs : List (List ℤ)) → j �
 front_less i j k zs le f =
     let m = j * length (order_of i.head) in
     let most : m ≤ k * length (order_of i.head) = mul-le-mul_right (length (order_of i.head)) le in
-    let room : m ≤ length zs = omega (arith, f.mcus.0) in
-    let b = blocks_front i.head no_predictions zs (bits i.bytes) f.taken f.rest m f.mcus.1 f.spelled room in
-    record { at_most = omega (arith, f.at_most); taken = b.0; rest = b.1; mcus = (length-take-le m zs room, b.2); spelled = b.3 }
+    let space : m ≤ length zs = omega (arith, f.mcus.0) in
+    let b = blocks_front i.head no_predictions zs (bits i.bytes) f.taken f.rest m f.mcus.1 f.spelled space in
+    record { at_most = omega (arith, f.at_most); taken = b.0; rest = b.1; mcus = (length-take-le m zs space, b.2); spelled = b.3 }
 
 -- the empty list of blocks is a prefix
 pub front_none : (i : IntervalValue) → Front i 0 []
 front_none i = record { at_most = omega arith; taken = []; rest = bits i.bytes; mcus = (omega arith, no_blocks i.head no_predictions); spelled = refl }
 
 -- if the interval has a decoding, the reader reports it
-pub told : (i : IntervalValue) (ys : List (List ℤ)) (b : Bool) → (b ≡ false → HasNoDecoding i) → Decodes i ys → IsTrue b
-told i ys b damaged d = go b damaged
+pub stated : (i : IntervalValue) (ys : List (List ℤ)) (b : Bool) → (b ≡ false → HasNoDecoding i) → Decodes i ys → IsTrue b
+stated i ys b damaged d = go b damaged
   where
     go : (b : Bool) → (b ≡ false → HasNoDecoding i) → IsTrue b
     go true h = refl
     go false h = absurd (h refl ys d)
 
 -- and it is the one that was read
-pub told_only : (i : IntervalValue) (zs ys : List (List ℤ)) (b : Bool) → (IsTrue b → Decodes i zs) → (b ≡ false → HasNoDecoding i) → Decodes i ys → ys ≡ zs
-told_only i zs ys b sound damaged d = one_decoding one_word i ys zs d (sound (told i ys b damaged d))
+pub stated_only : (i : IntervalValue) (zs ys : List (List ℤ)) (b : Bool) → (IsTrue b → Decodes i zs) → (b ≡ false → HasNoDecoding i) → Decodes i ys → ys ≡ zs
+stated_only i zs ys b sound damaged d = one_decoding one_word i ys zs d (sound (stated i ys b damaged d))

@@ -8,7 +8,7 @@ use Rattle.std.proofs.lemmas.List.{get_or_append_left, drop-take, take-take, len
 use Rattle.std.proofs.Math.Nat.{mul-le-mul_right}
 use Rattle.std.proofs.Math.Seq.{drop-append_seam, get_or-append_seam}
 use Rattle.jr_code.specs.Bits.{bits}
-use Rattle.jr_head.specs.Geometry.{order_of, IsLawful}
+use Rattle.jr_head.specs.Geometry.{order_of, IsValid}
 use Rattle.jr_scan.specs.declared.guessed.Guessed.{Guessed}
 use Rattle.jr_scan.specs.declared.place.Place.{Place}
 use Rattle.jr_scan.specs.declared.place.RunEnd.TheVariants.{AllRead}
@@ -23,7 +23,7 @@ use Rattle.jr_scan.specs.Guess.{unpredicted, IsGuessed, GuessValue, KeepsBlocks,
 use Rattle.jr_scan.proofs.InRange.{run_in_range}
 use Rattle.jr_scan.proofs.Runs.{component_low, three_places}
 use Rattle.jr_scan.proofs.Shifts.{predicted_shifted, run_shifted}
-use Rattle.jr_scan.proofs.McuReaders.{left_behind, left_is, one_mcu}
+use Rattle.jr_scan.proofs.McuReaders.{left_after, left_is, one_mcu}
 
 abbrev pub guess_of : ℕ → List Guessed → List (List ℤ) → GuessValue
 guess_of n mcus blocks = record { number = n; mcus = mcus; blocks = blocks }
@@ -33,7 +33,7 @@ with_blocks g blocks = record { number = g.number; mcus = g.mcus; blocks = block
 
 -- without an MCU it is a speculative read of any interval of its number
 pub none_yet : (i : IntervalValue) (n : ℕ) (blocks : List (List ℤ)) → n ≡ i.number → IsGuessOf i (guess_of n [] blocks)
-none_yet i n blocks is = record { number = is; room = λ keeps. omega arith; each = λ k d lt. absurd (omega (arith, lt)) }
+none_yet i n blocks is = record { number = is; space = λ keeps. omega arith; each = λ k d lt. absurd (omega (arith, lt)) }
 
 -- the blocks of an MCU are the same if those up to its end are
 same_at : (k m per : ℕ) (xs ys : List (List ℤ)) → k < m → take (m * per) ys ≡ take (m * per) xs → take per (drop (k * per) ys) ≡ take per (drop (k * per) xs)
@@ -49,7 +49,7 @@ pub kept_before : (i : IntervalValue) (g : GuessValue) (new : List (List ℤ)) (
     → IsGuessOf i (with_blocks g new)
 kept_before i g new m per is count size long same = record {
   number = is.number;
-  room = λ keeps. omega (arith, is.room (omega (arith, keeps, long)), long);
+  space = λ keeps. omega (arith, is.space (omega (arith, keeps, long)), long);
   each = λ k d lt.
       let e = is.each k d lt in
       record {
@@ -63,8 +63,8 @@ kept_before i g new m per is count size long same = record {
 
 -- the blocks of an MCU that was appended
 pub kept_here : (m per : ℕ) (xs ys zs : List (List ℤ)) → m * per ≤ length xs → length zs ≡ per → take (m * per + per) ys ≡ take (m * per) xs ++ zs → take per (drop (m * per) ys) ≡ zs
-kept_here m per xs ys zs room long is =
-    let first : length (take (m * per) xs) ≡ m * per = length-take-le (m * per) xs room in
+kept_here m per xs ys zs space long is =
+    let first : length (take (m * per) xs) ≡ m * per = length-take-le (m * per) xs space in
     sym (drop-take (m * per) per ys) ∙ ap (drop (m * per)) is ∙ ap (λ (n : ℕ). drop n (take (m * per) xs ++ zs)) (sym first) ∙ drop-append_seam (take (m * per) xs) zs
 
 -- one more MCU is appended
@@ -74,7 +74,7 @@ kept_more i g mcu ps old new is t next =
     let more : length (g.mcus ++ mcu ∷ []) ≡ m + 1 = length-append g.mcus (mcu ∷ []) in
     record {
       number = is.number;
-      room = λ keeps. subst (λ (n : ℕ). n * length (order_of i.head) ≤ length g.blocks) (sym more) (t.room keeps);
+      space = λ keeps. subst (λ (n : ℕ). n * length (order_of i.head) ≤ length g.blocks) (sym more) (t.space keeps);
       each = λ k d lt. elim (cases_lt k m) [
         | inl l ↦
             let e : get_or g.mcus k d ≡ get_or (g.mcus ++ mcu ∷ []) k d = sym (get_or_append_left g.mcus (mcu ∷ []) d k l) in
@@ -98,8 +98,8 @@ last_few i left is = omega (arith, ap length is, left_is i (unpredicted (8 * len
 taken_last : (i : IntervalValue) (zs : List (List ℤ)) (old new : List Bool) → AreLastBits i old → TakesMcu i.head no_predictions zs old new → TakesMcu i.head no_predictions zs (left_at i (unpredicted (8 * length i.bytes - length old))) new
 taken_last i zs old new is t = subst (λ (b : List Bool). TakesMcu i.head no_predictions zs b new) is t
 
-pub last_behind : (i : IntervalValue) (zs : List (List ℤ)) (old new : List Bool) → AreLastBits i old → TakesMcu i.head no_predictions zs old new → AreLastBits i new
-last_behind i zs old new is t = left_behind i (unpredicted (8 * length i.bytes - length old)) (8 * length i.bytes - length new) zs new (omega arith) (taken_last i zs old new is t) refl
+pub last_after : (i : IntervalValue) (zs : List (List ℤ)) (old new : List Bool) → AreLastBits i old → TakesMcu i.head no_predictions zs old new → AreLastBits i new
+last_after i zs old new is t = left_after i (unpredicted (8 * length i.bytes - length old)) (8 * length i.bytes - length new) zs new (omega arith) (taken_last i zs old new is t) refl
 
 -- an MCU that is read is one of a speculative read
 pub guessed : (i : IntervalValue) (mcu : Guessed) (zs : List (List ℤ)) (old new : List Bool) → AreLastBits i old → mcu.from ≡ 8 * length i.bytes - length old → mcu.to.bit ≡ 8 * length i.bytes - length new
@@ -120,8 +120,8 @@ pub either : (P : List Guessed → Type 0) (b : Bool) (xs ys : List Guessed) →
 either P true xs ys p q = p
 either P false xs ys p q = q
 
-pub behind_in_range : (i : IntervalValue) (mcu : Guessed) (zs : List (List ℤ)) → IsGuessed i mcu zs → All IsInMcuRange mcu.to.predictions
-behind_in_range i mcu zs is = subst (All IsInMcuRange) (sym is.run.predictions) (predicted_in_mcu_range i.head zs is.firsts)
+pub after_in_range : (i : IntervalValue) (mcu : Guessed) (zs : List (List ℤ)) → IsGuessed i mcu zs → All IsInMcuRange mcu.to.predictions
+after_in_range i mcu zs is = subst (All IsInMcuRange) (sym is.run.predictions) (predicted_in_mcu_range i.head zs is.firsts)
 
 -- the predictions are greater than zeros by themselves
 from_none : (q : List ℤ) → AreGreater q no_predictions q
@@ -148,16 +148,16 @@ same_three a b p q same =
     ∙ sym (three_places b q)
 
 -- a reader at the bit where an MCU of a speculative read starts takes it over
-pub taken_over : (i : IntervalValue) (mcu : Guessed) (p to : Place) (zs ys : List (List ℤ)) → IsLawful i.head → IsGuessed i mcu zs → mcu.from ≡ p.bit → length p.predictions ≡ 3 → All IsSmall p.predictions
+pub taken_over : (i : IntervalValue) (mcu : Guessed) (p to : Place) (zs ys : List (List ℤ)) → IsValid i.head → IsGuessed i mcu zs → mcu.from ≡ p.bit → length p.predictions ≡ 3 → All IsSmall p.predictions
     → to.bit ≡ mcu.to.bit → length to.predictions ≡ 3 → AreGreater p.predictions mcu.to.predictions to.predictions → AreShifted i.head p.predictions zs ys
     → IsRun (run_from i p 1) ys to AllRead
-taken_over i mcu p to zs ys lawful is from three small bit three' sums s =
+taken_over i mcu p to zs ys valid is from three small bit three' sums s =
     let q = p.predictions in
-    let low = component_low i.head lawful in
+    let low = component_low i.head valid in
     let range : HaveFirstInRange ys = λ n lt. small_shifted (of_component q (component i.head n)) (block_of zs n) (block_of ys n) (at_component q (component i.head n) three small (low n)) (is.firsts n (omega (arith, lt, s.count))) (s.each n (omega (arith, lt, s.count))) in
     let run = run_shifted i (unpredicted mcu.from) mcu.to 1 q q zs ys low (from_none q) s range is.run in
-    let behind : AreGreater q (predicted i.head no_predictions zs) (predicted i.head q ys) = predicted_shifted i.head q no_predictions q zs ys (from_none q) s in
-    let last : predicted i.head q ys ≡ to.predictions = same_three (predicted i.head q ys) to.predictions refl three' (λ c lt. behind c lt ∙ ap (λ (ps : List ℤ). of_component ps c +ℤ of_component q c) (sym is.run.predictions) ∙ sym (sums c lt)) in
+    let after : AreGreater q (predicted i.head no_predictions zs) (predicted i.head q ys) = predicted_shifted i.head q no_predictions q zs ys (from_none q) s in
+    let last : predicted i.head q ys ≡ to.predictions = same_three (predicted i.head q ys) to.predictions refl three' (λ c lt. after c lt ∙ ap (λ (ps : List ℤ). of_component ps c +ℤ of_component q c) (sym is.run.predictions) ∙ sym (sums c lt)) in
     let run1 = subst (λ (n : ℕ). IsRun (run_from i (record { bit = n; predictions = q }) 1) ys (place_with mcu.to (predicted i.head q ys)) AllRead) from run in
     let run2 = subst (λ (n : ℕ). IsRun (run_from i p 1) ys (record { bit = n; predictions = predicted i.head q ys }) AllRead) (sym bit) run1 in
     subst (λ (ps : List ℤ). IsRun (run_from i p 1) ys (record { bit = to.bit; predictions = ps }) AllRead) last run2
@@ -168,7 +168,7 @@ mcu_within i g k per keeps is lt size =
     let le : suc k * per ≤ length g.mcus * per = mul-le-mul_right {m = suc k} {n = length g.mcus} per (omega (arith, lt)) in
     let next : suc k * per ≡ k * per + per = omega arith in
     let all : length g.mcus * per ≡ length g.mcus * length (order_of i.head) = ap (λ (n : ℕ). length g.mcus * n) size in
-    omega (arith, le, next, all, is.room keeps)
+    omega (arith, le, next, all, is.space keeps)
 
 -- the blocks of MCU k, as a borrowed slice
 pub lent : (i : IntervalValue) (g : GuessValue) (xs : List (List ℤ)) (k per : ℕ) → per ≡ length (order_of i.head) → xs ≡ g.blocks → take (k * per + per - k * per) (drop (k * per) xs) ≡ blocks_at i g k

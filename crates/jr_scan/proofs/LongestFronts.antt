@@ -68,10 +68,10 @@ whole_mcus : OneWord → (i : IntervalValue) → 0 < length (order_of i.head) �
 whole_mcus one i some f =
     let per = length (order_of i.head) in
     let k = length f.blocks / length (order_of i.head) in
-    let room : length f.blocks / length (order_of i.head) * length (order_of i.head) ≤ length f.blocks = div-mul-le_self (length f.blocks) (length (order_of i.head)) in
+    let space : length f.blocks / length (order_of i.head) * length (order_of i.head) ≤ length f.blocks = div-mul-le_self (length f.blocks) (length (order_of i.head)) in
     let few : length f.blocks ≤ i.mcus * length (order_of i.head) = elim f.ends [ inl all ↦ omega (arith, all) | inr stuck ↦ omega (arith, stuck.0) ] in
-    let most : length f.blocks / length (order_of i.head) * length (order_of i.head) ≤ i.mcus * length (order_of i.head) = omega (arith, room, few) in
-    let b = blocks_front i.head no_predictions f.blocks (bits i.bytes) f.reads.taken f.left (k * per) f.reads.blocks f.reads.split room in (
+    let most : length f.blocks / length (order_of i.head) * length (order_of i.head) ≤ i.mcus * length (order_of i.head) = omega (arith, space, few) in
+    let b = blocks_front i.head no_predictions f.blocks (bits i.bytes) f.reads.taken f.left (k * per) f.reads.blocks f.reads.split space in (
       k,
       take (k * per) f.blocks,
       record {
@@ -79,7 +79,7 @@ whole_mcus one i some f =
           at_most = le_of_mul-le-mul_right most some;
           taken = b.0;
           rest = b.1;
-          mcus = (length-take-le (k * per) f.blocks room, b.2);
+          mcus = (length-take-le (k * per) f.blocks space, b.2);
           spelled = b.3;
         };
         longest = λ j ys front.

@@ -10,7 +10,7 @@ use Rattle.std.proofs.Math.Seq.{drop-append_seam}
 use Rattle.jr_code.specs.Bits.{bits}
 use Rattle.jr_code.proofs.BitLemmas.{length-bits}
 use Rattle.jr_code.proofs.CodeLemmas.{one_word}
-use Rattle.jr_head.specs.Geometry.{order_of, IsLawful}
+use Rattle.jr_head.specs.Geometry.{order_of, IsValid}
 use Rattle.jr_scan.specs.declared.mcu_reader.McuReader.TheInside.{Inside}
 use Rattle.jr_scan.specs.declared.place.Place.{Place}
 use Rattle.jr_scan.specs.declared.place.RunEnd.TheVariants.{AllRead, NoMcu}
@@ -43,8 +43,8 @@ no_run i p three = record {
 }
 
 -- the position after the bits that are read starting at a position
-behind : (i : IntervalValue) (p : Place) (bit : ℕ) (taken new : List Bool) → p.bit ≤ 8 * length i.bytes → left_at i p ≡ taken ++ new → bit ≡ 8 * length i.bytes - length new → (bit ≡ p.bit + length taken) × (drop bit (bits i.bytes) ≡ new)
-behind i p bit taken new within split at =
+after : (i : IntervalValue) (p : Place) (bit : ℕ) (taken new : List Bool) → p.bit ≤ 8 * length i.bytes → left_at i p ≡ taken ++ new → bit ≡ 8 * length i.bytes - length new → (bit ≡ p.bit + length taken) × (drop bit (bits i.bytes) ≡ new)
+after i p bit taken new within split at =
     let there : length taken + length new ≡ 8 * length i.bytes - p.bit = omega (arith, ap length split, length-append taken new, left_is i p) in
     let is : bit ≡ p.bit + length taken = omega (arith, there, at, within) in
     (is, ap (λ (k : ℕ). drop k (bits i.bytes)) is ∙ sym (drop-drop (length taken) p.bit (bits i.bytes)) ∙ ap (drop (length taken)) split ∙ drop-append_seam taken new)
@@ -53,7 +53,7 @@ behind i p bit taken new within split at =
 pub one_mcu : (i : IntervalValue) (p q : Place) (zs : List (List ℤ)) (new : List Bool) → p.bit ≤ 8 * length i.bytes → TakesMcu i.head p.predictions zs (left_at i p) new → q.bit ≡ 8 * length i.bytes - length new → q.predictions ≡ predicted i.head p.predictions zs
     → IsRun (run_from i p 1) zs q AllRead
 one_mcu i p q zs new within t at last =
-    let b = behind i p q.bit t.taken new within t.split at in
+    let b = after i p q.bit t.taken new within t.split at in
     record {
       count = 1;
       few = omega arith;
@@ -65,8 +65,8 @@ one_mcu i p q zs new within t at last =
       ends = refl;
     }
 
-pub left_behind : (i : IntervalValue) (p : Place) (bit : ℕ) (zs : List (List ℤ)) (new : List Bool) → p.bit ≤ 8 * length i.bytes → TakesMcu i.head p.predictions zs (left_at i p) new → bit ≡ 8 * length i.bytes - length new → new ≡ drop bit (bits i.bytes)
-left_behind i p bit zs new within t at = sym (behind i p bit t.taken new within t.split at).1
+pub left_after : (i : IntervalValue) (p : Place) (bit : ℕ) (zs : List (List ℤ)) (new : List Bool) → p.bit ≤ 8 * length i.bytes → TakesMcu i.head p.predictions zs (left_at i p) new → bit ≡ 8 * length i.bytes - length new → new ≡ drop bit (bits i.bytes)
+left_after i p bit zs new within t at = sym (after i p bit t.taken new within t.split at).1
 
 -- the value of a reader with these fields
 abbrev pub value_of : Inside → McuReaderValue
@@ -82,10 +82,10 @@ next_mcu r left new ps zs kept more within t last range =
     let q : Place = record { bit = 8 * length i.bytes - length new; predictions = ps } in
     let t1 = subst (λ (b : List Bool). TakesMcu i.head r.place.predictions zs b new) kept.bits t in (
       record {
-        lawful = kept.lawful;
+        valid = kept.valid;
         few = omega (arith, more);
         small = kept.small;
-        bits = left_behind i r.place q.bit zs new within t1 refl;
+        bits = left_after i r.place q.bit zs new within t1 refl;
         three = ap (λ (xs : List ℤ). length xs) last;
         in_range = range;
       },
@@ -93,21 +93,21 @@ next_mcu r left new ps zs kept more within t last range =
     )
 
 -- a reader that reads further MCUs has read both
-pub read_on : (r r' : McuReaderValue) (k : ℕ) (zs ys : List (List ℤ)) → IsLawful r.run.interval.head → r'.run ≡ r.run → r'.mcu ≡ r.mcu + k → r'.mcu ≤ r'.run.mcus
+pub read_on : (r r' : McuReaderValue) (k : ℕ) (zs ys : List (List ℤ)) → IsValid r.run.interval.head → r'.run ≡ r.run → r'.mcu ≡ r.mcu + k → r'.mcu ≤ r'.run.mcus
     → IsRun (run_from r.run.interval r.place k) ys r'.place AllRead → HasRead r zs → HasRead r' (zs ++ ys)
-read_on r r' k zs ys lawful run mcu few more s =
-    let both = runs_meet r.run.interval r.run.from r.place r'.place r.mcu k zs ys AllRead (component_low r.run.interval.head lawful) s.run more in
+read_on r r' k zs ys valid run mcu few more s =
+    let both = runs_meet r.run.interval r.run.from r.place r'.place r.mcu k zs ys AllRead (component_low r.run.interval.head valid) s.run more in
     let here = subst (λ (n : ℕ). IsRun (run_from r.run.interval r.run.from n) (zs ++ ys) r'.place AllRead) (sym mcu) both in
     record { few = few; run = subst (λ (o : RunOf). IsRun (run_from o.interval o.from r'.mcu) (zs ++ ys) r'.place AllRead) (sym run) here }
 
 -- a reader that skips MCUs has read them
-pub passed_on : (r r' new : McuReaderValue) (k : ℕ) (zs ys : List (List ℤ)) → IsLawful r.run.interval.head → r'.run ≡ r.run → r'.mcu ≡ r.mcu + k → r'.mcu ≤ r'.run.mcus
+pub passed_on : (r r' new : McuReaderValue) (k : ℕ) (zs ys : List (List ℤ)) → IsValid r.run.interval.head → r'.run ≡ r.run → r'.mcu ≡ r.mcu + k → r'.mcu ≤ r'.run.mcus
     → IsRun (run_from r.run.interval r.place k) ys r'.place AllRead → new ≡ r' → HasRead r zs
     → (ys : List (List ℤ)) × (length ys ≡ k * per_mcu r) × All IsInRange ys × HasRead new (zs ++ ys)
-passed_on r r' new k zs ys lawful run mcu few more same s =
+passed_on r r' new k zs ys valid run mcu few more same s =
     let count : more.count ≡ k = more.ends in
     let long : length ys ≡ k * per_mcu r = more.mcus.0 ∙ ap (λ (n : ℕ). n * per_mcu r) count in
-    (ys, long, run_in_range _ _ _ _ more, subst (λ (x : McuReaderValue). HasRead x (zs ++ ys)) (sym same) (read_on r r' k zs ys lawful run mcu few more s))
+    (ys, long, run_in_range _ _ _ _ more, subst (λ (x : McuReaderValue). HasRead x (zs ++ ys)) (sym same) (read_on r r' k zs ys valid run mcu few more s))
 
 -- the MCUs that a reader of a whole interval has read are a prefix
 pub front_of_run : (i : IntervalValue) (k : ℕ) (zs : List (List ℤ)) (to : Place) → IsRun (run_from i start_of_interval k) zs to AllRead → k ≤ i.mcus → Front i k zs
@@ -135,18 +135,18 @@ own_few r i zs s = omega (arith, s.1.few, ap (λ (o : RunOf). o.mcus) s.0)
 pub front_read : (r : McuReaderValue) (i : IntervalValue) (zs : List (List ℤ)) → HasReadOf r i zs → Front i r.mcu zs
 front_read r i zs s = front_of_run i r.mcu zs r.place (own_run r i zs s) (own_few r i zs s)
 
-own_lawful : (r : McuReaderValue) (i : IntervalValue) → IsLawful r.run.interval.head → r.run ≡ whole_run i → IsLawful i.head
-own_lawful r i lawful e = subst (λ (o : RunOf). IsLawful o.interval.head) e lawful
+own_valid : (r : McuReaderValue) (i : IntervalValue) → IsValid r.run.interval.head → r.run ≡ whole_run i → IsValid i.head
+own_valid r i valid e = subst (λ (o : RunOf). IsValid o.interval.head) e valid
 
-pub longest_read : (r : McuReaderValue) (i : IntervalValue) (zs : List (List ℤ)) → IsLawful r.run.interval.head → HasReadAll r i zs → LongestFront i r.mcu zs
-longest_read r i zs lawful all = record { front = front_read r i zs all.0; longest = λ j ys f. most j ys f all.1 }
+pub longest_read : (r : McuReaderValue) (i : IntervalValue) (zs : List (List ℤ)) → IsValid r.run.interval.head → HasReadAll r i zs → LongestFront i r.mcu zs
+longest_read r i zs valid all = record { front = front_read r i zs all.0; longest = λ j ys f. most j ys f all.1 }
   where
     most : (j : ℕ) (ys : List (List ℤ)) → Front i j ys → HasEnded r → j ≤ r.mcu
     most j ys f (inl full) = omega (arith, f.at_most, full, ap (λ (o : RunOf). o.mcus) all.0.0)
     most j ys f (inr none) = elim (cases_lt r.mcu j) [
       | inr g ↦ g
       | inl l ↦
-          let three = component_low i.head (own_lawful r i lawful all.0.0) in
+          let three = component_low i.head (own_valid r i valid all.0.0) in
           let here = own_run r i zs all.0 in
           let no_mcu = subst (λ (o : RunOf). HasNoMcu o.interval r.place) all.0.0 none in
           let there = run_of_front i j ys f in
@@ -158,9 +158,9 @@ longest_read r i zs lawful all = record { front = front_read r i zs all.0; longe
 -- otherwise the interval has no decoding
 pub damaged_read : (r : McuReaderValue) (left : List Bool) (i : IntervalValue) (zs : List (List ℤ)) → IsMcuReader r left → (r.mcu ≡ r.run.mcus → length left < 8 → ⊥) → HasReadAll r i zs → HasNoDecoding i
 damaged_read r left i zs kept far all ys d =
-    let three = component_low i.head (own_lawful r i kept.lawful all.0.0) in
+    let three = component_low i.head (own_valid r i kept.valid all.0.0) in
     let there = decoding_is_run i ys d in
-    let longest = longest_read r i zs kept.lawful all in
+    let longest = longest_read r i zs kept.valid all in
     let front : Front i i.mcus ys = front_of_run i i.mcus ys there.0 there.1 (omega arith) in
     let count : r.mcu ≡ i.mcus = omega (arith, longest.longest i.mcus ys front, longest.front.at_most) in
     let mine : IsRun (whole_run i) zs r.place AllRead = subst (λ (n : ℕ). IsRun (run_from i start_of_interval n) zs r.place AllRead) count (own_run r i zs all.0) in
@@ -168,12 +168,12 @@ damaged_read r left i zs kept far all ys d =
     far (count ∙ ap (λ (o : RunOf). o.mcus) (sym all.0.0)) (omega (arith, there.2, ap (λ (p : Place). length (left_at i p)) same, ap length (kept.bits ∙ ap (λ (o : RunOf). left_at o.interval r.place) all.0.0)))
 
 -- one more MCU, written after those that a slice holds
-pub more_held : (i : IntervalValue) (p q s : Place) (k per : ℕ) (xs ys : List (List ℤ)) → IsLawful i.head → k * per + per ≤ length xs → length ys ≡ per → IsRun (run_from i p k) (take (k * per) xs) q AllRead → IsRun (run_from i q 1) ys s AllRead
+pub more_held : (i : IntervalValue) (p q s : Place) (k per : ℕ) (xs ys : List (List ℤ)) → IsValid i.head → k * per + per ≤ length xs → length ys ≡ per → IsRun (run_from i p k) (take (k * per) xs) q AllRead → IsRun (run_from i q 1) ys s AllRead
     → IsRun (run_from i p (k + 1)) (take ((k + 1) * per) (put_mid (k * per) (k * per + per - k * per) xs ys)) s AllRead
-more_held i p q s k per xs ys lawful room long before next =
+more_held i p q s k per xs ys valid space long before next =
     let size : (k + 1) * per ≡ k * per + length ys = omega (arith, long) in
-    let e : take ((k + 1) * per) (put_mid (k * per) (k * per + per - k * per) xs ys) ≡ take (k * per) xs ++ ys = take-put_mid (k * per) (k * per + per - k * per) xs ys ((k + 1) * per) size (omega (arith, room)) in
-    subst (λ (zs : List (List ℤ)). IsRun (run_from i p (k + 1)) zs s AllRead) (sym e) (runs_meet i p q s k 1 (take (k * per) xs) ys AllRead (component_low i.head lawful) before next)
+    let e : take ((k + 1) * per) (put_mid (k * per) (k * per + per - k * per) xs ys) ≡ take (k * per) xs ++ ys = take-put_mid (k * per) (k * per + per - k * per) xs ys ((k + 1) * per) size (omega (arith, space)) in
+    subst (λ (zs : List (List ℤ)). IsRun (run_from i p (k + 1)) zs s AllRead) (sym e) (runs_meet i p q s k 1 (take (k * per) xs) ys AllRead (component_low i.head valid) before next)
 
 -- if no whole MCU follows a position, no run starting there has one
 pub no_first : (i : IntervalValue) (p q : Place) (k : ℕ) (zs : List (List ℤ)) → HasNoMcu i p → IsRun (run_from i p k) zs q AllRead → k ≡ 0
@@ -181,9 +181,9 @@ no_first i p q k zs none r = elim (cases_lt 0 k) [
   | inl some ↦
       let per = length (order_of i.head) in
       let one : 1 * per ≤ r.count * per = mul-le-mul_right {m = 1} {n = r.count} per (omega (arith, r.ends, some)) in
-      let room : 1 * per ≤ length zs = omega (arith, one, r.mcus.0) in
-      let b = blocks_front i.head p.predictions zs (left_at i p) r.taken (left_at i q) (1 * per) r.mcus.1 r.spelled room in
-      absurd (none (take (1 * per) zs) b.0 b.1 (length-take-le (1 * per) zs room, b.2) b.3)
+      let space : 1 * per ≤ length zs = omega (arith, one, r.mcus.0) in
+      let b = blocks_front i.head p.predictions zs (left_at i p) r.taken (left_at i q) (1 * per) r.mcus.1 r.spelled space in
+      absurd (none (take (1 * per) zs) b.0 b.1 (length-take-le (1 * per) zs space, b.2) b.3)
   | inr none_read ↦ omega (arith, none_read)
 ]
 
@@ -193,12 +193,12 @@ takes_none r q k zs few run (inl full) = omega (arith, full, few)
 takes_none r q k zs few run (inr none) = no_first r.run.interval r.place q k zs none run
 
 -- if the maximum number of MCUs is read, no whole one follows
-pub no_room : (i : IntervalValue) (from to : Place) (n m most : ℕ) (zs : List (List ℤ)) → IsLawful i.head → to.bit ≤ 8 * length i.bytes → IsRun (run_from i from n) zs to AllRead
+pub no_space : (i : IntervalValue) (from to : Place) (n m most : ℕ) (zs : List (List ℤ)) → IsValid i.head → to.bit ≤ 8 * length i.bytes → IsRun (run_from i from n) zs to AllRead
     → ((k : ℕ) (ys : List (List ℤ)) (q : Place) → IsRun (run_from i from k) ys q AllRead → k ≤ m → k ≤ most) → most ≤ n → n < m → HasNoMcu i to
-no_room i from to n m most zs lawful within r enough full lt ys taken rest u e =
+no_space i from to n m most zs valid within r enough full lt ys taken rest u e =
     let q : Place = record { bit = 8 * length i.bytes - length rest; predictions = predicted i.head to.predictions ys } in
     let t : TakesMcu i.head to.predictions ys (left_at i to) rest = record { taken = taken; mcu = u; split = e } in
-    let both = runs_meet i from to q n 1 zs ys AllRead (component_low i.head lawful) r (one_mcu i to q ys rest within t refl refl) in
+    let both = runs_meet i from to q n 1 zs ys AllRead (component_low i.head valid) r (one_mcu i to q ys rest within t refl refl) in
     omega (arith, enough (n + 1) (zs ++ ys) q both (omega (arith, lt)), full)
 
 -- each data unit of a run has two bits or more

@@ -13,7 +13,7 @@ use Rattle.jr_head.specs.HeadValue.{HeadValue}
 use Rattle.jr_head.specs.declared.component.Component.{Component}
 use Rattle.jr_segments.specs.declared.kind.Kind.{Kind}
 use Rattle.jr_segments.specs.declared.kind.Kind.TheVariants.{Grey, Rgb, Ycc}
-use Rattle.jr_head.specs.Geometry.{order_of, order_from, units_of, dc_of, ac_of, component_count, IsLawful}
+use Rattle.jr_head.specs.Geometry.{order_of, order_from, units_of, dc_of, ac_of, component_count, IsValid}
 use Rattle.jr_scan.specs.declared.place.Place.{Place}
 use Rattle.jr_scan.specs.declared.place.RunEnd.{RunEnd}
 use Rattle.jr_scan.specs.declared.place.RunEnd.TheVariants.{AllRead, NoMcu}
@@ -63,12 +63,12 @@ blocks_join h start k zs ys u v three whole b d =
         | inl l ↦ is_block_same h start zs (zs ++ ys) n (get_or b.parts n []) (get_or (b.parts ++ d.parts) n [])
             (λ j g. sym (get_or_append_left zs ys [] j (omega arith)))
             (sym (get_or_append_left b.parts d.parts [] n (omega (arith, b.count)))) (b.each n l)
-        | inr g ↦ behind n (n - length zs) (omega arith) (omega (arith, long))
+        | inr g ↦ after n (n - length zs) (omega arith) (omega (arith, long))
       ];
     }
   where
-    behind : (n m : ℕ) → n ≡ length zs + m → m < length ys → IsBlock h start (zs ++ ys) n (get_or (b.parts ++ d.parts) n [])
-    behind n m e lt =
+    after : (n m : ℕ) → n ≡ length zs + m → m < length ys → IsBlock h start (zs ++ ys) n (get_or (b.parts ++ d.parts) n [])
+    after n m e lt =
         let c : component h n ≡ component h m = ap (component h) e ∙ ap (λ (j : ℕ). component h (j + m)) whole ∙ component_on h k m in
         let p : prediction h start (zs ++ ys) (component h m) n ≡ prediction h (predicted h start zs) ys (component h m) m = ap (prediction h start (zs ++ ys) (component h m)) e ∙ prediction_on h start k zs ys (component h m) m (three m) whole (omega arith) in
         let z : block_of (zs ++ ys) n ≡ block_of ys m = get_or-append_right zs ys (length zs) n [] refl (omega arith) ∙ ap (λ (j : ℕ). get_or ys j []) (omega arith) in
@@ -111,9 +111,9 @@ runs_meet i p q s k m zs ys end three a b =
     ended NoMcu h = let full : a.count ≡ k = a.ends in (omega (arith, full, h.0), h.1)
 
 -- the blocks after whole MCUs, by themselves
-blocks_behind : (h : HeadValue) (start : List ℤ) (k : ℕ) (zs ys : List (List ℤ)) (w : List Bool) → ((n : ℕ) → component h n < 3) → length zs ≡ k * length (order_of h)
+blocks_after : (h : HeadValue) (start : List ℤ) (k : ℕ) (zs ys : List (List ℤ)) (w : List Bool) → ((n : ℕ) → component h n < 3) → length zs ≡ k * length (order_of h)
     → (b : Blocks h start (zs ++ ys) w) → Blocks h (predicted h start zs) ys (all_bits (drop (length zs) b.parts))
-blocks_behind h start k zs ys w three whole b =
+blocks_after h start k zs ys w three whole b =
     let long : length (zs ++ ys) ≡ length zs + length ys = length-append zs ys in
     record {
       parts = drop (length zs) b.parts;
@@ -143,10 +143,10 @@ order_low c (k ∷ ks) n = elim (cases_lt n (units_of k)) [
   | inr g ↦ let e : get_or (replicate (units_of k) c ++ order_from (suc c) ks) n 0 ≡ get_or (order_from (suc c) ks) (n - units_of k) 0 = get_or-append_right (replicate (units_of k) c) (order_from (suc c) ks) (units_of k) n 0 (length-replicate (units_of k) c) g in omega (arith, e, order_low (suc c) ks (n - units_of k))
 ]
 
-pub component_low : (h : HeadValue) → IsLawful h → (n : ℕ) → component h n < 3
-component_low h lawful n =
+pub component_low : (h : HeadValue) → IsValid h → (n : ℕ) → component h n < 3
+component_low h valid n =
     let few : (m : ℕ) → m ≡ component_count h.kind → m ≤ 3 = λ m e. omega (arith, e, count_low h.kind) in
-    omega (arith, order_low 0 h.components (n % length (order_of h)), few (length h.components) lawful.components.count)
+    omega (arith, order_low 0 h.components (n % length (order_of h)), few (length h.components) valid.components.count)
   where
     count_low : (k : Kind) → component_count k ≤ 3
     count_low Grey = omega arith
@@ -166,16 +166,16 @@ no_more one r zs ys a b e f three s t lt = go e s.ends
         let h = r.interval.head in
         let per = length (order_of h) in
         let start = r.from.predictions in
-        let room : s.count * per ≤ length ys = omega (arith, t.mcus.0, mul-le-mul_right {m = s.count} {n = t.count} per (omega arith)) in
+        let space : s.count * per ≤ length ys = omega (arith, t.mcus.0, mul-le-mul_right {m = s.count} {n = t.count} per (omega arith)) in
         let more : suc s.count * per ≤ length ys = omega (arith, t.mcus.0, mul-le-mul_right {m = suc s.count} {n = t.count} per lt) in
         let next : suc s.count * per ≡ s.count * per + per = omega arith in
-        let first = blocks_front h start ys (left_at r.interval r.from) t.taken (left_at r.interval b) (s.count * per) t.mcus.1 t.spelled room in
+        let first = blocks_front h start ys (left_at r.interval r.from) t.taken (left_at r.interval b) (s.count * per) t.mcus.1 t.spelled space in
         let both = blocks_front h start ys (left_at r.interval r.from) t.taken (left_at r.interval b) (suc s.count * per) t.mcus.1 t.spelled more in
-        let count : length (take (s.count * per) ys) ≡ s.count * per = length-take-le (s.count * per) ys room in
+        let count : length (take (s.count * per) ys) ≡ s.count * per = length-take-le (s.count * per) ys space in
         let same = one_blocks h start one zs (take (s.count * per) ys) s.taken first.0 (left_at r.interval a) first.1 s.mcus.1 first.2 (sym s.spelled ∙ first.3) (s.mcus.0 ∙ sym count) in
         let split : take (suc s.count * per) ys ≡ zs ++ take per (drop (s.count * per) ys) = ap (λ (n : ℕ). take n ys) next ∙ take-add (s.count * per) per ys ∙ ap (λ (x : List (List ℤ)). x ++ take per (drop (s.count * per) ys)) (sym same.0) in
         let whole = subst (λ (x : List (List ℤ)). Blocks h start x both.0) split both.2 in
-        let one_more = blocks_behind h start s.count zs (take per (drop (s.count * per) ys)) both.0 three s.mcus.0 whole in
+        let one_more = blocks_after h start s.count zs (take per (drop (s.count * per) ys)) both.0 three s.mcus.0 whole in
         let alone = subst (λ (q : List ℤ). Blocks h q (take per (drop (s.count * per) ys)) (all_bits (drop (length zs) whole.parts))) (sym s.predictions) one_more in
         let long : length (take per (drop (s.count * per) ys)) ≡ 1 * per = length-take-le per (drop (s.count * per) ys) (omega (arith, length-drop (s.count * per) ys, more, next)) ∙ omega arith in
         let front : Blocks h start zs (all_bits (take (length zs) whole.parts)) = blocks_before h start zs (take per (drop (s.count * per) ys)) both.0 whole in

@@ -2,7 +2,7 @@
 use Rattle.std.proofs.Common.{◌≡◌, ℕ, ◌+◌, ◌*◌, ◌≤◌, List, ◌++◌, length, take, subst}
 use Rattle.std.specs.Prelude.{◌↔◌, ℤ}
 use Rattle.jr_code.proofs.CodeLemmas.{one_word}
-use Rattle.jr_head.specs.Geometry.{IsLawful, order_of}
+use Rattle.jr_head.specs.Geometry.{IsValid, order_of}
 use Rattle.jr_scan.specs.declared.place.Place.{Place}
 use Rattle.jr_scan.specs.declared.place.RunEnd.TheVariants.{AllRead}
 use Rattle.jr_scan.specs.IntervalValue.{IntervalValue}
@@ -30,16 +30,16 @@ pub shorter_front : ShorterFront
 shorter_front = laws.front_less
 
 abbrev pub OneRun : Type 0
-OneRun = (r : RunOf) (a b : RunRead r) → IsLawful r.interval.head → (a.blocks ≡ b.blocks) × (a.to ≡ b.to) × (a.end ≡ b.end)
+OneRun = (r : RunOf) (a b : RunRead r) → IsValid r.interval.head → (a.blocks ≡ b.blocks) × (a.to ≡ b.to) × (a.end ≡ b.end)
 
 pub one_run : OneRun
-one_run r a b lawful = runs.one_run one_word r a.blocks b.blocks a.to b.to a.end b.end (runs.component_low r.interval.head lawful) a.is b.is
+one_run r a b valid = runs.one_run one_word r a.blocks b.blocks a.to b.to a.end b.end (runs.component_low r.interval.head valid) a.is b.is
 
 abbrev pub RunsMeet : Type 0
-RunsMeet = (i : IntervalValue) (p : Place) (k m : ℕ) (a : RunRead (run_from i p k)) (b : RunRead (run_from i a.to m)) → IsLawful i.head → a.end ≡ AllRead → IsRun (run_from i p (k + m)) (a.blocks ++ b.blocks) b.to b.end
+RunsMeet = (i : IntervalValue) (p : Place) (k m : ℕ) (a : RunRead (run_from i p k)) (b : RunRead (run_from i a.to m)) → IsValid i.head → a.end ≡ AllRead → IsRun (run_from i p (k + m)) (a.blocks ++ b.blocks) b.to b.end
 
 pub runs_meet : RunsMeet
-runs_meet i p k m a b lawful all = runs.runs_meet i p a.to b.to k m a.blocks b.blocks b.end (runs.component_low i.head lawful) (subst (IsRun (run_from i p k) a.blocks a.to) all a.is) b.is
+runs_meet i p k m a b valid all = runs.runs_meet i p a.to b.to k m a.blocks b.blocks b.end (runs.component_low i.head valid) (subst (IsRun (run_from i p k) a.blocks a.to) all a.is) b.is
 
 abbrev pub WholeRun : Type 0
 WholeRun = (i : IntervalValue) (zs : List (List ℤ)) → Decodes i zs ↔ IsSoundRun i zs

@@ -61,9 +61,9 @@ has_come h c bytes en starts few cut = record {
 pub come_more : (h : HeadValue) (old new : PartialCutValue) (bytes more : List ℕ) → new.intervals ≡ intervals_of h → new.at + length new.rest ≤ old.at + length old.rest + length more
     → ((start : ℕ) (xs : List ℕ) → HasCut start xs old → HasCut start (xs ++ more) new) → HasCome (partial_scan h old) bytes → HasCome (partial_scan h new) (bytes ++ more)
 come_more h old new bytes more en few on come =
-    let behind : drop h.scan_at (bytes ++ more) ≡ drop h.scan_at bytes ++ more = drop-append-le h.scan_at bytes more come.starts in
+    let after : drop h.scan_at (bytes ++ more) ≡ drop h.scan_at bytes ++ more = drop-append-le h.scan_at bytes more come.starts in
     has_come h new (bytes ++ more) en (omega (arith, come.starts, length-append bytes more)) (omega (arith, come.few, few, length-append bytes more))
-    (subst (λ (xs : List ℕ). HasCut h.scan_at xs new) (sym behind) (on h.scan_at (drop h.scan_at bytes) come.cut))
+    (subst (λ (xs : List ℕ). HasCut h.scan_at xs new) (sym after) (on h.scan_at (drop h.scan_at bytes) come.cut))
 
 -- an interval is its four parts
 pub interval_is : (i : IntervalValue) (n m : ℕ) (b : List ℕ) (h : HeadValue) → i.number ≡ n → i.mcus ≡ m → i.bytes ≡ b → i.head ≡ h → i ≡ record { number = n; mcus = m; bytes = b; head = h }

@@ -7,7 +7,7 @@ use Rattle.std.proofs.lemmas.Slice.{take-put_mid_below}
 use Rattle.std.proofs.Math.Seq.{drop-append_seam, take-add}
 use borrow.Rule.Slice.PartMut.{put_mid, post_of}
 use Rattle.std.specs.List.{All}
-use Rattle.jr_head.specs.Geometry.{IsLawful, order_of}
+use Rattle.jr_head.specs.Geometry.{IsValid, order_of}
 use Rattle.jr_scan.specs.declared.place.Place.{Place}
 use Rattle.jr_scan.specs.declared.place.RunEnd.TheVariants.{AllRead}
 use Rattle.jr_mcu.specs.Block.{IsInRange}
@@ -24,12 +24,12 @@ gone r k to = record { run = r.run; mcu = r.mcu + k; place = to }
 pub own_run : (r : McuReaderValue) (i : IntervalValue) (p to : Place) (k : ℕ) (ys : List (List ℤ)) → i ≡ r.run.interval → p ≡ r.place → IsRun (run_from i p k) ys to AllRead → IsRun (run_from r.run.interval r.place k) ys to AllRead
 own_run r i p to k ys same at run = subst (λ (j : IntervalValue). IsRun (run_from j r.place k) ys to AllRead) same (subst (λ (q : Place). IsRun (run_from i q k) ys to AllRead) at run)
 
-pub gone_read : (r new : McuReaderValue) (k : ℕ) (to : Place) (zs ys : List (List ℤ)) → IsLawful r.run.interval.head → new ≡ gone r k to → r.mcu + k ≤ r.run.mcus → IsRun (run_from r.run.interval r.place k) ys to AllRead → HasRead r zs → HasRead new (zs ++ ys)
-gone_read r new k to zs ys lawful is few run s = subst (λ (x : McuReaderValue). HasRead x (zs ++ ys)) (sym is) (read_on r (gone r k to) k zs ys lawful refl refl few run s)
+pub gone_read : (r new : McuReaderValue) (k : ℕ) (to : Place) (zs ys : List (List ℤ)) → IsValid r.run.interval.head → new ≡ gone r k to → r.mcu + k ≤ r.run.mcus → IsRun (run_from r.run.interval r.place k) ys to AllRead → HasRead r zs → HasRead new (zs ++ ys)
+gone_read r new k to zs ys valid is few run s = subst (λ (x : McuReaderValue). HasRead x (zs ++ ys)) (sym is) (read_on r (gone r k to) k zs ys valid refl refl few run s)
 
-pub gone_passed : (r new : McuReaderValue) (k : ℕ) (to : Place) (zs ys : List (List ℤ)) → IsLawful r.run.interval.head → new ≡ gone r k to → r.mcu + k ≤ r.run.mcus → IsRun (run_from r.run.interval r.place k) ys to AllRead → HasRead r zs
+pub gone_passed : (r new : McuReaderValue) (k : ℕ) (to : Place) (zs ys : List (List ℤ)) → IsValid r.run.interval.head → new ≡ gone r k to → r.mcu + k ≤ r.run.mcus → IsRun (run_from r.run.interval r.place k) ys to AllRead → HasRead r zs
     → (ys : List (List ℤ)) × (length ys ≡ k * per_mcu r) × All IsInRange ys × HasRead new (zs ++ ys)
-gone_passed r new k to zs ys lawful is few run s = passed_on r (gone r k to) new k zs ys lawful refl refl few run is s
+gone_passed r new k to zs ys valid is few run s = passed_on r (gone r k to) new k zs ys valid refl refl few run is s
 
 -- none follow a reader that has ended
 pub ended_stays : (r new : McuReaderValue) (k : ℕ) (to : Place) (ys : List (List ℤ)) → 0 < k → r.mcu + k ≤ r.run.mcus → IsRun (run_from r.run.interval r.place k) ys to AllRead → HasEnded r → new ≡ r
@@ -40,10 +40,10 @@ ended_stays r new k to ys some few run (inr none) = let first = no_first r.run.i
 take_grown : (a k n : ℕ) (xs ys : List (List ℤ)) → n ≤ length ys → a ≤ length xs → take (a + n) (put_mid a k xs ys) ≡ take a xs ++ take n ys
 take_grown a k n xs ys fits le =
     let rest = ys ++ post_of a k xs in
-    let behind : drop a (put_mid a k xs ys) ≡ rest = ap (λ (j : ℕ). drop j (take a xs ++ rest)) (sym (length-take-le a xs le)) ∙ drop-append_seam (take a xs) rest in
+    let after : drop a (put_mid a k xs ys) ≡ rest = ap (λ (j : ℕ). drop j (take a xs ++ rest)) (sym (length-take-le a xs le)) ∙ drop-append_seam (take a xs) rest in
     take-add a n (put_mid a k xs ys)
     ∙ ap (λ (l : List (List ℤ)). l ++ take n (drop a (put_mid a k xs ys))) (take-put_mid_below a k xs ys a (omega arith) le)
-    ∙ ap (λ (l : List (List ℤ)). take a xs ++ take n l) behind
+    ∙ ap (λ (l : List (List ℤ)). take a xs ++ take n l) after
     ∙ ap (λ (l : List (List ℤ)). take a xs ++ l) (take-append-le n ys (post_of a k xs) fits)
 
 -- the first blocks of a slice are those of n MCUs, from a reader to another
@@ -53,7 +53,7 @@ pub record HaveRead (r new : McuReaderValue) (n : ℕ) (blocks : List (List ℤ)
 
 pub read_both : (r mid new : McuReaderValue) (done some per : ℕ) (xs ys : List (List ℤ)) → mid.run ≡ r.run → per ≡ per_mcu r → some * per_mcu mid ≤ length ys → done * per_mcu r ≤ length xs
     → HaveRead r mid done xs → HaveRead mid new some ys → HaveRead r new (done + some) (put_mid (done * per) (length xs - done * per) xs ys)
-read_both r mid new done some per xs ys run size fits room first second =
+read_both r mid new done some per xs ys run size fits space first second =
     let same : per_mcu mid ≡ per_mcu r = ap (λ (o : RunOf). length (order_of o.interval.head)) run in
     let a = done * per in
     let all = put_mid a (length xs - a) xs ys in
@@ -63,7 +63,7 @@ read_both r mid new done some per xs ys run size fits room first second =
     let on : some * per_mcu mid ≡ some * per_mcu r = ap (λ (n : ℕ). some * n) same in
     let sum : (done + some) * per_mcu r ≡ a + some * per_mcu mid = omega (arith, at, on) in
     let e : take ((done + some) * per_mcu r) all ≡ left ++ right
-    = ap (λ (n : ℕ). take n all) sum ∙ take_grown a (length xs - a) (some * per_mcu mid) xs ys fits (omega (arith, at, room)) ∙ ap (λ (n : ℕ). take n xs ++ right) at in
+    = ap (λ (n : ℕ). take n all) sum ∙ take_grown a (length xs - a) (some * per_mcu mid) xs ys fits (omega (arith, at, space)) ∙ ap (λ (n : ℕ). take n xs ++ right) at in
     record {
       read = λ zs s. subst (HasRead new) (append_assoc zs left right ∙ ap (λ (l : List (List ℤ)). zs ++ l) (sym e)) (second.read (zs ++ left) (first.read zs s));
       in_range = subst (All IsInRange) (sym e) (All-append IsInRange left right first.in_range second.in_range);

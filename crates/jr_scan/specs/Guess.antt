@@ -43,7 +43,7 @@ pub record IsMcuOf (i : IntervalValue) (g : GuessValue) (k : ℕ) (mcu : Guessed
 -- a speculative read of this interval: each of its MCUs is one of the interval, whatever bit it starts at
 pub record IsGuessOf (i : IntervalValue) (g : GuessValue) : Type 0 where
   pub number : g.number ≡ i.number
-  pub room : KeepsBlocks g → length g.mcus * length (order_of i.head) ≤ length g.blocks
+  pub space : KeepsBlocks g → length g.mcus * length (order_of i.head) ≤ length g.blocks
   pub each : (k : ℕ) (d : Guessed) → k < length g.mcus → IsMcuOf i g k (slice_index_or g.mcus k d)
 
 -- old is the bits of the next MCU, read with predictions of 0, followed by new; its blocks are kept, if any are
@@ -51,7 +51,7 @@ pub record TakesNext (i : IntervalValue) (g : GuessValue) (predictions : List �
   pub zs : List (List ℤ)
   pub taken : TakesMcu i.head no_predictions zs old new
   pub predicted_are : predictions ≡ predicted i.head no_predictions zs
-  pub room : KeepsBlocks g → (length g.mcus + 1) * length (order_of i.head) ≤ length g.blocks
+  pub space : KeepsBlocks g → (length g.mcus + 1) * length (order_of i.head) ≤ length g.blocks
   pub kept : KeepsBlocks g → blocks_at i g (length g.mcus) ≡ zs
 
 -- bits with which an interval's bits end

@@ -1,7 +1,7 @@
 -- A reader of whole MCUs, and what it has read.
 use Rattle.std.specs.Prelude.{◌≡◌, ℕ, ◌<◌, ◌≤◌, ◌^◌, Bool, List, length, ◌⊎◌, ℤ}
 use Rattle.std.specs.List.{All}
-use Rattle.jr_head.specs.Geometry.{order_of, IsLawful}
+use Rattle.jr_head.specs.Geometry.{order_of, IsValid}
 use Rattle.jr_scan.specs.declared.place.Place.{Place}
 use Rattle.jr_scan.specs.declared.place.RunEnd.TheVariants.{AllRead}
 use Rattle.jr_mcu.specs.Block.{IsInDcRange}
@@ -37,7 +37,7 @@ HasReadAll r i zs = HasReadOf r i zs × HasEnded r
 
 -- what each reader keeps, which has these bits left
 pub record IsMcuReader (r : McuReaderValue) (left : List Bool) : Type 0 where
-  pub lawful : IsLawful r.run.interval.head
+  pub valid : IsValid r.run.interval.head
   pub few : r.mcu ≤ r.run.mcus
   pub small : r.run.mcus < 2 ^ 32
   pub bits : left ≡ left_at r.run.interval r.place

@@ -22,9 +22,9 @@ abbrev pub HasNoDecoding : IntervalValue → Type 0
 HasNoDecoding i = (zs : List (List ℤ)) → Decodes i zs → ⊥
 
 -- whether the interval has a decoding
-abbrev pub TellsSound : Bool → IntervalValue → Type 0
-TellsSound true i = HasDecoding i
-TellsSound false i = HasNoDecoding i
+abbrev pub ReportsSound : Bool → IntervalValue → Type 0
+ReportsSound true i = HasDecoding i
+ReportsSound false i = HasNoDecoding i
 
 -- the interval's bits begin with those of its first k MCUs
 pub record Front (i : IntervalValue) (k : ℕ) (zs : List (List ℤ)) : Type 0 where

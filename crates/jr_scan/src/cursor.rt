@@ -1,12 +1,12 @@
 //! A position between two MCUs of a scan, from which one can read or skip.
 
 ghost use Rattle.std.specs.Prelude.{◌≡◌, ◌+◌, ◌*◌, ◌<◌, ◌≤◌, ℕ, ℤ, true, List, Some, None, [], length, slice_index_or, take, IfSome};
-ghost use Rattle.jr_head.specs.Geometry.{IsLawful, order_of};
+ghost use Rattle.jr_head.specs.Geometry.{IsValid, order_of};
 ghost use Rattle.jr_scan.specs.declared.place.Place.{Place};
 ghost use Rattle.jr_scan.specs.Cursors.{AreBlocksFrom, IsPlaceAfter, TakesMcus, interval_start, zero_block};
 ghost use Rattle.jr_scan.specs.Guesses.{AreGuessesOf};
 ghost use Rattle.jr_scan.specs.McuReader.{HasEnded, HasRead, per_mcu};
-ghost use Rattle.jr_scan.specs.Mcus.{TellsSound};
+ghost use Rattle.jr_scan.specs.Mcus.{ReportsSound};
 ghost use Rattle.jr_scan.specs.Run.{CanReadFrom};
 
 use crate::guesses::Guesses;
@@ -47,10 +47,10 @@ fn take_all(
     keeps: bool,
     blocks: &mut [Coefficients],
 ) -> u32
-    requires lawful { IsLawful reader.old.run.interval.head }
+    requires valid { IsValid reader.old.run.interval.head }
     requires new { HasRead reader.old [] }
     requires all { reader.old.mcu + mcus ≡ reader.old.run.mcus }
-    requires room { keeps ≡ true → mcus * per_mcu reader.old ≤ length blocks.old }
+    requires space { keeps ≡ true → mcus * per_mcu reader.old ≤ length blocks.old }
     requires same { IfSome guesses (λ g. AreGuessesOf reader.old.run.interval g.now) }
     ensures run { reader.new.run ≡ reader.old.run }
     ensures mcu { reader.new.mcu ≡ reader.old.mcu + result }
@@ -102,7 +102,7 @@ impl Cursor {
         blocks: &mut [Coefficients],
     ) -> u32
         requires at { IsPlaceAfter interval self.old.mcu self.old.place }
-        requires room { keeps ≡ true → most * length (order_of interval.head) ≤ length blocks.old }
+        requires space { keeps ≡ true → most * length (order_of interval.head) ≤ length blocks.old }
         requires same { IfSome guesses (λ g. AreGuessesOf interval g.now) }
         ensures number { self.new.number ≡ self.old.number }
         ensures mcu { self.new.mcu ≡ self.old.mcu + result }
@@ -114,7 +114,7 @@ impl Cursor {
             × (keeps ≡ true → take (result * length (order_of interval.entry.head)) blocks.new ≡ zs) }
     {
         // By its contract an interval's header is valid.
-        let _lawful = interval.head();
+        let _valid = interval.head();
         let Some(from) = self.place else {
             return 0;
         };
@@ -137,7 +137,7 @@ impl Cursor {
     )
         requires at { IsPlaceAfter interval self.old.mcu self.old.place }
         requires few { self.old.mcu + mcus ≤ interval.mcus }
-        requires room { length blocks.old ≡ mcus * length (order_of interval.head) }
+        requires space { length blocks.old ≡ mcus * length (order_of interval.head) }
         requires same { IfSome guesses (λ g. AreGuessesOf interval g.now) }
         ensures at { IsPlaceAfter interval.entry self.new.mcu self.new.place }
         ensures number { self.new.number ≡ self.old.number }
@@ -176,10 +176,10 @@ impl Cursor {
     pub fn is_sound(&self, interval: &IntervalRef<'_>) -> bool
         requires at { IsPlaceAfter interval.now self.now.mcu self.now.place }
         requires all { self.now.mcu ≡ interval.now.mcus }
-        ensures { TellsSound result interval.now }
+        ensures { ReportsSound result interval.now }
     {
         // By its contract an interval's header is valid.
-        let _lawful = interval.head();
+        let _valid = interval.head();
         let Some(place) = self.place else {
             return false;
         };

@@ -2,7 +2,7 @@
 
 ghost use Rattle.std.specs.Prelude.{◌≡◌, ◌<◌, ◌≤◌, ◌*◌, ℕ, ℤ, pos, List, [], length, slice_index_or, ◌+ℤ◌, IfOk, IfSome, IfNone, IsTrue, OnSome};
 ghost use Rattle.std.specs.List.{All};
-ghost use Rattle.jr_head.specs.Geometry.{IsLawful, order_of};
+ghost use Rattle.jr_head.specs.Geometry.{IsValid, order_of};
 ghost use Rattle.jr_head.specs.HeadValue.{HeadValue};
 ghost use Rattle.jr_mcu.specs.Block.{IsInDcRange};
 ghost use Rattle.jr_scan.specs.Run.{run_from, IsRun};
@@ -17,7 +17,7 @@ use crate::mcu_reader::bits_from;
 use crate::place::Place;
 use jr_base::{Coefficients, Memory};
 use jr_code::Bits;
-use jr_mcu::{Kept, Skipped, all_small, put_shifted, read_mcu, sums};
+use jr_mcu::{Kept, Skipped, all_small, read_mcu, store_shifted, sums};
 use std::alloc::Global;
 use std::marker::Model;
 
@@ -199,7 +199,7 @@ impl Guess {
     #[inline(always)]
     pub(crate) fn pass(&self, interval: &IntervalRef<'_>, k: usize, place: &Place) -> Option<Place>
         requires of { IsGuessOf interval.now self.now }
-        ensures lawful { IsLawful interval.now.head }
+        ensures valid { IsValid interval.now.head }
         ensures run { IfSome result (λ to. (zs : List (List ℤ)) × IsRun (run_from interval.now place.now 1) zs to AllRead) }
         ensures shifted { IfSome result (λ to. KeepsBlocks self.now → (zs : List (List ℤ)) → AreShifted interval.now.head place.now.predictions (blocks_at interval.now self.now k) zs → IsRun (run_from interval.now place.now 1) zs to AllRead) }
         ensures kept { OnSome result (k < length self.now.mcus) }
@@ -224,7 +224,7 @@ impl Guess {
 
     /// Does what `pass` does, and copies the MCU's blocks; `None` also if no blocks are kept.
     #[inline(always)]
-    pub(crate) fn put(
+    pub(crate) fn store(
         &self,
         interval: &IntervalRef<'_>,
         k: usize,
@@ -232,7 +232,7 @@ impl Guess {
         blocks: &mut [Coefficients],
     ) -> Option<Place>
         requires of { IsGuessOf interval.now self.now }
-        requires room { length blocks.old ≡ length (order_of interval.now.head) }
+        requires space { length blocks.old ≡ length (order_of interval.now.head) }
         ensures some { IfSome result (λ to. IsRun (run_from interval.now place.now 1) blocks.new to AllRead) }
         ensures within { IfSome result (λ to. to.bit ≤ 8 * length interval.now.bytes) }
         ensures in_range { IfSome result (λ to. All IsInDcRange to.predictions) }
@@ -246,7 +246,7 @@ impl Guess {
         let own = self.blocks.as_slice();
         let start = k * per_mcu;
         let end = start + per_mcu;
-        put_shifted(head, &place.predictions, &own[start..end], blocks)?;
+        store_shifted(head, &place.predictions, &own[start..end], blocks)?;
         Some(to)
     }
 }

@@ -1,7 +1,7 @@
 //! An interval of a scan.
 
 ghost use Rattle.std.specs.Prelude.{◌≡◌, ◌↔◌, ◌<◌, ◌≤◌, ◌^◌, ◌*◌, ℕ, ℤ, List, All, ◌++◌, length, IsTrue, IfOk, OnOk, IfSome, IfNone};
-ghost use Rattle.jr_head.specs.Geometry.{IsLawful};
+ghost use Rattle.jr_head.specs.Geometry.{IsValid};
 
 use crate::front::FrontBlocks;
 use crate::interval_ref::IntervalRef;
@@ -106,7 +106,7 @@ impl Interval {
     /// Returns the header by which the interval is read.
     pub fn head(&self) -> &Head
         ensures value { result.now ≡ self.now.head }
-        ensures lawful { IsLawful result.now }
+        ensures valid { IsValid result.now }
     {
         self.head.assert_invariant();
         &self.head

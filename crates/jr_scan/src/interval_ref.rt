@@ -1,7 +1,7 @@
 //! An interval whose data are in its scan.
 
 ghost use Rattle.std.specs.Prelude.{◌≡◌, ◌<◌, ◌^◌, length};
-ghost use Rattle.jr_head.specs.Geometry.{IsLawful};
+ghost use Rattle.jr_head.specs.Geometry.{IsValid};
 
 use jr_head::Head;
 use std::marker::Model;
@@ -78,7 +78,7 @@ impl<'a> IntervalRef<'a> {
     /// Returns the header by which the interval is read.
     pub fn head(&self) -> &'a Head
         ensures value { result.now ≡ self.now.head }
-        ensures lawful { IsLawful result.now }
+        ensures valid { IsValid result.now }
     {
         self.head
     }

@@ -1,7 +1,7 @@
 //! What holds of every scan and of every interval.
 
 ghost use Rattle.std.specs.Prelude.{◌≡◌, ◌+◌, ◌≤◌, ◌↔◌, ◌⊎◌, ◌*◌, ◌++◌, ℕ, ℤ, List, [], take, length};
-ghost use Rattle.jr_head.specs.Geometry.{IsLawful, order_of};
+ghost use Rattle.jr_head.specs.Geometry.{IsValid, order_of};
 ghost use Rattle.jr_scan.specs.declared.place.Place.{Place};
 ghost use Rattle.jr_scan.specs.declared.place.RunEnd.TheVariants.{AllRead};
 ghost use Rattle.jr_scan.specs.Run.{RunOf, IsRun, IsSoundRun, RunRead, run_from};
@@ -41,12 +41,12 @@ pub fn each_interval_decodes_or_not()
 
 /// States that at each position of an interval one run of n MCUs starts: its blocks, where it ends and why are fixed.
 pub fn one_run()
-    ensures { (r : RunOf) (a b : RunRead r) → IsLawful r.interval.head → (a.blocks ≡ b.blocks) × (a.to ≡ b.to) × (a.end ≡ b.end) }
+    ensures { (r : RunOf) (a b : RunRead r) → IsValid r.interval.head → (a.blocks ≡ b.blocks) × (a.to ≡ b.to) × (a.end ≡ b.end) }
 {}
 
 /// States that if a run has all its MCUs and another starts at its end, they are one run.
 pub fn runs_meet()
-    ensures { (i : IntervalValue) (p : Place) (k m : ℕ) (a : RunRead (run_from i p k)) (b : RunRead (run_from i a.to m)) → IsLawful i.head
+    ensures { (i : IntervalValue) (p : Place) (k m : ℕ) (a : RunRead (run_from i p k)) (b : RunRead (run_from i a.to m)) → IsValid i.head
         → a.end ≡ AllRead → IsRun (run_from i p (k + m)) (a.blocks ++ b.blocks) b.to b.end }
 {}
 

@@ -3,7 +3,7 @@
 ghost use Rattle.std.specs.Prelude.{◌≡◌, ◌<◌, ◌≤◌, ◌+◌, ◌*◌, ◌++◌, ◌^◌, ℤ, List, [], length, take, drop, false, IsTrue};
 ghost use Rattle.std.specs.List.{All};
 ghost use Rattle.jr_code.specs.Bits.{bits};
-ghost use Rattle.jr_head.specs.Geometry.{IsLawful};
+ghost use Rattle.jr_head.specs.Geometry.{IsValid};
 ghost use Rattle.jr_mcu.specs.Block.{IsInDcRange, IsInRange};
 
 use crate::interval_ref::IntervalRef;
@@ -114,7 +114,7 @@ impl<'a> McuReader<'a> {
     }
 
     /// Moves to the position after `mcus` further MCUs.
-    pub(crate) fn go_on(&mut self, mcus: u32, place: &Place)
+    pub(crate) fn advance_to(&mut self, mcus: u32, place: &Place)
         requires few { self.old.mcu + mcus ≤ self.old.run.mcus }
         requires within { place.now.bit ≤ 8 * length self.old.run.interval.bytes }
         requires in_range { All IsInDcRange place.now.predictions }
@@ -136,7 +136,7 @@ impl<'a> McuReader<'a> {
     /// Returns the number of MCUs.
     pub fn take_mcus<S: BlockSink>(&mut self, most: u32, blocks: &mut [Coefficients]) -> u32
         requires few { self.old.mcu + most ≤ self.old.run.mcus }
-        requires room { IsTrue S.keeps → most * per_mcu self.old ≤ length blocks.old }
+        requires space { IsTrue S.keeps → most * per_mcu self.old ≤ length blocks.old }
         ensures run { self.new.run ≡ self.old.run }
         ensures mcus { self.new.mcu ≡ self.old.mcu + result }
         ensures few { self.new.mcu ≤ self.new.run.mcus }
@@ -172,8 +172,8 @@ impl<'a> McuReader<'a> {
         ensures stays { HasEnded self.old → self.new ≡ self.old }
     {
         let per_mcu = self.interval.head().order().len();
-        let room = blocks.len() / per_mcu;
-        let most = room.min((self.mcus - self.mcu) as usize) as u32;
+        let space = blocks.len() / per_mcu;
+        let most = space.min((self.mcus - self.mcu) as usize) as u32;
         self.take_mcus::<Kept>(most, blocks)
     }
 
@@ -203,7 +203,7 @@ impl<'a> McuReader<'a> {
     /// Returns where the next MCU starts.
     pub fn place(&self) -> Place
         ensures value { result ≡ self.now.place }
-        ensures lawful { IsLawful self.now.run.interval.head }
+        ensures valid { IsValid self.now.run.interval.head }
         ensures within { result.bit ≤ 8 * length self.now.run.interval.bytes }
         ensures in_range { All IsInDcRange result.predictions }
     {

@@ -1,7 +1,7 @@
 //! A scan whose file is still arriving.
 
 ghost use Rattle.std.specs.Prelude.{◌≡◌, ◌+◌, ◌<◌, ◌≤◌, ◌^◌, ◌++◌, ℕ, List, length, IfOk, IfErr};
-ghost use Rattle.jr_head.specs.Geometry.{IsLawful};
+ghost use Rattle.jr_head.specs.Geometry.{IsValid};
 ghost use Rattle.jr_scan.specs.PartialScan.{HasCome};
 ghost use Rattle.jr_scan.specs.ScanValue.{intervals_of, interval_of};
 
@@ -60,7 +60,7 @@ impl PartialScan {
     /// Returns the header of the file.
     pub fn head(&self) -> &Head
         ensures value { result.now ≡ self.now.scan.head }
-        ensures lawful { IsLawful result.now }
+        ensures valid { IsValid result.now }
     {
         self.head.assert_invariant();
         &self.head

@@ -37,7 +37,7 @@ impl Model for Scan {
 }
 
 impl Scan {
-    ghost use Rattle.jr_head.specs.Geometry.{IsLawful};
+    ghost use Rattle.jr_head.specs.Geometry.{IsValid};
     ghost use Rattle.jr_cut.specs.Spans.{segment_data, IsSpanOf};
     ghost use Rattle.jr_scan.specs.ScanValue.{intervals_of, interval_of, scan_of_segments, IsScanOf, IsSameScan, HasInterval};
 
@@ -96,7 +96,7 @@ impl Scan {
     /// Returns the header of the file.
     pub fn head(&self) -> &Head
         ensures value { result.now ≡ self.now.head }
-        ensures lawful { IsLawful result.now }
+        ensures valid { IsValid result.now }
     {
         self.head.assert_invariant();
         &self.head

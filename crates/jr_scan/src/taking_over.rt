@@ -20,7 +20,7 @@ use jr_base::Coefficients;
 
 /// Takes over from a speculative read the MCUs that continue from a position, starting at its MCU `at`, at most `most`.
 /// Moves past them and returns their number.
-fn put_mcus(
+fn store_mcus(
     guess: &Guess,
     interval: &IntervalRef<'_>,
     at: usize,
@@ -29,7 +29,7 @@ fn put_mcus(
     blocks: &mut [Coefficients],
 ) -> u32
     requires of { IsGuessOf interval.now guess.now }
-    requires room { most * length (order_of interval.now.head) ≤ length blocks.old }
+    requires space { most * length (order_of interval.now.head) ≤ length blocks.old }
     requires within { place.old.bit ≤ 8 * length interval.now.bytes }
     requires in_range { All IsInDcRange place.old.predictions }
     ensures most { result ≤ most }
@@ -42,7 +42,7 @@ fn put_mcus(
         let start = k as usize * per_mcu;
         let end = start + per_mcu;
         let mcu = at.saturating_add(k as usize);
-        let Some(to) = guess.put(interval, mcu, place, &mut blocks[start..end]) else {
+        let Some(to) = guess.store(interval, mcu, place, &mut blocks[start..end]) else {
             return k;
         };
         *place = to;
@@ -50,7 +50,7 @@ fn put_mcus(
     most
 }
 
-/// Does what `put_mcus` does, without the blocks.
+/// Does what `store_mcus` does, without the blocks.
 fn pass_mcus(
     guess: &Guess,
     interval: &IntervalRef<'_>,
@@ -90,12 +90,12 @@ impl<'a> McuReader<'a> {
         ensures none { result ≡ 0 → self.new ≡ self.old }
     {
         let interval = self.interval();
-        let room = blocks.len() / interval.head().order().len();
-        let most = room.min(self.left() as usize) as u32;
+        let space = blocks.len() / interval.head().order().len();
+        let most = space.min(self.left() as usize) as u32;
         let mut place = self.place();
-        let taken = put_mcus(guess, interval, at, most, &mut place, blocks);
+        let taken = store_mcus(guess, interval, at, most, &mut place, blocks);
         if taken > 0 {
-            self.go_on(taken, &place);
+            self.advance_to(taken, &place);
         }
         taken
     }
@@ -116,7 +116,7 @@ impl<'a> McuReader<'a> {
         let mut place = self.place();
         let taken = pass_mcus(guess, self.interval(), at, most, &mut place);
         if taken > 0 {
-            self.go_on(taken, &place);
+            self.advance_to(taken, &place);
         }
         taken
     }
@@ -138,8 +138,8 @@ impl<'a> McuReader<'a> {
             return self.read(blocks);
         }
         let per_mcu = self.interval().head().order().len();
-        let room = blocks.len() / per_mcu;
-        let most = room.min(self.left() as usize) as u32;
+        let space = blocks.len() / per_mcu;
+        let most = space.min(self.left() as usize) as u32;
         let mut done = 0;
         while done < most {
             let start = done as usize * per_mcu;
@@ -155,7 +155,7 @@ impl<'a> McuReader<'a> {
     /// Takes over what one of the speculative reads has starting here, or reads the next MCU.
     fn read_some(&mut self, guesses: &Guesses, blocks: &mut [Coefficients]) -> u32
         requires same { AreGuessesOf self.old.run.interval guesses.now }
-        requires room { per_mcu self.old ≤ length blocks.old }
+        requires space { per_mcu self.old ≤ length blocks.old }
         ensures run { self.new.run ≡ self.old.run }
         ensures mcus { self.new.mcu ≡ self.old.mcu + result }
         ensures few { self.new.mcu ≤ self.new.run.mcus }

@@ -23,23 +23,23 @@ other now places class d ne h th =
     other_case now places class d th (eqb d.class class) refl ne (h th)
     ∙ ap (option_map (λ (x : HuffmanTable). x.table)) (sym (last_push (λ (x : HuffmanTable). eqb x.class class && eqb x.destination th) now d))
 
-put_case : (now : List HuffmanTable) (places : List (Option Table)) (class : ℕ) (d : HuffmanTable) (th : ℕ) (b c : Bool) → eqb d.class class ≡ b → eqb d.destination th ≡ c → d.class ≡ class
+store_case : (now : List HuffmanTable) (places : List (Option Table)) (class : ℕ) (d : HuffmanTable) (th : ℕ) (b c : Bool) → eqb d.class class ≡ b → eqb d.destination th ≡ c → d.class ≡ class
     → length places ≡ 4 → d.destination < 4 → get_or places th None ≡ huffman_table_for now class th
     → get_or (set places d.destination (Some d.table)) th None ≡ option_map (λ (x : HuffmanTable). x.table) (if (b && c) then Some d else last_where (λ (x : HuffmanTable). eqb x.class class && eqb x.destination th) now)
 unfolding huffman_table_for
-put_case now places class d th false c e f is four fits h = absurd (eqb-false d.class class e is)
-put_case now places class d th true true e f is four fits h =
+store_case now places class d th false c e f is four fits h = absurd (eqb-false d.class class e is)
+store_case now places class d th true true e f is four fits h =
     let k : th ≡ d.destination = sym (eqb-true d.destination th f) in
     get_or-set_at places d.destination th (Some d.table) None k (omega arith)
-put_case now places class d th true false e f is four fits h =
+store_case now places class d th true false e f is four fits h =
     let k : th ≢ d.destination = λ q. eqb-false d.destination th f (sym q) in
     get_or-set_other places d.destination th (Some d.table) None k ∙ h
 
-put : (now : List HuffmanTable) (places : List (Option Table)) (class : ℕ) (d : HuffmanTable) → d.class ≡ class → length places ≡ 4 → d.destination < 4 → AreHuffmanTables now class places
+store : (now : List HuffmanTable) (places : List (Option Table)) (class : ℕ) (d : HuffmanTable) → d.class ≡ class → length places ≡ 4 → d.destination < 4 → AreHuffmanTables now class places
     → AreHuffmanTables (now ++ d ∷ []) class (set places d.destination (Some d.table))
 unfolding huffman_table_for
-put now places class d is four fits h th =
-    put_case now places class d th (eqb d.class class) (eqb d.destination th) refl refl is four fits (h th)
+store now places class d is four fits h th =
+    store_case now places class d th (eqb d.class class) (eqb d.destination th) refl refl is four fits (h th)
     ∙ ap (option_map (λ (x : HuffmanTable). x.table)) (sym (last_push (λ (x : HuffmanTable). eqb x.class class && eqb x.destination th) now d))
 
 -- what was defined, and what is still to be defined, are all
@@ -56,7 +56,7 @@ moved s after now all h e k =
 pub defined_here : (s after : List ℕ) (places : List (Option Table)) (class i : ℕ) (x : HuffmanTable) (all : List HuffmanTable) → 1 ≤ length s → length places ≡ 4
     → x.class ≡ class → i ≡ x.destination → x.destination < 4 → x ≡ huffman_table (hd s, tl s) → after ≡ drop (huffman_table_len (tl s)) (tl s) → Defined all class places s → Defined all class (set places i (Some x.table)) after
 defined_here s after places class i x all h four of_class at fits is e d =
-    (d.0 ++ x ∷ [], rw at (put d.0 places class x of_class four fits d.1), rw is (moved s after d.0 all h e d.2))
+    (d.0 ++ x ∷ [], rw at (store d.0 places class x of_class four fits d.1), rw is (moved s after d.0 all h e d.2))
 
 pub defined_there : (s after : List ℕ) (places : List (Option Table)) (class : ℕ) (x : HuffmanTable) (all : List HuffmanTable) → 1 ≤ length s
     → x.class ≢ class → x ≡ huffman_table (hd s, tl s) → after ≡ drop (huffman_table_len (tl s)) (tl s) → Defined all class places s → Defined all class places after

@@ -10,22 +10,22 @@ use Rattle.jr_segments.specs.Tables.{last_where}
 use Rattle.jr_segments.specs.Quantisers.{Quantisation, quantisation, quantisations, elements_len, quantiser_for, AreQuantisers, words}
 use Rattle.jr_segments.proofs.TableLaws.{hd, tl, map_split, tables_none, last_push}
 
-put_case : (now : List Quantisation) (places : List (Option Quantiser)) (d : Quantisation) (tq : ℕ) (b : Bool) → eqb d.destination tq ≡ b → length places ≡ 4 → d.destination < 4
+store_case : (now : List Quantisation) (places : List (Option Quantiser)) (d : Quantisation) (tq : ℕ) (b : Bool) → eqb d.destination tq ≡ b → length places ≡ 4 → d.destination < 4
     → get_or places tq None ≡ quantiser_for now tq
     → get_or (set places d.destination (Some d.quantiser)) tq None ≡ option_map (λ (x : Quantisation). x.quantiser) (if b then Some d else last_where (λ (x : Quantisation). eqb x.destination tq) now)
 unfolding quantiser_for
-put_case now places d tq true e four fits h =
+store_case now places d tq true e four fits h =
     let k : tq ≡ d.destination = sym (eqb-true d.destination tq e) in
     get_or-set_at places d.destination tq (Some d.quantiser) None k (omega arith)
-put_case now places d tq false e four fits h =
+store_case now places d tq false e four fits h =
     let k : tq ≢ d.destination = λ q. eqb-false d.destination tq e (sym q) in
     get_or-set_other places d.destination tq (Some d.quantiser) None k ∙ h
 
-put : (now : List Quantisation) (places : List (Option Quantiser)) (d : Quantisation) → length places ≡ 4 → d.destination < 4 → AreQuantisers now places
+store : (now : List Quantisation) (places : List (Option Quantiser)) (d : Quantisation) → length places ≡ 4 → d.destination < 4 → AreQuantisers now places
     → AreQuantisers (now ++ d ∷ []) (set places d.destination (Some d.quantiser))
 unfolding quantiser_for
-put now places d four fits h tq =
-    put_case now places d tq (eqb d.destination tq) refl four fits (h tq)
+store now places d four fits h tq =
+    store_case now places d tq (eqb d.destination tq) refl four fits (h tq)
     ∙ ap (option_map (λ (x : Quantisation). x.quantiser)) (sym (last_push (λ (x : Quantisation). eqb x.destination tq) now d))
 
 -- what was defined, and what is still to be defined, are all
@@ -38,7 +38,7 @@ unfolding quantisations
 defined_more s after places i x all h four at fits is e d =
     let split : quantisations s ≡ x ∷ quantisations after = rw is (map_split (λ b _. elements_len b) quantisation s after h e) in
     let moved : (d.0 ++ x ∷ []) ++ quantisations after ≡ d.0 ++ quantisations s = append_assoc d.0 (x ∷ []) (quantisations after) ∙ ap (λ (t : List Quantisation). d.0 ++ t) (sym split) in
-    (d.0 ++ x ∷ [], rw at (put d.0 places x four fits d.1), moved ∙ d.2)
+    (d.0 ++ x ∷ [], rw at (store d.0 places x four fits d.1), moved ∙ d.2)
 
 pub defined_all : (s : List ℕ) (places : List (Option Quantiser)) (all : List Quantisation) → length s < 1 → Defined all places s → AreQuantisers all places
 unfolding quantisations

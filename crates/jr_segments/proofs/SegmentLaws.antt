@@ -11,7 +11,7 @@ use Rattle.jr_segments.specs.declared.refusal.Refusal.TheVariants.{EndsEarly, Ex
 use Rattle.jr_segments.specs.Bytes.{byte, word}
 use Rattle.jr_segments.specs.Tests.{◌when◌, first_fault}
 use Rattle.jr_base.specs.Fill.{fill_count}
-use Rattle.jr_segments.specs.Segments.{segment_bytes, segment_at, behind_segment, at_code, marker_tests, code_tests, length_tests, framing_tests}
+use Rattle.jr_segments.specs.Segments.{segment_bytes, segment_at, after_segment, at_code, marker_tests, code_tests, length_tests, framing_tests}
 use Rattle.jr_segments.proofs.TestLaws.{passes_parts}
 
 abbrev pub IsBytes : List ℕ → Type 0
@@ -58,25 +58,25 @@ body_is (a ∷ b ∷ rest) fits h k l =
 
 -- the facts about bytes that pass the tests of the framing
 pub record Framed (framed : Bool) (bytes : List ℕ) : Type 0 where
-  pub is : bytes ≡ segment_bytes (segment_at bytes) ++ behind_segment bytes
+  pub is : bytes ≡ segment_bytes (segment_at bytes) ++ after_segment bytes
   pub short : length (segment_at bytes).payload + 2 < 65536
   pub code : first_fault (code_tests framed (segment_at bytes).code) ≡ None
-  pub shorter : length (behind_segment bytes) < length bytes
+  pub shorter : length (after_segment bytes) < length bytes
 
 head_and_tail : (s : List ℕ) → length s ≢ 0 → s ≡ byte 0 s ∷ drop 1 s
 head_and_tail [] h = absurd (h refl)
 head_and_tail (x ∷ xs) h = refl
 
 assembled : (bytes : List ℕ) → fill_count bytes ≢ 0 → length (at_code bytes) ≢ 0
-    → drop 1 (at_code bytes) ≡ big_bytes 2 (length (segment_at bytes).payload + 2) ++ ((segment_at bytes).payload ++ behind_segment bytes) → bytes ≡ segment_bytes (segment_at bytes) ++ behind_segment bytes
+    → drop 1 (at_code bytes) ≡ big_bytes 2 (length (segment_at bytes).payload + 2) ++ ((segment_at bytes).payload ++ after_segment bytes) → bytes ≡ segment_bytes (segment_at bytes) ++ after_segment bytes
 unfolding segment_bytes
 assembled bytes filled long body =
     let n : fill_count bytes ≡ suc (fill_count bytes - 1) = omega (arith, filled) in
     let code : at_code bytes ≡ byte 0 (at_code bytes) ∷ drop 1 (at_code bytes) = head_and_tail (at_code bytes) long in
     front_is bytes
     ∙ ap (λ (k : ℕ). replicate k PREFIX ++ at_code bytes) n
-    ∙ ap (λ (t : List ℕ). replicate (suc (fill_count bytes - 1)) PREFIX ++ t) (code ∙ ap (λ (t : List ℕ). byte 0 (at_code bytes) ∷ t) (body ∙ sym (append_assoc (big_bytes 2 (length (segment_at bytes).payload + 2)) (segment_at bytes).payload (behind_segment bytes))))
-    ∙ sym (append_assoc (replicate (suc (fill_count bytes - 1)) PREFIX) (byte 0 (at_code bytes) ∷ (big_bytes 2 (length (segment_at bytes).payload + 2) ++ (segment_at bytes).payload)) (behind_segment bytes))
+    ∙ ap (λ (t : List ℕ). replicate (suc (fill_count bytes - 1)) PREFIX ++ t) (code ∙ ap (λ (t : List ℕ). byte 0 (at_code bytes) ∷ t) (body ∙ sym (append_assoc (big_bytes 2 (length (segment_at bytes).payload + 2)) (segment_at bytes).payload (after_segment bytes))))
+    ∙ sym (append_assoc (replicate (suc (fill_count bytes - 1)) PREFIX) (byte 0 (at_code bytes) ∷ (big_bytes 2 (length (segment_at bytes).payload + 2) ++ (segment_at bytes).payload)) (after_segment bytes))
 
 three : (a b c : Bool) (r s t : Refusal) → first_fault ((r when a) ∷ (s when b) ∷ (t when c) ∷ []) ≡ None → (a ≡ false) × (b ≡ false) × (c ≡ false)
 three true b c r s t h = absurd cc
@@ -112,7 +112,7 @@ framed_is framed at bytes fits h =
     let l = length_passes (byte 0 (at_code bytes)) (drop 1 (at_code bytes)) later.1 in
     let whole = body_is (drop 1 (at_code bytes)) (IsBytes-drop 1 (at_code bytes) (IsBytes-drop (fill_count bytes) bytes fits)) l.0 l.1 l.2 in
     let p : take (word 0 (drop 1 (at_code bytes)) - 2) (drop 2 (drop 1 (at_code bytes))) ≡ (segment_at bytes).payload = ap (take (word 0 (drop 1 (at_code bytes)) - 2)) (drop-drop 2 1 (at_code bytes)) in
-    let r : drop (word 0 (drop 1 (at_code bytes))) (drop 1 (at_code bytes)) ≡ behind_segment bytes = drop-drop (word 0 (drop 1 (at_code bytes))) 1 (at_code bytes) in
+    let r : drop (word 0 (drop 1 (at_code bytes))) (drop 1 (at_code bytes)) ≡ after_segment bytes = drop-drop (word 0 (drop 1 (at_code bytes))) 1 (at_code bytes) in
     record {
       is = assembled bytes m.0 m.1 (rw (p, r) at whole.0);
       short = rw p at whole.1;

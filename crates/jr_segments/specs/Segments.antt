@@ -73,8 +73,8 @@ length_tests code body =
 abbrev pub segment_at : List ℕ → Segment
 segment_at bytes = record { fill = fill_count bytes - 1; code = byte 0 (at_code bytes); payload = take (word 1 (at_code bytes) - 2) (drop 3 (at_code bytes)) }
 
-abbrev pub behind_segment : List ℕ → List ℕ
-behind_segment bytes = drop (1 + word 1 (at_code bytes)) (at_code bytes)
+abbrev pub after_segment : List ℕ → List ℕ
+after_segment bytes = drop (1 + word 1 (at_code bytes)) (at_code bytes)
 
 unfoldable pub framing_tests : Bool → ℕ → List ℕ → List Test
 framing_tests framed at bytes =

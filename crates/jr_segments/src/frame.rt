@@ -58,14 +58,14 @@ fn read_components(alloc: Global, bytes: &[u8]) -> Result<Vec<FrameComponent>, A
 {
     let mut components = Vec::new(alloc);
     let mut rest = bytes;
-    while let [id, factors, quantiser, behind @ ..] = rest {
+    while let [id, factors, quantiser, further @ ..] = rest {
         components.push(FrameComponent {
             id: *id,
             horizontal: *factors / 16,
             vertical: *factors % 16,
             quantiser: *quantiser,
         })?;
-        rest = behind;
+        rest = further;
     }
     Ok(components)
 }

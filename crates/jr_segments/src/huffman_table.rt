@@ -100,8 +100,8 @@ pub fn define_huffman_tables(
     ensures ac { OnOk result (DefinesHuffmanTables payload.now 1 ac.old ac.new) }
 {
     let mut rest = payload;
-    while let [head, behind @ ..] = rest {
-        let (huffman_table, after) = read_huffman_table(alloc, *head, behind)?;
+    while let [head, further @ ..] = rest {
+        let (huffman_table, after) = read_huffman_table(alloc, *head, further)?;
         let place = usize::from(huffman_table.destination);
         if huffman_table.class == 0 {
             dc[place] = Some(huffman_table.table);

@@ -114,8 +114,8 @@ pub fn define_quantisers(places: &mut [Option<Quantiser>; 4], payload: &[u8]) ->
     ensures defined { OnOk result (DefinesQuantisers payload.now places.old places.new) }
 {
     let mut rest = payload;
-    while let [head, behind @ ..] = rest {
-        let (quantisation, after) = read_quantisation(*head, behind)?;
+    while let [head, further @ ..] = rest {
+        let (quantisation, after) = read_quantisation(*head, further)?;
         places[usize::from(quantisation.destination)] = Some(quantisation.quantiser);
         rest = after;
     }

@@ -6,7 +6,7 @@ ghost use Rattle.std.specs.Prelude.{◌≡◌, ◌≢◌, ◌<◌, ◌≤◌, �
 ghost use Rattle.jr_segments.specs.Bytes.{byte, word};
 ghost use Rattle.jr_segments.specs.Tests.{Obeys};
 ghost use Rattle.jr_segments.specs.Marker.{code_of};
-ghost use Rattle.jr_segments.specs.Segments.{at_code, marker_tests, code_tests, length_tests, framing_tests, segment_at, behind_segment};
+ghost use Rattle.jr_segments.specs.Segments.{at_code, marker_tests, code_tests, length_tests, framing_tests, segment_at, after_segment};
 
 use crate::marker::Marker;
 use crate::refusal::Refusal;
@@ -116,7 +116,7 @@ pub fn read_segment(bytes: &[u8], at: u64, framed: bool) -> Result<Segment<'_>, 
     ensures obeys { Obeys result (framing_tests framed at bytes.now) }
     ensures code { IfOk result (λ s. code_of s.marker ≡ (segment_at bytes.now).code) }
     ensures payload { IfOk result (λ s. s.payload.now ≡ (segment_at bytes.now).payload) }
-    ensures rest { IfOk result (λ s. s.rest.now ≡ behind_segment bytes.now) }
+    ensures rest { IfOk result (λ s. s.rest.now ≡ after_segment bytes.now) }
 {
     let (code, body) = read_marker(bytes, at)?;
     let marker = marker_of(code, framed)?;

@@ -5,7 +5,7 @@ use lib.Ieee.{root_below, size}
 use Rattle.jr_segments.specs.declared.kind.Kind.TheVariants.{Grey, Ycc}
 use Rattle.jr_base.specs.Zigzag.{natural_indexes, zigzag_place}
 use Rattle.jr_code.specs.Bits.{bits, bits_of, number, value}
-use Rattle.jr_code.specs.Code.{Table, IsWord, IsLawfulTable, space}
+use Rattle.jr_code.specs.Code.{Table, IsWord, IsValidTable, space}
 use Rattle.jr_code.proofs.CodeLemmas.{one_word}
 use Rattle.jr_cut.specs.declared.scan_end.ScanEnd.TheVariants.{EndOfImage, OutOfStep}
 use Rattle.jr_cut.specs.Cut.{IsCut, Plain, Stuffed}
@@ -58,9 +58,9 @@ three_bits_111 = refl
 abbrev table_k3 : Table
 table_k3 = record { counts = 0 ∷ 1 ∷ 5 ∷ 1 ∷ 1 ∷ 1 ∷ 1 ∷ 1 ∷ 1 ∷ replicate 7 0; symbols = 0 ∷ 1 ∷ 2 ∷ 3 ∷ 4 ∷ 5 ∷ 6 ∷ 7 ∷ 8 ∷ 9 ∷ 10 ∷ 11 ∷ [] }
 
-table_k3_is_lawful : IsLawfulTable table_k3.counts table_k3.symbols
+table_k3_is_valid : IsValidTable table_k3.counts table_k3.symbols
 unfolding space
-table_k3_is_lawful = record { sixteen = refl; each = refl; few = omega arith; roomy = omega arith }
+table_k3_is_valid = record { sixteen = refl; each = refl; few = omega arith; ample = omega arith }
 
 category_0 : IsWord table_k3 (false ∷ false ∷ []) 0
 unfolding space number

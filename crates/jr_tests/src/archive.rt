@@ -2,7 +2,7 @@
 //! them: the reading of each waits for that of the other.
 
 use jri_archive::{
-    CheckRequest, FileCounts, Findings, Folder, NoProgress, Source, State, append_counts_line,
+    CheckRequest, Directory, FileCounts, Findings, NoProgress, Source, State, append_counts_line,
     asked, check_all, write_counts_line,
 };
 use jri_machine::{Entry, ReadError};
@@ -78,7 +78,7 @@ struct Meeting<'a> {
     met: &'a AtomicU32,
 }
 
-impl<'a> Folder for Meeting<'a> {
+impl<'a> Directory for Meeting<'a> {
     fn read(&self, alloc: Global, _name: &str) -> Result<Vec<u8>, ReadError> {
         self.begun.fetch_add(1, Ordering::SeqCst);
         if has_come(self.begun, 2) {
@@ -96,13 +96,13 @@ impl<'a> Folder for Meeting<'a> {
 fn two_files_are_read_at_once(rt: HostRuntime) -> Result<(), Fail> {
     let asked = request_of(rt.alloc(), "-j 2 a b")?;
     let (begun, met) = (AtomicU32::new(0), AtomicU32::new(0));
-    let folder = Meeting {
+    let directory = Meeting {
         begun: &begun,
         met: &met,
     };
     let state: Option<State<Vec<u8>>> = None;
     let out = Vec::new(rt.alloc());
-    let source = Source { folder, state };
+    let source = Source { directory, state };
     let (report, lines) = check_all(&rt, rt.alloc(), source, asked, NO_LIST, out, NoProgress);
     let expected = "a: refused 1: not a JPEG file\nb: refused 1: not a JPEG file\n".as_bytes();
     let is_right = met.load(Ordering::SeqCst) == 2

@@ -2,7 +2,7 @@
 
 use crate::archive::{NO_LIST, request_of};
 use jri_archive::{
-    CheckEnd, FileRecord, Folder, NoProgress, RecordedState, Source, Stamp, State, StateError,
+    CheckEnd, Directory, FileRecord, NoProgress, RecordedState, Source, Stamp, State, StateError,
     check_all, parse_record, read_state, record_line,
 };
 use jri_machine::{Entry, EntryKind, ReadError};
@@ -241,7 +241,7 @@ struct Dated<'a> {
     step: Step,
 }
 
-impl<'a> Folder for Dated<'a> {
+impl<'a> Directory for Dated<'a> {
     fn read(&self, alloc: Global, name: &str) -> Result<Vec<u8>, ReadError> {
         self.reads.fetch_add(1, Ordering::SeqCst);
         let words = match name {
@@ -294,13 +294,13 @@ impl<'a> Folder for Dated<'a> {
 struct Log<'a, R> {
     rt: &'a R,
     bytes: &'a Mutex<Vec<u8>>,
-    room: usize,
+    space: usize,
 }
 
 impl<'a, R: Wait> Write for Log<'a, R> {
     fn write(&mut self, bytes: &[u8]) -> IoResult<usize> {
         let mut all = self.bytes.lock(self.rt);
-        let count = self.room.saturating_sub(all.len()).min(bytes.len());
+        let count = self.space.saturating_sub(all.len()).min(bytes.len());
         all.extend_from_slice(&bytes[..count])?;
         Ok(count)
     }
@@ -314,25 +314,25 @@ impl<'a, R: Wait> Write for Log<'a, R> {
 fn is_run<R: Threads + Wait + Sync + AllocGlobal>(
     rt: &R,
     bytes: &Mutex<Vec<u8>>,
-    room: usize,
+    space: usize,
     step: &Step,
     end: CheckEnd,
 ) -> Result<bool, Fail> {
     let alloc: Global = rt.alloc();
     let asked = request_of(alloc, step.words)?;
     let before = bytes.lock(rt).as_slice().to_vec(alloc)?;
-    let log = Log { rt, bytes, room };
+    let log = Log { rt, bytes, space };
     let Ok(state) = State::open(alloc, before.as_slice(), log, asked.is_verifying) else {
         return Err(Fail::from("a damaged state file"));
     };
     let (reads, is_strict) = (AtomicU64::new(0), asked.is_strict);
-    let folder = Dated {
+    let directory = Dated {
         reads: &reads,
         step: *step,
     };
     let state = Some(state);
     let out = Vec::new(alloc);
-    let source = Source { folder, state };
+    let source = Source { directory, state };
     let (report, lines) = check_all(rt, alloc, source, asked, NO_LIST, out, NoProgress);
     let is_kept = bytes.lock(rt).as_slice() == before.as_slice();
     let (status, read, unchanged) = step.outcome;
@@ -527,7 +527,7 @@ fn files_are_read_and_recorded(rt: HostRuntime) -> Result<(), Fail> {
     for steps in sequences {
         let bytes = Mutex::new(Vec::new(rt.alloc()));
         for step in steps {
-            if !is_run(&rt, &bytes, 10_000, step, CheckEnd::AllTold)? {
+            if !is_run(&rt, &bytes, 10_000, step, CheckEnd::AllReported)? {
                 return Err(Fail::from(step.lines));
             }
         }

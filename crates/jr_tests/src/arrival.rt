@@ -64,7 +64,7 @@ fn lines_of(alloc: Global, restart: &str, words: &str) -> Result<u32, Fail> {
 }
 
 #[test]
-fn gives_lines_as_soon_as_they_are_final(rt: HostRuntime) -> Result<(), Fail> {
+fn returns_lines_as_soon_as_they_are_final(rt: HostRuntime) -> Result<(), Fail> {
     for (restart, words, count) in &FINAL {
         if lines_of(rt.alloc(), restart, words)? != *count {
             return Err(Fail::from(*words));

@@ -21,7 +21,7 @@ use Rattle.jr_rows.specs.SomeLines.{PaintsLines}
 use Rattle.jr_arrival.specs.Arrival.{CanBecome}
 use Rattle.jr_arrival.specs.PartialFile.{PartialFileValue, IsPartialFile, given_of}
 use Rattle.jr_arrival.specs.LongerFile.{HasScan}
-use Rattle.jr_arrival.specs.Settled.{AreFinal, GivesNext, NextLines}
+use Rattle.jr_arrival.specs.Settled.{AreFinal, ReturnsNext, NextLines}
 use Rattle.jr_arrival.proofs.HeadsStay.{head_stays}
 use Rattle.jr_arrival.proofs.LinesOfPictures.{one_lines}
 use Rattle.jr_view.specs.PartialViews.{PartialViewValue, AreSettled, ViewHasLines, AreScanLines, IsSeen, KeepsLines, ViewShowsLines, lines_shown, view_of}
@@ -44,9 +44,9 @@ no_lines bytes pixels line file t marks f can has shows = let zero : 0 * line �
 lines_stay : (bytes more : List ℕ) (h : HeadValue) (lines : ℕ) (pixels : List ℕ) → ViewShowsLines bytes h lines pixels → ViewShowsLines (bytes ++ more) h lines pixels
 lines_stay bytes more h lines pixels s = record { size = s.size; few = s.few; shown = final_stays bytes more 0 lines (take (lines * line_size h) pixels) s.shown; grey = s.grey }
 
-pub seen_more : (a b : PartialFileValue) (pixels : List ℕ) (room : ℕ) (bytes more : List ℕ) → All (λ b. b < 256) more → given_of b.partial_image ≡ given_of a.partial_image → IsPartialFile b (bytes ++ more)
-    → IsSeen (record { partial_file = a; pixels = pixels; room = room }) bytes → IsSeen (record { partial_file = b; pixels = pixels; room = room }) (bytes ++ more)
-seen_more a b pixels room bytes more each lines come seen = record {
+pub seen_more : (a b : PartialFileValue) (pixels : List ℕ) (space : ℕ) (bytes more : List ℕ) → All (λ b. b < 256) more → given_of b.partial_image ≡ given_of a.partial_image → IsPartialFile b (bytes ++ more)
+    → IsSeen (record { partial_file = a; pixels = pixels; space = space }) bytes → IsSeen (record { partial_file = b; pixels = pixels; space = space }) (bytes ++ more)
+seen_more a b pixels space bytes more each lines come seen = record {
   are_bytes = All-append (λ b. b < 256) bytes more seen.are_bytes each;
   partial_file = come;
   none = λ e. lines ∙ seen.none e;
@@ -57,7 +57,7 @@ seen_more a b pixels room bytes more each lines come seen = record {
         head = has.head;
         is_head = head_stays bytes more small has.head has.is_head;
         lines = subst (λ (n : ℕ). ViewShowsLines (bytes ++ more) has.head n pixels) (sym lines) (lines_stay bytes more has.head (given_of a.partial_image) pixels has.lines);
-        room = has.room;
+        space = has.space;
       };
 }
 
@@ -85,9 +85,9 @@ grey_shown bytes h pixels grey =
       grey = ap (λ (k : ℕ). drop k pixels) zero ∙ grey ∙ ap (λ (k : ℕ). replicate (k * line_size h) 128) (sym all);
     }
 
-pub seen_grey : (a b : PartialFileValue) (h : HeadValue) (old pixels : List ℕ) (room next : ℕ) (bytes : List ℕ) → old ≡ [] → given_of b.partial_image ≡ given_of a.partial_image → IsPartialFile b bytes → (length bytes ≤ MAX_FILE_BYTES → HeadOf bytes h)
-    → pixels ≡ replicate (h.height * line_size h) 128 → line_size h ≤ next → IsSeen (record { partial_file = a; pixels = old; room = room }) bytes → IsSeen (record { partial_file = b; pixels = pixels; room = next }) bytes
-seen_grey a b h old pixels room next bytes empty lines come head grey wide seen =
+pub seen_grey : (a b : PartialFileValue) (h : HeadValue) (old pixels : List ℕ) (space next : ℕ) (bytes : List ℕ) → old ≡ [] → given_of b.partial_image ≡ given_of a.partial_image → IsPartialFile b bytes → (length bytes ≤ MAX_FILE_BYTES → HeadOf bytes h)
+    → pixels ≡ replicate (h.height * line_size h) 128 → line_size h ≤ next → IsSeen (record { partial_file = a; pixels = old; space = space }) bytes → IsSeen (record { partial_file = b; pixels = pixels; space = next }) bytes
+seen_grey a b h old pixels space next bytes empty lines come head grey wide seen =
     let zero : given_of b.partial_image ≡ 0 = lines ∙ seen.none empty in
     record {
       are_bytes = seen.are_bytes;
@@ -97,14 +97,14 @@ seen_grey a b h old pixels room next bytes empty lines come head grey wide seen 
         head = h;
         is_head = head small;
         lines = subst (λ (n : ℕ). ViewShowsLines bytes h n pixels) (sym zero) (grey_shown bytes h pixels grey);
-        room = wide;
+        space = wide;
       };
     }
 
 -- the file after a look shows the same
-pub seen_same : (a b : PartialFileValue) (pixels : List ℕ) (room next : ℕ) (bytes : List ℕ) → given_of b.partial_image ≡ given_of a.partial_image → IsPartialFile b bytes → next ≡ room
-    → IsSeen (record { partial_file = a; pixels = pixels; room = room }) bytes → IsSeen (record { partial_file = b; pixels = pixels; room = next }) bytes
-seen_same a b pixels room next bytes lines come same seen = record {
+pub seen_same : (a b : PartialFileValue) (pixels : List ℕ) (space next : ℕ) (bytes : List ℕ) → given_of b.partial_image ≡ given_of a.partial_image → IsPartialFile b bytes → next ≡ space
+    → IsSeen (record { partial_file = a; pixels = pixels; space = space }) bytes → IsSeen (record { partial_file = b; pixels = pixels; space = next }) bytes
+seen_same a b pixels space next bytes lines come same seen = record {
   are_bytes = seen.are_bytes;
   partial_file = come;
   none = λ e. lines ∙ seen.none e;
@@ -114,22 +114,22 @@ seen_same a b pixels room next bytes lines come same seen = record {
         head = has.head;
         is_head = has.is_head;
         lines = subst (λ (n : ℕ). ViewShowsLines bytes has.head n pixels) (sym lines) has.lines;
-        room = omega (arith, has.room, same);
+        space = omega (arith, has.space, same);
       };
 }
 
 -- ---- further lines
 
 -- lines of `line` bytes each are written after those that are shown
-pub record Puts (old new row : List ℕ) (first n line : ℕ) : Type 0 where
+pub record Stores (old new row : List ℕ) (first n line : ℕ) : Type 0 where
   pub long : length new ≡ length old
   pub before : take (first * line) new ≡ take (first * line) old
-  pub put : take ((first + n) * line) new ≡ take (first * line) old ++ take (n * line) row
-  pub behind : drop ((first + n) * line) new ≡ drop ((first + n) * line) old
+  pub store : take ((first + n) * line) new ≡ take (first * line) old ++ take (n * line) row
+  pub after : drop ((first + n) * line) new ≡ drop ((first + n) * line) old
 
-more_lines : (bytes : List ℕ) (h : HeadValue) (first n : ℕ) (old new row : List ℕ) → first + n ≤ h.height → Puts old new row first n (line_size h) → AreFinal bytes first n (take (n * line_size h) row)
+more_lines : (bytes : List ℕ) (h : HeadValue) (first n : ℕ) (old new row : List ℕ) → first + n ≤ h.height → Stores old new row first n (line_size h) → AreFinal bytes first n (take (n * line_size h) row)
     → ViewShowsLines bytes h first old → ViewShowsLines bytes h (first + n) new
-more_lines bytes h first n old new row high puts are s =
+more_lines bytes h first n old new row high stores are s =
     let line = line_size h in
     let rest = h.height - (first + n) in
     let sum = add-mul first n line in
@@ -137,26 +137,26 @@ more_lines bytes h first n old new row high puts are s =
     let size : (h.height - first) * line - n * line ≡ rest * line = let e : (h.height - first) * line ≡ (n + rest) * line = ap (λ (k : ℕ). k * line) left in let d = add-mul n rest line in omega (arith, e, d) in
     let at : first * line + n * line ≡ (first + n) * line = sym sum in
     record {
-      size = puts.long ∙ s.size;
+      size = stores.long ∙ s.size;
       few = high;
       shown = λ file t marks f can has shows.
           let zero : 0 + first ≡ first = omega arith in
-          puts.put ∙ ap₂ (λ (x y : List ℕ). x ++ y) (s.shown file t marks f can has shows) (are file t marks f can has shows ∙ ap (λ (k : ℕ). next_lines_of t.head f k n) (sym zero)) ∙ sym (next_lines_more t.head f 0 first n);
-      grey = puts.behind ∙ ap (λ (k : ℕ). drop k old) (sym at) ∙ sym (drop-drop (n * line) (first * line) old) ∙ ap (λ (l : List ℕ). drop (n * line) l) s.grey
+          stores.store ∙ ap₂ (λ (x y : List ℕ). x ++ y) (s.shown file t marks f can has shows) (are file t marks f can has shows ∙ ap (λ (k : ℕ). next_lines_of t.head f k n) (sym zero)) ∙ sym (next_lines_more t.head f 0 first n);
+      grey = stores.after ∙ ap (λ (k : ℕ). drop k old) (sym at) ∙ sym (drop-drop (n * line) (first * line) old) ∙ ap (λ (l : List ℕ). drop (n * line) l) s.grey
           ∙ drop-replicate (n * line) ((h.height - first) * line) 128 ∙ ap (λ (k : ℕ). replicate k 128) size;
     }
 
-module _ (a b : PartialFileValue) (old row : List ℕ) (room n : ℕ) (bytes : List ℕ) (some : old ≢ []) (wide : length row ≡ room) (lines : given_of b.partial_image ≡ given_of a.partial_image + n) (come : IsPartialFile b bytes)
-    (next : GivesNext bytes (given_of a.partial_image) n row) (seen : IsSeen (record { partial_file = a; pixels = old; room = room }) bytes) where
+module _ (a b : PartialFileValue) (old row : List ℕ) (space n : ℕ) (bytes : List ℕ) (some : old ≢ []) (wide : length row ≡ space) (lines : given_of b.partial_image ≡ given_of a.partial_image + n) (come : IsPartialFile b bytes)
+    (next : ReturnsNext bytes (given_of a.partial_image) n row) (seen : IsSeen (record { partial_file = a; pixels = old; space = space }) bytes) where
   -- the view's header is the bytes'
-  there : (x : NextLines bytes (given_of a.partial_image) n row) → ViewHasLines (record { partial_file = a; pixels = old; room = room }) bytes
+  there : (x : NextLines bytes (given_of a.partial_image) n row) → ViewHasLines (record { partial_file = a; pixels = old; space = space }) bytes
   there x = seen.some some x.scan.head.small
 
   is_theirs : (x : NextLines bytes (given_of a.partial_image) n row) → x.settled.scan.head ≡ (there x).head
   is_theirs x = one_head bytes x.settled.scan.head (there x).head seen.are_bytes x.scan.head (there x).is_head
 
-  pub seen_row : (new : List ℕ) (g : HeadValue) → 0 < n → (length bytes ≤ MAX_FILE_BYTES → HeadOf bytes g) → Puts old new row (given_of a.partial_image) n (line_size g) → IsSeen (record { partial_file = b; pixels = new; room = length row }) bytes
-  seen_row new g more head puts = elim next [
+  pub seen_row : (new : List ℕ) (g : HeadValue) → 0 < n → (length bytes ≤ MAX_FILE_BYTES → HeadOf bytes g) → Stores old new row (given_of a.partial_image) n (line_size g) → IsSeen (record { partial_file = b; pixels = new; space = length row }) bytes
+  seen_row new g more head stores = elim next [
     | inl none ↦ absurd (omega (arith, none.0, more))
     | inr x ↦
         let first = given_of a.partial_image in
@@ -167,16 +167,16 @@ module _ (a b : PartialFileValue) (old row : List ℕ) (room n : ℕ) (bytes : L
         let few : first + n ≤ x.settled.scan.head.height = omega (arith, x.count, more) in
         let high : first + n ≤ h.height = subst (λ (v : HeadValue). first + n ≤ v.height) theirs few in
         let are : AreFinal bytes first n (take (n * line_size h) row) = subst (λ (v : HeadValue). AreFinal bytes first n (take (n * line_size v) row)) theirs x.are in
-        let puts' : Puts old new row first n (line_size h) = subst (λ (v : HeadValue). Puts old new row first n (line_size v)) same puts in
+        let puts' : Stores old new row first n (line_size h) = subst (λ (v : HeadValue). Stores old new row first n (line_size v)) same stores in
         record {
           are_bytes = seen.are_bytes;
           partial_file = come;
-          none = λ e. absurd (not_empty old new puts.long some e);
+          none = λ e. absurd (not_empty old new stores.long some e);
           some = λ is small. record {
             head = h;
             is_head = has.is_head;
             lines = subst (λ (k : ℕ). ViewShowsLines bytes h k new) (sym lines) (more_lines bytes h first n old new row high puts' are has.lines);
-            room = omega (arith, has.room, wide);
+            space = omega (arith, has.space, wide);
           };
         }
   ]
@@ -194,9 +194,9 @@ module _ (a b : PartialFileValue) (old row : List ℕ) (room n : ℕ) (bytes : L
         let count : n ≤ length row / line = subst (λ (v : HeadValue). n ≤ length row / line_size v) (is_theirs x) (omega (arith, x.count)) in
         let few : first + n ≤ x.settled.scan.head.height = omega (arith, x.count, more) in
         let high : first + n ≤ h.height = subst (λ (v : HeadValue). first + n ≤ v.height) (is_theirs x) few in
-        let room : n * line ≤ length row = omega (arith, mul-le-mul_right {m = n} {n = length row / line} line count, div-mul-le_self (length row) line) in
+        let space : n * line ≤ length row = omega (arith, mul-le-mul_right {m = n} {n = length row / line} line count, div-mul-le_self (length row) line) in
         let inside : (first + n) * line ≤ length old = omega (arith, mul-le-mul_right {m = first + n} {n = h.height} line high, has.lines.size) in
-        subst (λ (v : HeadValue). (n * line_size v ≤ length row) × ((first + n) * line_size v ≤ length old)) (sym same) (room, inside)
+        subst (λ (v : HeadValue). (n * line_size v ≤ length row) × ((first + n) * line_size v ≤ length old)) (sym same) (space, inside)
   ]
 
   -- if no line is returned, all that are final are shown
@@ -215,7 +215,7 @@ module _ (a b : PartialFileValue) (old row : List ℕ) (room n : ℕ) (bytes : L
               let size : h.height * line ≡ 0 = ap (λ (k : ℕ). h.height * k) z ∙ omega arith in
               absurd (some (nil_from_length old (has.lines.size ∙ size)))
         ] in
-        let one : 1 ≤ length row / line = le-div 1 (length row) line some_line (omega (arith, has.room, wide)) in
+        let one : 1 ≤ length row / line = le-div 1 (length row) line some_line (omega (arith, has.space, wide)) in
         let one' : 1 ≤ length row / line_size x.settled.scan.head = subst (λ (v : HeadValue). 1 ≤ length row / line_size v) (sym theirs) one in
         inr (x.settled, x.scan, x.rows, omega (arith, x.count, none, lines, one'))
   ]
@@ -259,8 +259,8 @@ keeps_as b d pixels row ps rs ps' rs' pixels' row' ep er ep' er' keeps =
 -- ---- nothing more comes
 
 -- what is written after the first elements
-pub put_behind : (a : ℕ) (xs ys : List ℕ) → a ≤ length xs → drop a (put_mid a (length xs - a) xs ys) ≡ ys
-put_behind a xs ys le =
+pub store_after : (a : ℕ) (xs ys : List ℕ) → a ≤ length xs → drop a (put_mid a (length xs - a) xs ys) ≡ ys
+store_after a xs ys le =
     let post = drop (length xs - a) (drop a xs) in
     let none : length post ≡ 0 = length-drop (length xs - a) (drop a xs) ∙ ap (λ (n : ℕ). n - (length xs - a)) (length-drop a xs) ∙ omega arith in
     drop_at (take a xs) (ys ++ post) a (length-take-le a xs le) ∙ ap (λ (l : List ℕ). ys ++ l) (nil_from_length post none) ∙ append-nil ys
@@ -270,7 +270,7 @@ pub rest_same : (scan : ScanValue) (first count : ℕ) (tail : List ℕ) (m : Ma
     → tail ≡ next_lines_of scan.head f first count
 rest_same scan first count tail m high p marks f shows = p.lines ∙ one_lines scan (length scan.intervals) p.marks marks p.f f first count high p.shows shows
 
-module _ (a : PartialFileValue) (old : List ℕ) (room : ℕ) (bytes : List ℕ) (scan : ScanValue) (has : HasScan bytes scan) (seen : IsSeen (record { partial_file = a; pixels = old; room = room }) bytes) where
+module _ (a : PartialFileValue) (old : List ℕ) (space : ℕ) (bytes : List ℕ) (scan : ScanValue) (has : HasScan bytes scan) (seen : IsSeen (record { partial_file = a; pixels = old; space = space }) bytes) where
   -- the lines that are shown are lines of the scan's image
   shown_there : old ≢ [] → ViewShowsLines bytes scan.head (given_of a.partial_image) old
   shown_there some =

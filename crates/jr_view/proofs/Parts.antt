@@ -23,7 +23,7 @@ use Rattle.jr_picture.specs.DecodedScan.{IsPieceOf}
 use Rattle.jr_view.specs.ViewValue.{ViewValue}
 use Rattle.jr_view.specs.Views.{AddsMcus, IsAmong, IsSameAt, first_mcu_of, first_of_strip, has_seen, size_of, unit_at}
 use Rattle.jr_view.specs.Parts.{IsPartOfPicture, ShowsOwn}
-use Rattle.jr_view.proofs.Showing.{tells}
+use Rattle.jr_view.proofs.Showing.{reports}
 
 abbrev view_of : ScanValue → List (List ℕ) → List Bool → ViewValue
 view_of scan units seen = record { scan = scan; units = units; seen = seen }
@@ -44,7 +44,7 @@ module _ (scan : ScanValue) (us vs : List (List ℕ)) (bs cs : List Bool) (first
 
   -- and so does an MCU that is shown
   more_own : AreOwn scan first count units → (mcu : ℕ) → IsAmong scan.head first count mcu → ShowsOwn (view_of scan us bs) mcu → ShowsOwn (view_of scan vs cs) mcu
-  more_own are mcu among own = elim (tells (has_seen (view_of scan us bs) mcu)) [
+  more_own are mcu among own = elim (reports (has_seen (view_of scan us bs) mcu)) [
     | inl t ↦ same_own mcu (a.kept mcu t) own
     | inr f ↦ record {
       seen = λ t p is k lt. a.shown mcu among f k lt ∙ are mcu among p is k lt;
@@ -59,7 +59,7 @@ module _ (scan : ScanValue) (us vs : List (List ℕ)) (bs cs : List Bool) (first
     | inl below ↦ same_own mcu (a.others mcu (inl below)) own
     | inr from ↦ elim (cases_lt mcu (first + count)) [
       | inl before ↦ more_own are mcu (record { picture = lt; from = from; before = before }) own
-      | inr behind ↦ same_own mcu (a.others mcu (inr behind)) own
+      | inr after ↦ same_own mcu (a.others mcu (inr after)) own
     ]
   ]
 

@@ -17,7 +17,7 @@ use Rattle.jr_scan.specs.ScanValue.{ScanValue}
 use Rattle.jr_view.specs.ViewValue.{ViewValue}
 use Rattle.jr_view.specs.Views.{IsView, has_seen, has_seen_row, whole_rows}
 use Rattle.jr_view.specs.Parts.{HasSeenAll}
-use Rattle.jr_view.proofs.Showing.{tells}
+use Rattle.jr_view.proofs.Showing.{reports}
 
 abbrev weight : Bool → ℕ
 weight b = cond b 1 0
@@ -163,14 +163,14 @@ each_passes p a zero r all le lt = absurd (omega arith)
 each_passes p a (suc n) r all le lt =
     let sum : count_by p (range_with_len a (suc n)) ≡ weight (p a) + count_by p (range_with_len (a + 1) n) = sum_by-cons (λ k. weight (p k)) a (range_with_len (a + 1) n) in
     let most : count_by p (range_with_len (a + 1) n) ≤ n = omega (arith, count_by-le-length p (range_with_len (a + 1) n), length-range_with_len (a + 1) n) in
-    elim (tells (p a)) [
+    elim (reports (p a)) [
       | inl t ↦
           let one : weight (p a) ≡ 1 = ap weight t in
           elim (cases_order a r) [
             | inl e ↦ ap p (sym e) ∙ t
             | inr s ↦ elim s [
               | inl before ↦ each_passes p (a + 1) n r (omega (arith, sum, one, all)) (omega arith) (omega arith)
-              | inr behind ↦ absurd (omega arith)
+              | inr after ↦ absurd (omega arith)
             ]
           ]
       | inr f ↦
@@ -187,7 +187,7 @@ whole_is_all v long all m lt =
     let wide : 0 < a = some_of a (mcus_down h) (omega (arith, lt)) in
     let turned : mcus_of h ≡ mcus_down h * a = omega arith in
     let below : m / a < mcus_down h = div_below m a (mcus_down h) wide (omega (arith, lt, turned)) in
-    elim (tells (has_seen v m)) [
+    elim (reports (has_seen v m)) [
       | inl t ↦ t
       | inr f ↦
           let no : true ≡ false = sym (each_passes (has_seen_row h v.seen) 0 (mcus_down h) (m / a) all (omega arith) (omega (arith, below))) ∙ not_whole h v.seen m wide long lt f in

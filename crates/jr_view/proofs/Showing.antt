@@ -21,9 +21,9 @@ both_same a b c mcu e s t = record {
 }
 
 -- a test is passed or not
-pub tells : (b : Bool) → (b ≡ true) ⊎ (b ≡ false)
-tells true = inl refl
-tells false = inr refl
+pub reports : (b : Bool) → (b ≡ true) ⊎ (b ≡ false)
+reports true = inl refl
+reports false = inr refl
 
 -- nothing is shown yet
 pub show_none : (v : ViewValue) (first count : ℕ) (units : List (List ℕ)) → count ≡ 0 → AddsMcus v first count units v

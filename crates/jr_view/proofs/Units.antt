@@ -13,7 +13,7 @@ pub mcu_shown : (old new : ViewValue) (m from per : ℕ) (units us : List (List 
     → ((k : ℕ) → k < per → get_or us (m * per + k) grey_unit ≡ get_or units (from + k) grey_unit)
     → ((k : ℕ) → k < m * per → get_or us k grey_unit ≡ get_or old.units k grey_unit)
     → ((k : ℕ) → m * per + per ≤ k → get_or us k grey_unit ≡ get_or old.units k grey_unit) → AddsMcu old m units from new
-mcu_shown old new m from per units us blocks scan written marked lt here before behind =
+mcu_shown old new m from per units us blocks scan written marked lt here before after =
     let n = blocks_of old.scan.head in
     let same : blocks_of new.scan.head ≡ n = ap (λ (s : ScanValue). blocks_of s.head) scan in
     let start : m * per ≡ m * n = ap (λ j. m * j) blocks in
@@ -32,14 +32,14 @@ mcu_shown old new m from per units us blocks scan written marked lt here before 
               before (mcu * n + i) (omega (arith, few, next, more, start))
           | inr above ↦
               let next : (m + 1) * n ≤ mcu * n = mul-le-mul_right n (omega (arith, above)) in
-              behind (mcu * n + i) (omega (arith, next, one, start, blocks))
+              after (mcu * n + i) (omega (arith, next, one, start, blocks))
         ]);
       };
     }
 
 -- the data units of each MCU fit
-pub room : (m per n mcus len : ℕ) → per ≡ n → m < mcus → len ≡ mcus * n → m * per + per ≤ len
-room m per n mcus len e lt all =
+pub space : (m per n mcus len : ℕ) → per ≡ n → m < mcus → len ≡ mcus * n → m * per + per ≤ len
+space m per n mcus len e lt all =
     let one : (m + 1) * n ≡ m * n + 1 * n = add-mul m 1 n in
     let within : (m + 1) * n ≤ mcus * n = mul-le-mul_right n (omega (arith, lt)) in
     let start : m * per ≡ m * n = ap (λ j. m * j) e in

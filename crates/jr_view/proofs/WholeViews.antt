@@ -61,8 +61,8 @@ abbrev value_or : PieceValue → Option PieceValue → PieceValue
 value_or d None = d
 value_or d (Some p) = p
 
-lawful : (scan : ScanValue) → IsDecodedScan (whole scan)
-lawful scan = record {
+valid : (scan : ScanValue) → IsDecodedScan (whole scan)
+valid scan = record {
   places = length-map-range_with_len (λ j. Some (own scan j)) 0 (length scan.intervals);
   each = λ i p e. elim (cases_lt i (length scan.intervals)) [
     | inl lt ↦ subst (IsPieceOf scan i) (ap (value_or (own scan i)) (sym (own_at scan i lt) ∙ e)) (own_is scan i lt)
@@ -81,7 +81,7 @@ all_first scan =
     (λ i le. ap mark_of (none_past scan i le))
 
 -- a sample of the image lies in an MCU of it
-mcu_there : (h : HeadValue) (c x y : ℕ) → heads.IsLawful h → c < components_of h → x < samples_across h c → y < samples_down h c → (spot_of h c x y).mcu < mcus_of h
+mcu_there : (h : HeadValue) (c x y : ℕ) → heads.IsValid h → c < components_of h → x < samples_across h c → y < samples_down h c → (spot_of h c x y).mcu < mcus_of h
 mcu_there h c x y l p q r =
     let s = sampled_at h c l p in
     let column = mcu_inside x h.width (horizontal_of h c) (horizontal_max h) s.across l.components.across q in
@@ -113,7 +113,7 @@ unit_shown us unit place below = elim (cases_lt unit (length us)) [
       ∙ sym (ap (λ (u : List ℕ). slice_index u place) (get_or_past us unit grey_unit ge) ∙ get_or-replicate 64 place 128 0 below)
 ]
 
-module _ (v : ViewValue) (head : heads.IsLawful v.scan.head) (part : IsPartOfPicture v) (all : HasSeenAll v) where
+module _ (v : ViewValue) (head : heads.IsValid v.scan.head) (part : IsPartOfPicture v) (all : HasSeenAll v) where
   -- a view shows the board's samples
   shows_board : (c x y : ℕ) → c < components_of v.scan.head → x < samples_across v.scan.head c → y < samples_down v.scan.head c → samples_of (whole v.scan) c x y ≡ sample_in_view v c x y
   unfolding sample_in_view
@@ -143,20 +143,20 @@ module _ (v : ViewValue) (head : heads.IsLawful v.scan.head) (part : IsPartOfPic
     blocks = s.blocks;
     longest = s.longest;
     within = λ c x y held few. same c x y held ∙ s.within c x y held few;
-    behind = λ c x y held past. same c x y held ∙ s.behind c x y held past;
+    after = λ c x y held past. same c x y held ∙ s.after c x y held past;
   }
   moved f g i Blank same s = λ c x y held. same c x y held ∙ s c x y held
 
   view_picture : IsPicture v.scan (marks_of (whole v.scan)) (sample_in_view v)
   view_picture =
-      let p = picture (whole v.scan) (lawful v.scan) head in
+      let p = picture (whole v.scan) (valid v.scan) head in
       record {
         count = p.count;
         each = λ i. moved (samples_of (whole v.scan)) (sample_in_view v) (interval_of v.scan i) _ (λ c x y held. sym (shows_board c x y held.component held.column held.line)) (p.each i);
       }
 
   pub shows_first : ShowsFirst v.scan (length v.scan.intervals) (marks_of (whole v.scan)) (sample_in_view v)
-  shows_first = record { lawful = head; picture = view_picture; first = all_first v.scan }
+  shows_first = record { valid = head; picture = view_picture; first = all_first v.scan }
 
 pub view_text : (v : ViewValue) (marks : List Mark) (f : ℕ → ℕ → ℕ → ℕ) → IsPartOfPicture v → HasSeenAll v → ShowsFirst v.scan (length v.scan.intervals) marks f → text_of v.scan.head (sample_in_view v) ≡ text_of v.scan.head f
-view_text v marks f part all s = (one_picture v.scan (length v.scan.intervals)).text _ marks (sample_in_view v) f (shows_first v s.lawful part all) s
+view_text v marks f part all s = (one_picture v.scan (length v.scan.intervals)).text _ marks (sample_in_view v) f (shows_first v s.valid part all) s

@@ -1,6 +1,6 @@
 pub mod ViewValue
 pub mod Views
 pub mod Parts
-pub mod Told
+pub mod Reported
 pub mod Lookers
 pub mod PartialViews

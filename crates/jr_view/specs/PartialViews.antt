@@ -16,11 +16,11 @@ use Rattle.jr_arrival.specs.Settled.{AreFinal, HasRows, FinalRows, WantsMore, li
 pub record PartialViewValue : Type 0 where
   pub partial_file : PartialFileValue
   pub pixels : List ℕ
-  pub room : ℕ
+  pub space : ℕ
 
 -- the view of a file that has arrived so far, with these lines and this space
 abbrev pub view_of : PartialFileValue → (pixels row : List ℕ) → PartialViewValue
-view_of partial_file pixels row = record { partial_file = partial_file; pixels = pixels; room = length row }
+view_of partial_file pixels row = record { partial_file = partial_file; pixels = pixels; space = length row }
 
 -- the number of lines shown
 abbrev pub lines_shown : PartialViewValue → ℕ
@@ -38,7 +38,7 @@ pub record ViewHasLines (v : PartialViewValue) (bytes : List ℕ) : Type 0 where
   pub head : HeadValue
   pub is_head : HeadOf bytes head
   pub lines : ViewShowsLines bytes head (lines_shown v) v.pixels
-  pub room : line_size head ≤ v.room
+  pub space : line_size head ≤ v.space
 
 -- these bytes of the file have arrived, and what is shown is theirs; before lines are allocated none is shown
 pub record IsSeen (v : PartialViewValue) (bytes : List ℕ) : Type 0 where

@@ -2,8 +2,8 @@
 
 ghost use Rattle.std.specs.Prelude.{◌≡◌, ◌<◌, ◌++◌, ◌∷◌, [], ℕ, List, length, true, false, IfOk, OnOk};
 ghost use Rattle.jr_scan.specs.ScanValue.{HasInterval, ScanValue};
-ghost use Rattle.jr_view.specs.Lookers.{Keeps, Tells, has_told};
-ghost use Rattle.jr_view.specs.Told.{Notice, PieceOf, StripOf};
+ghost use Rattle.jr_view.specs.Lookers.{Keeps, Reports, has_reported};
+ghost use Rattle.jr_view.specs.Reported.{Notice, PieceOf, StripOf};
 
 use crate::screen::Screen;
 use jr_base::Memory;
@@ -47,11 +47,11 @@ impl Looker {
     }
 
     /// Returns whether the piece of interval i was reported.
-    fn has_told(&self, i: u32) -> bool
-        ensures { result ≡ has_told self.now i }
+    fn has_reported(&self, i: u32) -> bool
+        ensures { result ≡ has_reported self.now i }
     {
         match self.pieces.get(i as usize) {
-            Some(is_told) => *is_told,
+            Some(is_reported) => *is_reported,
             None => false,
         }
     }
@@ -59,14 +59,14 @@ impl Looker {
     /// Notes a strip, unless its interval's piece was reported, or a strip that begins with its first MCU or a later
     /// one. Returns whether it was noted.
     fn note_strip(&mut self, strip: &Strip) -> bool
-        ensures new { result ≡ true → (scan : ScanValue) (told : List Notice) → strip.now.interval.number < length scan.intervals → Keeps scan self.old told → Keeps scan self.new (told ++ StripOf strip.now ∷ []) }
+        ensures new { result ≡ true → (scan : ScanValue) (reported : List Notice) → strip.now.interval.number < length scan.intervals → Keeps scan self.old reported → Keeps scan self.new (reported ++ StripOf strip.now ∷ []) }
         ensures old { result ≡ false → self.new ≡ self.old }
         ensures pieces { self.new.pieces ≡ self.old.pieces }
     {
         strip.assert_invariant();
         let number = strip.number();
         let at = number as usize;
-        if at >= self.strips.len() || self.has_told(number) {
+        if at >= self.strips.len() || self.has_reported(number) {
             return false;
         }
         let first = strip.first();
@@ -82,11 +82,11 @@ impl Looker {
 
     /// Notes a piece, unless it was reported. Returns whether it was noted.
     fn note_piece(&mut self, piece: &Piece) -> bool
-        ensures new { result ≡ true → (scan : ScanValue) (told : List Notice) → HasInterval scan piece.now.interval → Keeps scan self.old told → Keeps scan self.new (told ++ PieceOf piece.now ∷ []) }
+        ensures new { result ≡ true → (scan : ScanValue) (reported : List Notice) → HasInterval scan piece.now.interval → Keeps scan self.old reported → Keeps scan self.new (reported ++ PieceOf piece.now ∷ []) }
         ensures old { result ≡ false → self.new ≡ self.old }
         ensures count { length self.new.pieces.items ≡ length self.old.pieces.items }
-        ensures told { piece.now.interval.number < length self.old.pieces.items → has_told self.new piece.now.interval.number ≡ true }
-        ensures others { (i : ℕ) → has_told self.old i ≡ true → has_told self.new i ≡ true }
+        ensures reported { piece.now.interval.number < length self.old.pieces.items → has_reported self.new piece.now.interval.number ≡ true }
+        ensures others { (i : ℕ) → has_reported self.old i ≡ true → has_reported self.new i ≡ true }
     {
         piece.assert_invariant();
         let at = piece.number() as usize;
@@ -98,8 +98,8 @@ impl Looker {
     }
 
     /// Reports a strip if it is the next one of its interval.
-    fn tell_strip<S: Screen>(&mut self, strip: &Strip, screen: &mut S)
-        ensures { (scan : ScanValue) → strip.now.interval.number < length scan.intervals → Tells S.becomes scan self.old screen.old self.new screen.new }
+    fn report_strip<S: Screen>(&mut self, strip: &Strip, screen: &mut S)
+        ensures { (scan : ScanValue) → strip.now.interval.number < length scan.intervals → Reports S.becomes scan self.old screen.old self.new screen.new }
     {
         if self.note_strip(strip) {
             screen.show_strip(strip);
@@ -107,9 +107,9 @@ impl Looker {
     }
 
     /// Reports a piece unless it was reported.
-    fn tell_piece<S: Screen>(&mut self, piece: &Piece, screen: &mut S)
-        ensures tells { (scan : ScanValue) → HasInterval scan piece.now.interval → Tells S.becomes scan self.old screen.old self.new screen.new }
-        ensures told { piece.now.interval.number < length self.old.pieces.items → has_told self.new piece.now.interval.number ≡ true }
+    fn report_piece<S: Screen>(&mut self, piece: &Piece, screen: &mut S)
+        ensures reports { (scan : ScanValue) → HasInterval scan piece.now.interval → Reports S.becomes scan self.old screen.old self.new screen.new }
+        ensures reported { piece.now.interval.number < length self.old.pieces.items → has_reported self.new piece.now.interval.number ≡ true }
     {
         if self.note_piece(piece) {
             screen.show_piece(piece);
@@ -126,7 +126,7 @@ impl Looker {
 
     /// Reports the next strips of a long interval, as far as they are there one after the other.
     fn look_at_strips<S: Screen>(&mut self, cells: &StripCells, screen: &mut S)
-        ensures { (scan : ScanValue) → cells.now.number < length scan.intervals → Tells S.becomes scan self.old screen.old self.new screen.new }
+        ensures { (scan : ScanValue) → cells.now.number < length scan.intervals → Reports S.becomes scan self.old screen.old self.new screen.new }
     {
         let Ok(mut sight) = cells.sight() else {
             return;
@@ -135,14 +135,14 @@ impl Looker {
             let Some(strip) = cells.look(place, &mut sight) else {
                 return;
             };
-            self.tell_strip(strip, screen);
+            self.report_strip(strip, screen);
         }
     }
 
     /// Reports the next strips of interval i if that is long.
     fn look_for_strips<S: Screen>(&mut self, i: u32, decoding: &Decoding, screen: &mut S)
         requires { i < length decoding.now.scan.intervals }
-        ensures { Tells S.becomes decoding.now.scan self.old screen.old self.new screen.new }
+        ensures { Reports S.becomes decoding.now.scan self.old screen.old self.new screen.new }
     {
         if let Some(cells) = decoding.strips(i) {
             self.look_at_strips(cells, screen);
@@ -160,12 +160,12 @@ impl Looker {
         requires cell { i < length decoding.now.cells }
         requires sight { sight.old.cells ≡ decoding.now.cells }
         ensures sight { sight.new.cells ≡ sight.old.cells }
-        ensures tells { Tells S.becomes decoding.now.scan self.old screen.old self.new screen.new }
+        ensures reports { Reports S.becomes decoding.now.scan self.old screen.old self.new screen.new }
     {
         if let Some(piece) = decoding.cells().look(i, sight)
             && piece.is_for(decoding.scan())
         {
-            self.tell_piece(piece, screen);
+            self.report_piece(piece, screen);
         }
     }
 
@@ -175,9 +175,9 @@ impl Looker {
         requires interval { i < length decoding.now.scan.intervals }
         requires sight { sight.old.cells ≡ decoding.now.cells }
         ensures sight { sight.new.cells ≡ sight.old.cells }
-        ensures tells { Tells S.becomes decoding.now.scan self.old screen.old self.new screen.new }
+        ensures reports { Reports S.becomes decoding.now.scan self.old screen.old self.new screen.new }
     {
-        if self.has_told(i) {
+        if self.has_reported(i) {
             return;
         }
         self.look_for_strips(i, decoding, screen);
@@ -186,7 +186,7 @@ impl Looker {
 
     /// Reports what can be seen at present. Items skipped for lack of memory are reported by a later call.
     pub(crate) fn look<S: Screen>(&mut self, decoding: &Decoding, screen: &mut S)
-        ensures { Tells S.becomes decoding.now.scan self.old screen.old self.new screen.new }
+        ensures { Reports S.becomes decoding.now.scan self.old screen.old self.new screen.new }
     {
         let Ok(mut sight) = decoding.cells().sight() else {
             return;
@@ -198,7 +198,7 @@ impl Looker {
     }
 
     /// Reports the piece of interval i, which it decodes itself, unless it was reported.
-    fn tell_decoded<S: Screen>(
+    fn report_decoded<S: Screen>(
         &mut self,
         alloc: Global,
         scan: &Scan,
@@ -206,32 +206,32 @@ impl Looker {
         screen: &mut S,
     ) -> Result<(), Memory>
         requires { i < length scan.now.intervals }
-        ensures tells { Tells S.becomes scan.now self.old screen.old self.new screen.new }
-        ensures told { OnOk result (i < length self.old.pieces.items → has_told self.new i ≡ true) }
+        ensures reports { Reports S.becomes scan.now self.old screen.old self.new screen.new }
+        ensures reported { OnOk result (i < length self.old.pieces.items → has_reported self.new i ≡ true) }
     {
-        if self.has_told(i) {
+        if self.has_reported(i) {
             return Ok(());
         }
         let Ok(piece) = Piece::make(alloc, scan.interval(i)?) else {
             return Err(Memory);
         };
-        self.tell_piece(&piece, screen);
+        self.report_piece(&piece, screen);
         Ok(())
     }
 
     /// Reports the pieces that were not reported: no worker has published them.
-    pub(crate) fn tell_rest<S: Screen>(
+    pub(crate) fn report_rest<S: Screen>(
         &mut self,
         alloc: Global,
         scan: &Scan,
         screen: &mut S,
     ) -> Result<(), Memory>
         requires { length self.old.pieces.items ≡ length scan.now.intervals }
-        ensures tells { Tells S.becomes scan.now self.old screen.old self.new screen.new }
-        ensures all { OnOk result ((i : ℕ) → i < length scan.now.intervals → has_told self.new i ≡ true) }
+        ensures reports { Reports S.becomes scan.now self.old screen.old self.new screen.new }
+        ensures all { OnOk result ((i : ℕ) → i < length scan.now.intervals → has_reported self.new i ≡ true) }
     {
         for i in 0..scan.intervals() {
-            self.tell_decoded(alloc, scan, i, screen)?;
+            self.report_decoded(alloc, scan, i, screen)?;
         }
         Ok(())
     }

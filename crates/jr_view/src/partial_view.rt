@@ -42,9 +42,9 @@ impl Model for PartialView {
 
     ghost Value = { PartialViewValue };
 
-    ghost view = { λ v. record { partial_file = v.partial_file; pixels = v.pixels.items; room = length v.row.items } };
+    ghost view = { λ v. record { partial_file = v.partial_file; pixels = v.pixels.items; space = length v.row.items } };
 
-    ghost invariant = { λ v. (bytes : List ℕ) × IsSeen (record { partial_file = v.partial_file; pixels = v.pixels.items; room = length v.row.items }) bytes };
+    ghost invariant = { λ v. (bytes : List ℕ) × IsSeen (record { partial_file = v.partial_file; pixels = v.pixels.items; space = length v.row.items }) bytes };
 }
 
 /// Returns all lines of an image with this header, mid-grey.
@@ -69,7 +69,7 @@ fn lines_or_grey(alloc: Global, head: &Head, lines: Vec<u8>) -> Result<Vec<u8>, 
 }
 
 /// Allocates space for the lines of a row of MCUs of an image with this header.
-fn row_room(alloc: Global, head: &Head) -> Result<Vec<u8>, Memory>
+fn row_space(alloc: Global, head: &Head) -> Result<Vec<u8>, Memory>
     ensures { IfOk result (λ r. line_size head.now ≤ length r.items) }
 {
     let shape = shape_of(head);
@@ -77,13 +77,13 @@ fn row_room(alloc: Global, head: &Head) -> Result<Vec<u8>, Memory>
 }
 
 /// Copies `count` lines of `line` bytes after the first ones of an image.
-fn put_lines(pixels: &mut [u8], first: u32, lines: &[u8], count: u32, line: usize)
+fn write_lines(pixels: &mut [u8], first: u32, lines: &[u8], count: u32, line: usize)
     requires short { line ≤ 196605 }
     requires inside { (first + count) * line ≤ length pixels.old }
     requires there { count * line ≤ length lines.now }
     ensures before { take (first * line) pixels.new ≡ take (first * line) pixels.old }
-    ensures put { take ((first + count) * line) pixels.new ≡ take (first * line) pixels.old ++ take (count * line) lines.now }
-    ensures behind { drop ((first + count) * line) pixels.new ≡ drop ((first + count) * line) pixels.old }
+    ensures store { take ((first + count) * line) pixels.new ≡ take (first * line) pixels.old ++ take (count * line) lines.now }
+    ensures after { drop ((first + count) * line) pixels.new ≡ drop ((first + count) * line) pixels.old }
 {
     let from = first as usize * line;
     let size = count as usize * line;
@@ -114,7 +114,7 @@ fn open(
     let Some(head) = partial_file.head() else {
         return Ok(());
     };
-    let Ok(next) = row_room(alloc, head) else {
+    let Ok(next) = row_space(alloc, head) else {
         return Err(Refusal::Memory);
     };
     let Ok(lines) = grey_lines(alloc, head) else {
@@ -154,7 +154,7 @@ fn show_next(
     let Some(head) = partial_file.head() else {
         unreachable!()
     };
-    put_lines(pixels, first, row, count, shape_of(head).line);
+    write_lines(pixels, first, row, count, shape_of(head).line);
     Ok(count)
 }
 

@@ -1,12 +1,12 @@
 //! A screen on which a decoding is shown.
 
-ghost use Rattle.jr_view.specs.Told.{Notice, Asked, PieceOf, StripOf};
+ghost use Rattle.jr_view.specs.Reported.{Notice, Asked, PieceOf, StripOf};
 
 use jr_piece::{Piece, Strip};
 
 /// A receiver of what a decoding makes visible.
 pub trait Screen {
-    ghost use Rattle.jr_view.specs.Told.{Notice};
+    ghost use Rattle.jr_view.specs.Reported.{Notice};
 
     // How it changes by what is reported to it.
     ghost becomes: { Self → Notice → Self → Type 0 } = { λ _ _ _. Unit {0} };

@@ -41,7 +41,7 @@ impl Shown<'_> {
     }
 
     /// Copies the data units starting at this one, as many as fit.
-    pub(crate) fn put(&self, from: u32, out: &mut [[u8; 64]])
+    pub(crate) fn store(&self, from: u32, out: &mut [[u8; 64]])
         requires { from + length out.old < 2 ^ 32 }
         ensures { (k : ℕ) → k < length out.new → slice_index_or out.new k grey_unit ≡ slice_index_or (units_shown self.now) (from + k) grey_unit }
     {

@@ -54,14 +54,14 @@ fn grey_units(alloc: Global, count: usize) -> Result<Vec<[u8; 64]>, Memory>
 }
 
 /// Copies the data units of an MCU, `count` starting at `start`.
-fn put_mcu(shown: &Shown<'_>, from: u32, units: &mut [[u8; 64]], start: usize, count: usize)
+fn store_mcu(shown: &Shown<'_>, from: u32, units: &mut [[u8; 64]], start: usize, count: usize)
     requires few { from + count < 2 ^ 32 }
-    requires room { start + count ≤ length units.old }
+    requires space { start + count ≤ length units.old }
     ensures here { (k : ℕ) → k < count → slice_index_or units.new (start + k) grey_unit ≡ slice_index_or (units_shown shown.now) (from + k) grey_unit }
     ensures before { (k : ℕ) → k < start → slice_index_or units.new k grey_unit ≡ slice_index_or units.old k grey_unit }
-    ensures behind { (k : ℕ) → start + count ≤ k → slice_index_or units.new k grey_unit ≡ slice_index_or units.old k grey_unit }
+    ensures after { (k : ℕ) → start + count ≤ k → slice_index_or units.new k grey_unit ≡ slice_index_or units.old k grey_unit }
 {
-    shown.put(from, &mut units[start..start + count]);
+    shown.store(from, &mut units[start..start + count]);
 }
 
 /// Returns the number of MCUs of each interval but the last.
@@ -203,7 +203,7 @@ impl View {
         }
         let head = self.scan.head();
         let per_mcu = head.order().len();
-        put_mcu(shown, from as u32, &mut self.units, mcu * per_mcu, per_mcu);
+        store_mcu(shown, from as u32, &mut self.units, mcu * per_mcu, per_mcu);
         self.seen[mcu] = true;
         // By its contract the number of rows fits.
         let _rows = head.mcus_down();
@@ -235,8 +235,8 @@ impl Samples for View {
         sample_of_units(self.scan.head(), self, c, x, y)
     }
 
-    fn line<'a>(&'a self, c: u32, y: u32, count: usize, room: &'a mut [u8]) -> &'a [u8] {
-        let line = &mut room[..count];
+    fn line<'a>(&'a self, c: u32, y: u32, count: usize, space: &'a mut [u8]) -> &'a [u8] {
+        let line = &mut space[..count];
         fill_line(self.scan.head(), self, c, y, line);
         line
     }

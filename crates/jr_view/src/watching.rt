@@ -3,8 +3,8 @@
 ghost use Rattle.std.specs.Prelude.{◌≡◌, ◌<◌, ◌≤◌, ℕ, true, length, All, IfOk, IsOk, OnOk};
 ghost use Rattle.std.specs.Arc.{arc_value};
 ghost use Rattle.jr_base.specs.declared.limits.TheConstants.{MAX_WORKERS};
-ghost use Rattle.jr_view.specs.Lookers.{Tells, has_told};
-ghost use Rattle.jr_view.specs.Told.{IsTold};
+ghost use Rattle.jr_view.specs.Lookers.{Reports, has_reported};
+ghost use Rattle.jr_view.specs.Reported.{IsReported};
 
 use crate::looker::Looker;
 use crate::screen::Screen;
@@ -32,7 +32,7 @@ struct Looking<'s, 'w, R, S: Screen> {
 
 /// Reports what can be seen at present, and returns whether the screen has nothing left to show.
 fn look_and_ask<S: Screen>(decoding: &Decoding, looker: &mut Looker, screen: &mut S) -> bool
-    ensures { Tells S.becomes decoding.now.scan looker.old screen.old looker.new screen.new }
+    ensures { Reports S.becomes decoding.now.scan looker.old screen.old looker.new screen.new }
 {
     looker.look(decoding, screen);
     screen.is_done()
@@ -47,7 +47,7 @@ fn look_meanwhile<R: Wait + Clock, S: Screen>(
     looker: &mut Looker,
     screen: &mut S,
 )
-    ensures { Tells S.becomes decoding.now.scan looker.old screen.old looker.new screen.new }
+    ensures { Reports S.becomes decoding.now.scan looker.old screen.old looker.new screen.new }
 {
     for _ in 0..u64::MAX {
         let is_done = look_and_ask(decoding, looker, screen);
@@ -64,7 +64,7 @@ impl<'s, 'w, R: Wait + Clock, S: Screen> Beside for Looking<'s, 'w, R, S> {
 
     ghost may = { λ l. Unit };
 
-    ghost gives = { λ l r. Tells S.becomes l.decoding.now.scan l.looker l.screen.now r.0 r.1.now × (r.1.ghost_name ≡ l.screen.ghost_name) };
+    ghost returned = { λ l r. Reports S.becomes l.decoding.now.scan l.looker l.screen.now r.0 r.1.now × (r.1.ghost_name ≡ l.screen.ghost_name) };
 
     fn run(self) -> (Looker, &'w mut S) {
         let Looking {
@@ -91,14 +91,14 @@ fn run_meanwhile<R: Threads + Wait + Sync, G: Gate + Sync, B: Beside + Drop>(
 ) -> B::Answer
     requires seats { All (λ s. s.desk ≡ decoding.now.desk) seats.items }
     requires may { B.may beside }
-    ensures { B.gives beside result }
+    ensures { B.returned beside result }
 {
     thread::scope(
         thread::scope_env(),
         rt,
         |scope| -> B::Answer
             requires { B.may beside × All (λ s. s.desk ≡ decoding.now.desk) seats.items }
-            ensures { B.gives beside result }
+            ensures { B.returned beside result }
         {
             let started = scope.spawn(
                 move ||
@@ -126,7 +126,7 @@ fn run_and_look<R: Threads + Wait + Clock + Sync, G: Gate + Sync, S: Screen>(
     screen: &mut S,
 ) -> Looker
     requires { All (λ s. s.desk ≡ decoding.now.desk) seats.items }
-    ensures { Tells S.becomes decoding.now.scan looker screen.old result screen.new }
+    ensures { Reports S.becomes decoding.now.scan looker screen.old result screen.new }
 {
     let has_ended = AtomicBool::new(false);
     let looking = Looking {
@@ -141,24 +141,24 @@ fn run_and_look<R: Threads + Wait + Clock + Sync, G: Gate + Sync, S: Screen>(
 }
 
 /// Reports what the workers have left, once they have ended.
-fn tell_last<S: Screen>(
+fn report_last<S: Screen>(
     alloc: Global,
     decoding: &Decoding,
     looker: &mut Looker,
     screen: &mut S,
 ) -> Result<(), Memory>
     requires { length looker.old.pieces.items ≡ length decoding.now.scan.intervals }
-    ensures tells { Tells S.becomes decoding.now.scan looker.old screen.old looker.new screen.new }
-    ensures all { OnOk result ((i : ℕ) → i < length decoding.now.scan.intervals → has_told looker.new i ≡ true) }
+    ensures reports { Reports S.becomes decoding.now.scan looker.old screen.old looker.new screen.new }
+    ensures all { OnOk result ((i : ℕ) → i < length decoding.now.scan.intervals → has_reported looker.new i ≡ true) }
 {
     looker.look(decoding, screen);
-    looker.tell_rest(alloc, decoding.scan(), screen)?;
+    looker.report_rest(alloc, decoding.scan(), screen)?;
     screen.is_done();
     Ok(())
 }
 
 /// Runs a decoding, and reports all of it to a screen.
-fn tell_all<R: Threads + Wait + Clock + Sync, G: Gate + Sync, S: Screen>(
+fn report_all<R: Threads + Wait + Clock + Sync, G: Gate + Sync, S: Screen>(
     rt: &R,
     alloc: Global,
     decoding: &Decoding,
@@ -167,11 +167,11 @@ fn tell_all<R: Threads + Wait + Clock + Sync, G: Gate + Sync, S: Screen>(
     screen: &mut S,
 ) -> Result<(), Memory>
     requires { All (λ s. s.desk ≡ decoding.now.desk) seats.items }
-    ensures { IsTold S.becomes decoding.now.scan (IsOk result) screen.old screen.new }
+    ensures { IsReported S.becomes decoding.now.scan (IsOk result) screen.old screen.new }
 {
     let looker = Looker::of(alloc, decoding)?;
     let mut looker = run_and_look(rt, decoding, seats, gate, looker, screen);
-    tell_last(alloc, decoding, &mut looker, screen)?;
+    report_last(alloc, decoding, &mut looker, screen)?;
     Ok(())
 }
 
@@ -194,9 +194,9 @@ pub fn watch<R: Threads + Wait + Clock + Sync, G: Gate + Sync, S: Screen>(
     requires few { workers ≤ MAX_WORKERS }
     ensures scan { IfOk result (λ d. d.scan ≡ arc_value scan) }
     ensures all { IfOk result (λ d. d.desk.limit ≡ length (arc_value scan).intervals) }
-    ensures told { IsTold S.becomes (arc_value scan) (IsOk result) screen.old screen.new }
+    ensures reported { IsReported S.becomes (arc_value scan) (IsOk result) screen.old screen.new }
 {
     let (decoding, seats) = Decoding::open(alloc, scan, workers, None)?;
-    tell_all(rt, alloc, &decoding, seats, gate, screen)?;
+    report_all(rt, alloc, &decoding, seats, gate, screen)?;
     Ok(decoding)
 }

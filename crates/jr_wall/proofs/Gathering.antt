@@ -15,7 +15,7 @@ use Rattle.jr_scan.specs.Mcus.{Decodes, Front, HasNoDecoding, HasLongestFront}
 use Rattle.jr_wall.specs.Sharing.{IsOneOf}
 use Rattle.jr_piece.specs.PieceValue.{PieceValue}
 use Rattle.jr_piece.specs.StripValue.{StripValue}
-use Rattle.jr_piece.specs.Strips.{AreOf, TellsEnd, shared_strips}
+use Rattle.jr_piece.specs.Strips.{AreOf, ReportsEnd, shared_strips}
 
 -- one more strip of the interval is appended
 pub one_more_of : (i : IntervalValue) (xs : List (Arc StripValue Global)) (x : Arc StripValue Global) → AreOf i (shared_strips xs) → (arc_value x).interval ≡ i → AreOf i (shared_strips (xs ++ x ∷ []))
@@ -29,9 +29,9 @@ one_more_of i xs x all one = subst (All of) (sym (map-append arc_value xs (x ∷
     at (suc k) d lt = absurd (omega arith)
 
 -- what a reader at its end reports
-pub tells_end : (b : Bool) (i : IntervalValue) (k : ℕ) → (IsTrue b → (zs : List (List ℤ)) → Front i k zs → Decodes i zs) → (b ≡ false → HasLongestFront i k → HasNoDecoding i) → HasLongestFront i k → TellsEnd i k b
-tells_end true i k sound damaged w = (w, (w.0, sound refl w.0 w.1.front))
-tells_end false i k sound damaged w = (w, damaged refl w)
+pub reports_end : (b : Bool) (i : IntervalValue) (k : ℕ) → (IsTrue b → (zs : List (List ℤ)) → Front i k zs → Decodes i zs) → (b ≡ false → HasLongestFront i k → HasNoDecoding i) → HasLongestFront i k → ReportsEnd i k b
+reports_end true i k sound damaged w = (w, (w.0, sound refl w.0 w.1.front))
+reports_end false i k sound damaged w = (w, damaged refl w)
 
 -- an interval of a known scan is that scan's interval of its number
 pub its_interval : (known : Option FirstIntervalsValue) (p : FirstIntervalsValue) (i : IntervalValue) (n : ℕ) → known ≡ Some p → IsOneOf known i → n ≡ i.number → (n < length p.scan.intervals) × (i ≡ interval_of p.scan n)

@@ -30,7 +30,7 @@ none_counted test (suc n) e = sum_by-cons (λ (p : Option PieceValue). cond (tes
 pub kept_new : (scan : ScanValue) (n : ℕ) → n ≡ length scan.intervals → n < 2 ^ 32 → KeepsCounts (record { scan = scan; pieces = map shared_piece (replicate n None) }) 0 0
 kept_new scan n e small =
     rw none_held (record {
-      lawful = record { places = length-replicate {A = Option PieceValue} n None ∙ e; each = λ i p h. let z : None ≡ Some p = sym (no_piece n i) ∙ h in cc };
+      valid = record { places = length-replicate {A = Option PieceValue} n None ∙ e; each = λ i p h. let z : None ≡ Some p = sym (no_piece n i) ∙ h in cc };
       few = rw (length-replicate {A = Option PieceValue} n None) small;
       sound_is = sym (none_counted is_sound_piece n refl);
       damaged_is = sym (none_counted is_damaged_piece n refl);
@@ -60,7 +60,7 @@ turned false = refl
 pub posts : (b : DecodedScan) (n : ℕ) (p : PieceValue) (sound damaged more less : ℕ) → KeepsCounts b sound damaged → n ≡ p.interval.number → IsFor p.interval b.scan → IsOutcome p → get_or b.pieces n None ≡ None
     → more ≡ bool_byte p.is_sound → less ≡ bool_byte (not p.is_sound) → Posted b n p (sound + more) (damaged + less)
 posts b n p sound damaged more less k is for outcome none m l =
-    let places = k.lawful.places in
+    let places = k.valid.places in
     let within : n < length b.pieces = omega (arith, for.0) in
     let long = length-set b.pieces n (Some p) in
     let s = count_set is_sound_piece b.pieces n p within none refl in
@@ -70,7 +70,7 @@ posts b n p sound damaged more less k is for outcome none m l =
     let few = k.few in
     record {
       kept = record {
-        lawful = record {
+        valid = record {
           places = long ∙ places;
           each = λ i q e. dite (ℕ_discrete i n)
               (λ same.
@@ -80,7 +80,7 @@ posts b n p sound damaged more less k is for outcome none m l =
               let number : p.interval.number ≡ i = sym is ∙ sym same in
               let of : IsPieceOf b.scan i p = record { number = number; interval = for; outcome = outcome } in
               subst (λ (x : PieceValue). IsPieceOf b.scan i x) one of)
-              (λ apart. k.lawful.each i q (sym (get_or-set_other b.pieces n i (Some p) None apart) ∙ e));
+              (λ apart. k.valid.each i q (sym (get_or-set_other b.pieces n i (Some p) None apart) ∙ e));
         };
         few = rw long few;
         sound_is = sound_now;

@@ -13,7 +13,7 @@ shared_piece (Some p) = Some (arc_value p)
 
 -- what the fields of a board keep
 pub record KeepsCounts (b : DecodedScan) (sound damaged : ℕ) : Type 0 where
-  pub lawful : IsDecodedScan b
+  pub valid : IsDecodedScan b
   pub few : length b.pieces < 2 ^ 32
   pub sound_is : sound ≡ count_by is_sound_piece b.pieces
   pub damaged_is : damaged ≡ count_by is_damaged_piece b.pieces

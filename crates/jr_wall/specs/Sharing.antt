@@ -10,7 +10,7 @@ use Rattle.jr_scan.specs.ScanValue.{HasInterval}
 use Rattle.jr_scan.specs.FirstIntervalsValue.{FirstIntervalsValue}
 use Rattle.jr_work.specs.Guessing.{OfPart}
 use Rattle.jr_piece.specs.StripValue.{StripValue}
-use Rattle.jr_piece.specs.Strips.{TellsEnd}
+use Rattle.jr_piece.specs.Strips.{ReportsEnd}
 use Rattle.jr_wall.specs.declared.reading.End.{End}
 use Rattle.jr_wall.specs.declared.reading.Next.{Next}
 use Rattle.jr_wall.specs.declared.reading.Next.TheVariants.{Strip, End as Ended}
@@ -30,7 +30,7 @@ pub record IsEndOf (known : Option FirstIntervalsValue) (e : End) : Type 0 where
   pub interval : IntervalValue
   pub own : IsOneOf known interval
   pub number : interval.number ≡ e.number
-  pub ends : TellsEnd interval e.front e.is_sound
+  pub ends : ReportsEnd interval e.front e.is_sound
 
 abbrev pub interval_of_strip : WaitingStrip → IntervalValue
 interval_of_strip (Coded s) = s.interval

@@ -249,7 +249,7 @@ impl Decoding {
         if let Some(cells) = self.strips(number)
             && let Some(job) = jobs.claimed(self.alloc, &self.part(), number)
         {
-            return self.share(rt, gate, &job, cells);
+            return self.work_on_job(rt, gate, &job, cells);
         }
         make_piece(self.alloc, &self.scan, number, gate)
     }
@@ -271,7 +271,7 @@ impl Decoding {
             let number = k.saturating_add(place as usize) % count;
             if let Some(job) = jobs.get(number)
                 && let Some(cells) = self.strips(job.interval().number())
-                && let Some(piece) = self.share(rt, gate, job, cells)
+                && let Some(piece) = self.work_on_job(rt, gate, job, cells)
             {
                 self.post(rt, piece, sight);
             }
@@ -280,7 +280,7 @@ impl Decoding {
 
     /// Works on a job until nothing of it is left to do. The worker that decodes its last strip gets the piece, which
     /// the gate has seen.
-    fn share<R: Wait, G: Gate, S: OneScan>(
+    fn work_on_job<R: Wait, G: Gate, S: OneScan>(
         &self,
         rt: &R,
         gate: &G,

@@ -5,7 +5,7 @@ ghost use Rattle.std.specs.List.{All};
 ghost use Rattle.std.specs.Arc.{arc_value};
 ghost use Rattle.jr_scan.specs.IntervalValue.{IntervalValue};
 ghost use Rattle.jr_wall.specs.Sharing.{IsOneOf, IsEmptyOrOf, IsEndOf};
-ghost use Rattle.jr_piece.specs.Strips.{AreOf, TellsEnd, shared_strips};
+ghost use Rattle.jr_piece.specs.Strips.{AreOf, ReportsEnd, shared_strips};
 
 use crate::reading::{End, strip_mcus};
 use jr_base::Memory;
@@ -34,13 +34,13 @@ impl<S: OneScan> Model for Gathered<S> {
     ghost use Rattle.std.specs.Arc.{arc_value};
     ghost use Rattle.jr_scan.specs.IntervalValue.{IntervalValue};
     ghost use Rattle.jr_wall.specs.Sharing.{IsOneOf, IsEmptyOrOf};
-    ghost use Rattle.jr_piece.specs.Strips.{TellsEnd};
+    ghost use Rattle.jr_piece.specs.Strips.{ReportsEnd};
 
     ghost Value = { IntervalValue };
 
     ghost view = { λ g. arc_value g.interval };
 
-    ghost invariant = { λ g. (0 < g.each) × IsOneOf S.part (arc_value g.interval) × All (IsEmptyOrOf (arc_value g.interval)) g.strips.items × IfSome g.end (λ e. TellsEnd (arc_value g.interval) e.front e.is_sound) };
+    ghost invariant = { λ g. (0 < g.each) × IsOneOf S.part (arc_value g.interval) × All (IsEmptyOrOf (arc_value g.interval)) g.strips.items × IfSome g.end (λ e. ReportsEnd (arc_value g.interval) e.front e.is_sound) };
 }
 
 /// Returns the strips of all positions; `None` if a position is empty.
@@ -56,7 +56,11 @@ fn all_of(alloc: Global, places: &[Option<Arc<Strip>>]) -> Option<Vec<Arc<Strip>
 }
 
 /// Stores a strip at its index. Indices before it that have none yet are empty.
-fn put(places: &mut Vec<Option<Arc<Strip>>>, place: usize, strip: Arc<Strip>) -> Result<(), Memory>
+fn store(
+    places: &mut Vec<Option<Arc<Strip>>>,
+    place: usize,
+    strip: Arc<Strip>,
+) -> Result<(), Memory>
     ensures { (i : IntervalValue) → (arc_value strip).interval ≡ i → All (IsEmptyOrOf i) places.old.items → All (IsEmptyOrOf i) places.new.items }
 {
     for _ in places.len()..=place {
@@ -93,7 +97,7 @@ impl<S: OneScan> Gathered<S> {
             return Ok(());
         }
         let place = strip.first() / self.each;
-        put(&mut self.strips, place as usize, strip)?;
+        store(&mut self.strips, place as usize, strip)?;
         self.kept = self.kept.saturating_add(1);
         Ok(())
     }
@@ -113,7 +117,7 @@ impl<S: OneScan> Gathered<S> {
         ensures own { IsOneOf S.part self.old }
         ensures number { IfSome result (λ r. r.0 ≡ self.old.number) }
         ensures strips { IfSome result (λ r. AreOf self.old (shared_strips r.1.items)) }
-        ensures end { IfSome result (λ r. TellsEnd self.old r.2.front r.2.is_sound) }
+        ensures end { IfSome result (λ r. ReportsEnd self.old r.2.front r.2.is_sound) }
     {
         let end = self.end?;
         if self.kept != end.front.div_ceil(self.each) {

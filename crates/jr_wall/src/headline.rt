@@ -21,7 +21,7 @@ impl Board {
     {
         self.assert_invariant();
         // By its contract a header is valid.
-        let _lawful = self.head();
+        let _valid = self.head();
         Counts {
             sound: self.sound(),
             damaged: self.damaged(),

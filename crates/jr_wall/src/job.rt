@@ -93,7 +93,7 @@ impl<S: OneScan> Job<S> {
         let gathered = Gathered::of(alloc, kept);
         let work = StripWork::of(alloc, gathered, workers.saturating_sub(1).max(1));
         let mut queue = WorkQueue::of(alloc, guesses, work);
-        queue.put(part, None, Some(reading));
+        queue.store(part, None, Some(reading));
         Ok(Job {
             interval,
             shared: SharedWork::of(queue),
@@ -129,7 +129,7 @@ impl<S: OneScan> Job<S> {
                 (None, None)
             }
         };
-        self.shared.put(rt, part, step, reader);
+        self.shared.store(rt, part, step, reader);
     }
 
     /// Returns the samples of a strip.

@@ -38,7 +38,7 @@ pub fn write_board<T: Threads + Wait + Sync, W: Write, G: Gate + Sync>(
     ensures write { result ≡ Err PictureError.Write → has_failed out.new ≡ true }
 {
     // By its contract a scan's header is valid.
-    let _lawful = scan.head();
+    let _valid = scan.head();
     let Ok(shared) = Arc::try_clone(scan) else {
         return Err(PictureError::Memory);
     };

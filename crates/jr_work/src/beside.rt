@@ -17,12 +17,12 @@ pub trait Beside {
 
     ghost may: { Self → Type 0 };
 
-    ghost gives: { Self → Self.Answer → Type 0 };
+    ghost returned: { Self → Self.Answer → Type 0 };
 
     /// Does it.
     fn run(self) -> Self::Answer
         requires { may self }
-        ensures { gives self result };
+        ensures { returned self result };
 }
 
 /// Starts `helpers` threads that help, and runs `beside` in the calling thread. A thread that cannot be started is left
@@ -34,14 +34,14 @@ pub fn run_beside<R: Threads + Wait + Sync, H: Help + Sync, B: Beside + Drop>(
     beside: B,
 ) -> B::Answer
     requires { B.may beside }
-    ensures { B.gives beside result }
+    ensures { B.returned beside result }
 {
     thread::scope(
         thread::scope_env(),
         rt,
         |scope| -> B::Answer
             requires { B.may beside }
-            ensures { B.gives beside result }
+            ensures { B.returned beside result }
         {
             for _ in 0..helpers {
                 let _ = scope.spawn(move || { help.help() });

@@ -99,13 +99,13 @@ impl<S: OneScan> GuessQueue<S> {
     }
 
     /// Returns whether one more buffer is of use: no thread brings one yet, and there are bits to read ahead.
-    pub(crate) fn wants_room(&self, part: &FirstIntervals<'_>) -> bool {
+    pub(crate) fn wants_space(&self, part: &FirstIntervals<'_>) -> bool {
         self.lacking > 0 && self.next_window(part).is_some()
     }
 
     /// Returns the size of a buffer that a thread is to bring; `None` if there are all buffers, or others
     /// bring them.
-    pub(crate) fn lacks_room(&mut self) -> Option<BufferSize>
+    pub(crate) fn lacks_space(&mut self) -> Option<BufferSize>
         ensures { self.new.at ≡ self.old.at }
     {
         if self.lacking == 0 {
@@ -116,10 +116,10 @@ impl<S: OneScan> GuessQueue<S> {
     }
 
     /// Takes one more buffer, which a thread brings.
-    pub(crate) fn bring(&mut self, room: ScanGuess<S>)
+    pub(crate) fn bring(&mut self, space: ScanGuess<S>)
         ensures { self.new.at ≡ self.old.at }
     {
-        drop(self.slots.push(GuessSlot::of(room)));
+        drop(self.slots.push(GuessSlot::of(space)));
     }
 
     /// Takes a buffer, once no speculative read is made any more.
@@ -238,12 +238,12 @@ impl<S: OneScan> GuessQueue<S> {
     }
 
     /// Keeps a speculative read that is made.
-    pub(crate) fn put(&mut self, made: GuessTask<S>)
+    pub(crate) fn store(&mut self, made: GuessTask<S>)
         ensures { self.new.at ≡ self.old.at }
     {
         let GuessTask { place, guess, .. } = made;
         if let Some(slot) = self.slots.get_mut(place) {
-            slot.put(guess);
+            slot.store(guess);
         }
     }
 
@@ -261,7 +261,7 @@ impl<S: OneScan> GuessQueue<S> {
         }
         for slot in &self.slots {
             if slot.is_between(number, bit, to) {
-                guesses = slot.put_into(number, guesses);
+                guesses = slot.store_into(number, guesses);
             }
         }
         guesses

@@ -66,17 +66,17 @@ impl<S: OneScan> GuessSlot<S> {
     }
 
     /// Keeps a speculative read that is made.
-    pub(crate) fn put(&mut self, guess: ScanGuess<S>) {
+    pub(crate) fn store(&mut self, guess: ScanGuess<S>) {
         drop(replace(&mut self.guess, Some(guess)));
     }
 
     /// Adds the speculative read of this slot, if it is of the interval, to those of the interval.
-    pub(crate) fn put_into(&self, number: u32, guesses: Guesses) -> Guesses
+    pub(crate) fn store_into(&self, number: u32, guesses: Guesses) -> Guesses
         requires { AreGuesses S.part number guesses }
         ensures { AreGuesses S.part number result }
     {
         match &self.guess {
-            Some(guess) => guess.put_into(number, guesses),
+            Some(guess) => guess.store_into(number, guesses),
             None => guesses,
         }
     }

@@ -91,9 +91,9 @@ impl<S: OneScan> ScanGuess<S> {
         let scan = part.scan();
         let mut guess = self.guess;
         if window.number < scan.intervals()
-            && let Some(room) = Arc::get_mut(&mut guess)
+            && let Some(space) = Arc::get_mut(&mut guess)
         {
-            room.read(&scan.interval_ref(window.number), window.from, window.to);
+            space.read(&scan.interval_ref(window.number), window.from, window.to);
         }
         ScanGuess {
             guess,
@@ -102,7 +102,7 @@ impl<S: OneScan> ScanGuess<S> {
     }
 
     /// Adds this speculative read, if it is of the interval, to those of the interval.
-    pub(crate) fn put_into(&self, number: u32, guesses: Guesses) -> Guesses
+    pub(crate) fn store_into(&self, number: u32, guesses: Guesses) -> Guesses
         requires { AreGuesses S.part number guesses }
         ensures { AreGuesses S.part number result }
     {

@@ -77,11 +77,11 @@ impl<S: OneScan, W: Work<S>> SharedWork<S, W> {
         match assist {
             Assist::Speculate(task) => {
                 let made = task.make(part);
-                self.queue.lock(rt).guesses.put(made);
+                self.queue.lock(rt).guesses.store(made);
             }
             Assist::Bring(size) => {
-                if let Ok(room) = ScanGuess::open(alloc, part, size) {
-                    self.queue.lock(rt).guesses.bring(room);
+                if let Ok(space) = ScanGuess::open(alloc, part, size) {
+                    self.queue.lock(rt).guesses.bring(space);
                 }
             }
             Assist::FreeRead(slot) => drop(slot),
@@ -90,8 +90,8 @@ impl<S: OneScan, W: Work<S>> SharedWork<S, W> {
         self.wake(rt, part);
     }
 
-    /// Does what `WorkQueue::put` does, and wakes a thread for which there is a task.
-    pub fn put<R: Wait>(
+    /// Does what `WorkQueue::store` does, and wakes a thread for which there is a task.
+    pub fn store<R: Wait>(
         &self,
         rt: &R,
         part: &FirstIntervals<'_>,
@@ -100,7 +100,7 @@ impl<S: OneScan, W: Work<S>> SharedWork<S, W> {
     )
         requires { S.part ≡ Some part.now }
     {
-        self.queue.lock(rt).put(part, step, reader);
+        self.queue.lock(rt).store(part, step, reader);
         self.wake(rt, part);
     }
 
@@ -108,7 +108,7 @@ impl<S: OneScan, W: Work<S>> SharedWork<S, W> {
     pub fn start<R: Wait>(&self, rt: &R, part: &FirstIntervals<'_>, reader: Option<W::Reader>)
         requires { S.part ≡ Some part.now }
     {
-        self.queue.lock(rt).put(part, None, reader);
+        self.queue.lock(rt).store(part, None, reader);
         self.has_task.notify_all();
     }
 

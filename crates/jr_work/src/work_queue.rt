@@ -70,7 +70,7 @@ impl<S: OneScan, W: Work<S>> WorkQueue<S, W> {
             Choice::Finish
         } else if self.is_over {
             Choice::End
-        } else if self.guesses.can_guess(part) || self.guesses.wants_room(part) {
+        } else if self.guesses.can_guess(part) || self.guesses.wants_space(part) {
             Choice::Speculate
         } else {
             Choice::Wait
@@ -107,7 +107,7 @@ impl<S: OneScan, W: Work<S>> WorkQueue<S, W> {
         if let Some(guess) = self.guesses.take(part) {
             return Some(Task::Assist(Assist::Speculate(guess)));
         }
-        let Some(size) = self.guesses.lacks_room() else {
+        let Some(size) = self.guesses.lacks_space() else {
             return None;
         };
         Some(Task::Assist(Assist::Bring(size)))
@@ -151,7 +151,7 @@ impl<S: OneScan, W: Work<S>> WorkQueue<S, W> {
 
     /// Keeps a step that waits to be finished, if there is one, and the steps after it; `None` if none is left to
     /// begin.
-    pub fn put(
+    pub fn store(
         &mut self,
         part: &FirstIntervals<'_>,
         step: Option<W::Unfinished>,

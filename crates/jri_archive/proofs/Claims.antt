@@ -17,7 +17,7 @@ use Rattle.jri_archive.specs.Records.{file_state}
 use Rattle.jri_archive.specs.declared.source.Seal.{Seal}
 use Rattle.jri_archive.specs.declared.state_record.FileRecord.{FileRecord}
 use Rattle.jri_archive.specs.declared.state_record.Stamp.{Stamp}
-use Rattle.jri_archive.specs.Told.{IsCheckOf, IsClaimOf, IsOther, IsOtherSeal, IsRecordOf, IsSealed, IsStamped, AllowsEntries, AreChecksOf, IsCheckBy, given_names, numbered}
+use Rattle.jri_archive.specs.Reporting.{IsCheckOf, IsClaimOf, IsOther, IsOtherSeal, IsRecordOf, IsSealed, IsStamped, AllowsEntries, AreChecksOf, IsCheckBy, given_names, numbered}
 
 -- the next of all names is claimed, and those after it are left
 pub record IsNext (all : List (List ℕ)) (claimed : ℕ) (file : NamedFile) (others : Option (List (List ℕ))) : Type 0 where

@@ -12,7 +12,7 @@ use Rattle.jri_archive.specs.declared.counts.FileState.TheVariants.{Sound, Damag
 use Rattle.jri_archive.specs.declared.outcome.Outcome.{Outcome}
 use Rattle.jri_archive.specs.Outcomes.{state_of}
 use Rattle.jri_archive.specs.Status.{counts_with}
-use Rattle.jri_archive.specs.Told.{AreCounted, AreSomeTold, AreTold, IsToldOf, count_of, same_state}
+use Rattle.jri_archive.specs.Reporting.{AreCounted, AreSomeReported, AreReported, IsReportedOf, count_of, same_state}
 
 summed : (s state : FileState) (xs : List FileState) → sum_by (same_state s) (xs ++ state ∷ []) ≡ sum_by (same_state s) xs + same_state s state
 summed s state xs = sum_by-append (same_state s) xs (state ∷ []) ∙ (let e : sum_by (same_state s) (state ∷ []) ≡ same_state s state = omega arith in ap (λ (n : ℕ). sum_by (same_state s) xs + n) e)
@@ -107,10 +107,10 @@ counted_more c xs Changed a = record {
   changed = one_of Changed Changed xs c.changed refl a.changed;
 }
 
-told_of : (may_be : List ℕ → Outcome → Type 0) (names : List (List ℕ)) (xs : List FileState) (state : FileState) (o : Outcome)
-    → ((k : ℕ) → k < length xs → IsToldOf may_be names xs k) → may_be (get_or names (length xs) []) o → state ≡ state_of o
-    → (k : ℕ) → k < length xs + 1 → IsToldOf may_be names (xs ++ state ∷ []) k
-told_of may_be names xs state o each is state_is k lt = elim (cases_lt k (length xs)) [
+reported_of : (may_be : List ℕ → Outcome → Type 0) (names : List (List ℕ)) (xs : List FileState) (state : FileState) (o : Outcome)
+    → ((k : ℕ) → k < length xs → IsReportedOf may_be names xs k) → may_be (get_or names (length xs) []) o → state ≡ state_of o
+    → (k : ℕ) → k < length xs + 1 → IsReportedOf may_be names (xs ++ state ∷ []) k
+reported_of may_be names xs state o each is state_is k lt = elim (cases_lt k (length xs)) [
   | inl before ↦ (let t = each k before in record { outcome = t.outcome; is = t.is; state = get_or_append_left xs (state ∷ []) OutOfMemory k before ∙ t.state })
   | inr last ↦ (
       let e : k ≡ length xs = omega (arith, last, lt) in
@@ -123,8 +123,8 @@ told_of may_be names xs state o each is state_is k lt = elim (cases_lt k (length
 
 -- the same if the file's name is added to the names
 found_of : (may_be : List ℕ → Outcome → Type 0) (names : List (List ℕ)) (xs : List FileState) (name : List ℕ) (state : FileState) (o : Outcome) → length xs ≡ length names
-    → ((k : ℕ) → k < length names → IsToldOf may_be names xs k) → may_be name o → state ≡ state_of o
-    → (k : ℕ) → k < length names + 1 → IsToldOf may_be (names ++ name ∷ []) (xs ++ state ∷ []) k
+    → ((k : ℕ) → k < length names → IsReportedOf may_be names xs k) → may_be name o → state ≡ state_of o
+    → (k : ℕ) → k < length names + 1 → IsReportedOf may_be (names ++ name ∷ []) (xs ++ state ∷ []) k
 found_of may_be names xs name state o long each is state_is k lt = elim (cases_lt k (length names)) [
   | inl before ↦ (
       let t = each k before in
@@ -145,17 +145,17 @@ found_of may_be names xs name state o long each is state_is k lt = elim (cases_l
 ]
 
 -- no file is reported yet
-pub none_found : (may_be : List ℕ → Outcome → Type 0) (c : FileCounts) → AreCounted c [] → AreSomeTold may_be c
-none_found may_be c none = record { names = []; told = record { states = []; long = refl; counted = none; each = λ k lt. absurd (omega (arith, lt)) } }
+pub none_found : (may_be : List ℕ → Outcome → Type 0) (c : FileCounts) → AreCounted c [] → AreSomeReported may_be c
+none_found may_be c none = record { names = []; reported = record { states = []; long = refl; counted = none; each = λ k lt. absurd (omega (arith, lt)) } }
 
 -- one more file is reported, of some name
-pub found_more : (may_be : List ℕ → Outcome → Type 0) (c : FileCounts) (name : List ℕ) (state : FileState) (o : Outcome) → may_be name o → state ≡ state_of o → AreSomeTold may_be c → AreSomeTold may_be (counts_with c state)
+pub found_more : (may_be : List ℕ → Outcome → Type 0) (c : FileCounts) (name : List ℕ) (state : FileState) (o : Outcome) → may_be name o → state ≡ state_of o → AreSomeReported may_be c → AreSomeReported may_be (counts_with c state)
 found_more may_be c name state o is state_is found =
-    let t = found.told in
+    let t = found.reported in
     let names = found.names in
     record {
       names = names ++ name ∷ [];
-      told = record {
+      reported = record {
         states = t.states ++ state ∷ [];
         long = omega (arith, length-append t.states (state ∷ []), length-append names (name ∷ []), t.long);
         counted = counted_more c t.states state t.counted;
@@ -164,12 +164,12 @@ found_more may_be c name state o is state_is found =
     }
 
 -- one more file is reported
-pub told_more : (may_be : List ℕ → Outcome → Type 0) (names : List (List ℕ)) (told : ℕ) (c : FileCounts) (state : FileState) (o : Outcome)
-    → may_be (get_or names told []) o → state ≡ state_of o → AreTold may_be names told c → AreTold may_be names (told + 1) (counts_with c state)
-told_more may_be names told c state o is state_is t = record {
+pub reported_more : (may_be : List ℕ → Outcome → Type 0) (names : List (List ℕ)) (reported : ℕ) (c : FileCounts) (state : FileState) (o : Outcome)
+    → may_be (get_or names reported []) o → state ≡ state_of o → AreReported may_be names reported c → AreReported may_be names (reported + 1) (counts_with c state)
+reported_more may_be names reported c state o is state_is t = record {
   states = t.states ++ state ∷ [];
   long = omega (arith, length-append t.states (state ∷ []), t.long);
   counted = counted_more c t.states state t.counted;
-  each = λ k lt. told_of may_be names t.states state o (λ j before. t.each j (omega (arith, before, t.long)))
+  each = λ k lt. reported_of may_be names t.states state o (λ j before. t.each j (omega (arith, before, t.long)))
       (subst (λ (n : ℕ). may_be (get_or names n []) o) (sym t.long) is) state_is k (omega (arith, lt, t.long));
 }

@@ -10,7 +10,7 @@ use Rattle.jri_machine.specs.declared.entries.ReadError.{ReadError}
 use Rattle.jri_machine.specs.declared.entries.ReadError.TheVariants.{Memory, TooLong}
 
 -- the file with its restart markers in step, and the markers that are not
-pub record IsPutInStep (file bytes : List ℕ) (breaks : List Break) : Type 0 where
+pub record IsStoredInStep (file bytes : List ℕ) (breaks : List Break) : Type 0 where
   pub head : HeadValue
   pub ended : ScanEnd
   pub is_head : HeadOf file head
@@ -32,7 +32,7 @@ pub record IsLeft (file bytes : List ℕ) : Type 0 where
 
 -- the bytes of a file that are checked with `--resync`
 abbrev pub IsInStepOf : (file bytes : List ℕ) → List Break → Type 0
-IsInStepOf file bytes breaks = IsPutInStep file bytes breaks ⊎ (IsKept file bytes breaks ⊎ IsLeft file bytes)
+IsInStepOf file bytes breaks = IsStoredInStep file bytes breaks ⊎ (IsKept file bytes breaks ⊎ IsLeft file bytes)
 
 -- the file that it would become is too long
 pub record IsTooLongInStep (file : List ℕ) : Type 0 where

@@ -5,5 +5,5 @@ pub mod Names
 pub mod Outcomes
 pub mod Records
 pub mod Status
-pub mod Told
+pub mod Reporting
 pub mod Unsupported

@@ -9,7 +9,7 @@ use Rattle.jri_archive.specs.declared.counts.Finding.{Finding}
 use Rattle.jri_archive.specs.declared.counts.Finding.TheVariants.{NewVersion, Missing, Doubtful}
 use Rattle.jri_archive.specs.declared.counts.Findings.{Findings}
 use Rattle.jri_archive.specs.declared.counts.CheckEnd.{CheckEnd}
-use Rattle.jri_archive.specs.declared.counts.CheckEnd.TheVariants.{AllTold, NamesUnread, NamesUnended, Unwritten, Memory as NoMemory, Unrecorded}
+use Rattle.jri_archive.specs.declared.counts.CheckEnd.TheVariants.{AllReported, NamesUnread, NamesUnended, Unwritten, Memory as NoMemory, Unrecorded}
 use Rattle.jri_archive.specs.declared.counts.CheckReport.{CheckReport}
 use Rattle.jri_archive.specs.declared.state_file.StateError.{StateError}
 use Rattle.jri_archive.specs.declared.state_file.StateError.TheVariants as state
@@ -61,7 +61,7 @@ counts_status c found =
 
 -- the same of an end and of files
 abbrev pub status_of : CheckEnd → FileCounts → (found : ℕ) → ℕ
-status_of AllTold c found = counts_status c found
+status_of AllReported c found = counts_status c found
 status_of NamesUnread c found = if nat_lt 0 c.out_of_memory then 4 else 3
 status_of NamesUnended c found = if nat_lt 0 c.out_of_memory then 4 else 3
 status_of Unwritten c found = 4

@@ -2,7 +2,7 @@
 
 ghost use Rattle.std.specs.Prelude.{◌≡◌, not};
 ghost use Rattle.jri_archive.specs.Status.{counts_with, files_in, findings_with, findings_in, check_status};
-ghost use Rattle.jri_archive.specs.Told.{is_open};
+ghost use Rattle.jri_archive.specs.Reporting.{is_open};
 
 /// The state of a file.
 #[derive(Clone, Copy, PartialEq, Eq)]
@@ -123,7 +123,7 @@ impl Findings {
 #[derive(Clone, Copy, PartialEq, Eq)]
 pub enum CheckEnd {
     /// Each file has its line.
-    AllTold,
+    AllReported,
     /// Further names could not be read.
     NamesUnread,
     /// No name of the list ends in a NUL byte.
@@ -168,7 +168,7 @@ impl CheckReport {
         if self.end.is_last() || counts.out_of_memory > 0 {
             return 4;
         }
-        if self.end != CheckEnd::AllTold || counts.unread > 0 {
+        if self.end != CheckEnd::AllReported || counts.unread > 0 {
             return 3;
         }
         if counts.damaged > 0 || counts.refused > 0 || counts.changed > 0 {

@@ -3,13 +3,13 @@
 ghost use Rattle.std.specs.Prelude.{◌≡◌, ℕ, ◌<◌, ◌^◌, not, List, [], Some, None, true, false, length, slice_get, slice_index_or, IfSome};
 ghost use Rattle.jri_archive.specs.Outcomes.{IsOutcomeOf, plain_outcome, state_of};
 ghost use Rattle.jri_archive.specs.Status.{findings_with};
-ghost use Rattle.jri_archive.specs.Told.{AreSomeTold, AreTold, is_open};
+ghost use Rattle.jri_archive.specs.Reporting.{AreSomeReported, AreReported, is_open};
 
 use crate::answers::LineForm;
 use crate::count_lines::append_counts;
 use crate::counts::{CheckEnd, CheckReport, FileCounts, FileState, Finding, Findings};
 use crate::lines::{append_missing, append_outcome};
-use crate::map::{TellError, write_breaks, write_line, write_map};
+use crate::map::{ReportError, write_breaks, write_line, write_map};
 use crate::names::NamesError;
 use crate::one_check::OneCheck;
 use crate::outcome::Outcome;
@@ -44,7 +44,7 @@ pub(crate) struct FileQueue<S: OneCheck, O, P> {
     /// The number of workers that have no file of their own and help with a large one.
     helping: u32,
     /// The number of files that are reported.
-    told: u64,
+    reported: u64,
     out: O,
     progress: P,
     report: CheckReport,
@@ -52,13 +52,13 @@ pub(crate) struct FileQueue<S: OneCheck, O, P> {
 }
 
 impl<S: OneCheck, O, P> Model for FileQueue<S, O, P> {
-    ghost use Rattle.jri_archive.specs.Told.{IsQueueOf, QueueValue};
+    ghost use Rattle.jri_archive.specs.Reporting.{IsQueueOf, QueueValue};
 
     ghost Value = { QueueValue };
 
-    ghost view = { λ q. record { told = q.told; files = q.files; report = q.report } };
+    ghost view = { λ q. record { reported = q.reported; files = q.files; report = q.report } };
 
-    ghost invariant = { λ q. IsQueueOf S.names S.may_be (record { told = q.told; files = q.files; report = q.report }) };
+    ghost invariant = { λ q. IsQueueOf S.names S.may_be (record { reported = q.reported; files = q.files; report = q.report }) };
 }
 
 /// Writes the line of a file and, if they are asked for, those of its markers and intervals. If sound files are left out, one that is
@@ -69,7 +69,7 @@ fn write_lines<O: Write>(
     name: &[u8],
     file: &CheckedFile,
     form: LineForm,
-) -> Result<bool, TellError>
+) -> Result<bool, ReportError>
     requires { IfSome file.now.bytes (λ b. IsOutcomeOf b.items (plain_outcome file.now.outcome)) }
 {
     let mut form = form;
@@ -98,7 +98,7 @@ pub(crate) fn write_counts<O: Write>(
     out: &mut O,
     report: &CheckReport,
     is_json: bool,
-) -> Result<(), TellError> {
+) -> Result<(), ReportError> {
     let mut line = String::new(alloc);
     let made = append_counts(&mut line, report.counts, report.findings, is_json);
     write_line(out, made, line.as_str())
@@ -115,13 +115,13 @@ impl<S: OneCheck, O: Write, P: Progress + Drop> FileQueue<S, O, P> {
             files,
             checked: 0,
             helping: 0,
-            told: 0,
+            reported: 0,
             out,
             progress,
             report: CheckReport {
                 counts: FileCounts::none(),
                 findings: Findings::none(),
-                end: CheckEnd::AllTold,
+                end: CheckEnd::AllReported,
             },
             _of: PhantomData,
         }
@@ -145,9 +145,9 @@ impl<S: OneCheck, O: Write, P: Progress + Drop> FileQueue<S, O, P> {
 
     /// Returns whether the line of a file is due.
     pub(crate) fn is_due(&self, number: u64) -> bool
-        ensures { result ≡ true → self.now.told ≡ number }
+        ensures { result ≡ true → self.now.reported ≡ number }
     {
-        self.told == number
+        self.reported == number
     }
 
     /// Returns how many of `workers` workers check a file that a worker begins: if fewer files are left than workers, the
@@ -175,7 +175,7 @@ impl<S: OneCheck, O: Write, P: Progress + Drop> FileQueue<S, O, P> {
     fn show_progress(&mut self)
         ensures { self.new ≡ self.old }
     {
-        let (files, all) = (self.told, self.files);
+        let (files, all) = (self.reported, self.files);
         let damaged = self.report.counts.damaged;
         self.progress.show(Reported {
             files,
@@ -200,7 +200,7 @@ impl<S: OneCheck, O: Write, P: Progress + Drop> FileQueue<S, O, P> {
 
     /// Notes why no further file is reported.
     fn end(&mut self, end: CheckEnd)
-        ensures told { self.new.told ≡ self.old.told }
+        ensures reported { self.new.reported ≡ self.old.reported }
         ensures end { is_open self.old.report.end ≡ true → self.new.report.end ≡ end }
     {
         if !self.is_over() {
@@ -218,19 +218,19 @@ impl<S: OneCheck, O: Write, P: Progress + Drop> FileQueue<S, O, P> {
     }
 
     /// Notes that a record cannot be written.
-    pub(crate) fn end_records(&mut self, error: TellError) {
+    pub(crate) fn end_records(&mut self, error: ReportError) {
         self.end(match error {
-            TellError::Write => CheckEnd::Unrecorded,
-            TellError::Memory => CheckEnd::Memory,
+            ReportError::Write => CheckEnd::Unrecorded,
+            ReportError::Memory => CheckEnd::Memory,
         });
     }
 
     /// Returns whether all files are reported. Their number is known once no name is left.
-    fn has_told_all(&self) -> bool
-        ensures { result ≡ true → (names : List (List ℕ)) → S.names ≡ Some names → self.now.told ≡ length names }
+    fn has_reported_all(&self) -> bool
+        ensures { result ≡ true → (names : List (List ℕ)) → S.names ≡ Some names → self.now.reported ≡ length names }
     {
         match self.files {
-            Some(files) => self.told == files,
+            Some(files) => self.reported == files,
             None => false,
         }
     }
@@ -238,12 +238,12 @@ impl<S: OneCheck, O: Write, P: Progress + Drop> FileQueue<S, O, P> {
     /// Ends the reports, and returns what the files came to and the output. Allocation failed for a file that was not
     /// reported.
     pub(crate) fn close(self) -> (CheckReport, O)
-        ensures told { result.0.end ≡ CheckEnd.AllTold → (names : List (List ℕ)) → S.names ≡ Some names → AreTold S.may_be names (length names) result.0.counts }
-        ensures found { result.0.end ≡ CheckEnd.AllTold → S.names ≡ None → AreSomeTold S.may_be result.0.counts }
+        ensures reported { result.0.end ≡ CheckEnd.AllReported → (names : List (List ℕ)) → S.names ≡ Some names → AreReported S.may_be names (length names) result.0.counts }
+        ensures found { result.0.end ≡ CheckEnd.AllReported → S.names ≡ None → AreSomeReported S.may_be result.0.counts }
     {
         let mut queue = self;
         queue.progress.end();
-        if queue.report.end == CheckEnd::AllTold && !queue.has_told_all() {
+        if queue.report.end == CheckEnd::AllReported && !queue.has_reported_all() {
             queue.end(CheckEnd::Memory);
         }
         (queue.report, queue.out)
@@ -251,16 +251,16 @@ impl<S: OneCheck, O: Write, P: Progress + Drop> FileQueue<S, O, P> {
 
     /// Notes the state of the next file.
     fn note(&mut self, state: FileState)
-        requires next { (names : List (List ℕ)) → S.names ≡ Some names → (self.old.told < length names) × ((o : Outcome) × S.may_be (slice_index_or names self.old.told []) o × (state ≡ state_of o)) }
+        requires next { (names : List (List ℕ)) → S.names ≡ Some names → (self.old.reported < length names) × ((o : Outcome) × S.may_be (slice_index_or names self.old.reported []) o × (state ≡ state_of o)) }
         requires found { S.names ≡ None → (name : List ℕ) × (o : Outcome) × S.may_be name o × (state ≡ state_of o) }
     {
         self.report.counts = self.report.counts.with(state);
-        self.told = self.told.saturating_add(1);
+        self.reported = self.reported.saturating_add(1);
     }
 
     /// Counts a finding, if it is one.
     fn find(&mut self, is_found: bool, finding: Finding)
-        ensures told { self.new.told ≡ self.old.told }
+        ensures reported { self.new.reported ≡ self.old.reported }
         ensures counts { self.new.report.counts ≡ self.old.report.counts }
         ensures end { self.new.report.end ≡ self.old.report.end }
         ensures found { is_found ≡ true → self.new.report.findings ≡ findings_with self.old.report.findings finding }
@@ -272,10 +272,10 @@ impl<S: OneCheck, O: Write, P: Progress + Drop> FileQueue<S, O, P> {
     }
 
     /// Notes that a line is not written.
-    fn end_line(&mut self, error: &TellError) {
+    fn end_line(&mut self, error: &ReportError) {
         self.end(match error {
-            TellError::Write => CheckEnd::Unwritten,
-            TellError::Memory => CheckEnd::Memory,
+            ReportError::Write => CheckEnd::Unwritten,
+            ReportError::Memory => CheckEnd::Memory,
         });
     }
 
@@ -296,14 +296,14 @@ impl<S: OneCheck, O: Write, P: Progress + Drop> FileQueue<S, O, P> {
     /// Skips the next line if lines can no longer be written, so that no worker waits for it.
     fn pass_over(&mut self) {
         if self.is_over() {
-            self.told = self.told.saturating_add(1);
+            self.reported = self.reported.saturating_add(1);
         }
     }
 
     /// Writes the lines of the file that is due.
     pub(crate) fn write_due(&mut self, alloc: Global, name: &[u8], file: &CheckedFile)
         requires bytes { IfSome file.now.bytes (λ b. IsOutcomeOf b.items (plain_outcome file.now.outcome)) }
-        requires next { (names : List (List ℕ)) → S.names ≡ Some names → (slice_get names self.old.told ≡ Some name.now) × S.may_be name.now file.now.outcome }
+        requires next { (names : List (List ℕ)) → S.names ≡ Some names → (slice_get names self.old.reported ≡ Some name.now) × S.may_be name.now file.now.outcome }
         requires found { S.names ≡ None → S.may_be name.now file.now.outcome }
     {
         let state = file.outcome.state();

@@ -5,7 +5,7 @@ ghost use Rattle.jr_segments.specs.declared.refusal.Refusal.TheVariants as refus
 ghost use Rattle.jr_head.specs.Heads.{HeadOf};
 ghost use Rattle.jri_archive.specs.InStep.{IsInStepError, IsInStepOf};
 
-use crate::reading::{FileBytes, Folder};
+use crate::reading::{Directory, FileBytes};
 use crate::state_record::Stamp;
 use jr_head::{Head, read_head};
 use jr_mend::{ResyncFault, is_in_step, resynchronised};
@@ -15,13 +15,13 @@ use std::alloc::Global;
 
 /// A directory whose files are resynchronised before they are checked, if that is asked for.
 #[derive(Drop)]
-pub struct InStepFolder<F> {
-    pub folder: F,
+pub struct InStepDirectory<F> {
+    pub directory: F,
     pub is_resync: bool,
 }
 
 /// Returns a file that has this header with its restart markers in step. A file that has them so is returned unchanged.
-fn put_in_step(alloc: Global, head: &Head, file: Vec<u8>) -> Result<FileBytes, ReadError>
+fn write_in_step(alloc: Global, head: &Head, file: Vec<u8>) -> Result<FileBytes, ReadError>
     requires { HeadOf file.items head.now }
     ensures bytes { IfOk result (λ r. IsInStepOf file.items r.bytes.items r.breaks.items) }
     ensures error { IfErr result (IsInStepError file.items) }
@@ -56,19 +56,19 @@ fn in_step(alloc: Global, file: Vec<u8>) -> Result<FileBytes, ReadError>
     ensures error { IfErr result (IsInStepError file.items) }
 {
     match read_head(alloc, &file) {
-        Ok(head) => put_in_step(alloc, &head, file),
+        Ok(head) => write_in_step(alloc, &head, file),
         Err(refusal) => left(alloc, refusal, file),
     }
 }
 
-impl<F: Folder> Folder for InStepFolder<F> {
+impl<F: Directory> Directory for InStepDirectory<F> {
     ghost use Rattle.jri_archive.specs.InStep.{FailsInStep, HoldsInStep};
 
-    ghost holds = { λ s name bytes. HoldsInStep (F.holds s.folder) s.is_resync name bytes };
+    ghost holds = { λ s name bytes. HoldsInStep (F.holds s.directory) s.is_resync name bytes };
 
-    ghost fails = { λ s name e. FailsInStep (F.holds s.folder) (F.fails s.folder) s.is_resync name e };
+    ghost fails = { λ s name e. FailsInStep (F.holds s.directory) (F.fails s.directory) s.is_resync name e };
 
-    ghost stamps = { λ s name stamp. F.stamps s.folder name stamp };
+    ghost stamps = { λ s name stamp. F.stamps s.directory name stamp };
 
     fn read(&self, alloc: Global, name: &str) -> Result<Vec<u8>, ReadError> {
         match self.read_for_check(alloc, name) {
@@ -78,7 +78,7 @@ impl<F: Folder> Folder for InStepFolder<F> {
     }
 
     fn read_for_check(&self, alloc: Global, name: &str) -> Result<FileBytes, ReadError> {
-        let bytes = match self.folder.read(alloc, name) {
+        let bytes = match self.directory.read(alloc, name) {
             Ok(bytes) => bytes,
             Err(error) => return Err(error),
         };
@@ -89,10 +89,10 @@ impl<F: Folder> Folder for InStepFolder<F> {
     }
 
     fn stamp(&self, name: &str) -> Option<Stamp> {
-        self.folder.stamp(name)
+        self.directory.stamp(name)
     }
 
     fn entries(&self, alloc: Global, name: &str) -> Result<Option<Vec<Entry>>, ReadError> {
-        self.folder.entries(alloc, name)
+        self.directory.entries(alloc, name)
     }
 }

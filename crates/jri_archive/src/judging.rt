@@ -4,7 +4,7 @@ ghost use Rattle.std.specs.Prelude.{◌≡◌, ◌≢◌, ◌⊎◌, ◌↔◌, 
 ghost use Rattle.jr_segments.specs.declared.refusal.Refusal.TheVariants as refusal;
 ghost use Rattle.jri_archive.specs.Outcomes.{IsOutcomeOf, plain_outcome, state_of};
 ghost use Rattle.jri_archive.specs.Records.{file_state};
-ghost use Rattle.jri_archive.specs.Told.{IsOtherSeal, IsSealed};
+ghost use Rattle.jri_archive.specs.Reporting.{IsOtherSeal, IsSealed};
 
 use crate::checking::Checked;
 use crate::file_queue::CheckedFile;
@@ -118,7 +118,7 @@ pub(crate) fn judged(
     ensures bytes { result.bytes ≡ checked.bytes }
     ensures entry { IfSome result.entry (λ r. IsSealed seal r × (file_state r.state ≡ state_of result.outcome) × (result.outcome ≡ checked.outcome)) }
     ensures changed { (result.outcome ≡ checked.outcome) ⊎ IsOtherSeal seal known }
-    ensures told { IsOtherSeal seal known → (c : Checked) → checked.outcome ≡ Outcome.Checked c → result.outcome ≡ Outcome.Changed c }
+    ensures reported { IsOtherSeal seal known → (c : Checked) → checked.outcome ≡ Outcome.Checked c → result.outcome ≡ Outcome.Changed c }
     ensures new { IsTrue result.is_new → IsOtherSeal seal older }
     ensures found { known ≡ None → IsOtherSeal seal older → IfSome result.entry (λ _. IsTrue result.is_new) }
     ensures refused { IsOtherSeal seal known → (f : Refusal) → f ≢ refusal.Memory → checked.outcome ≡ Outcome.Refused f → result.outcome ≡ Outcome.ChangedRefused f }

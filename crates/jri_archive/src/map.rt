@@ -20,22 +20,22 @@ use std::io::{Error, Write};
 
 /// Why a line is not written.
 #[derive(Drop)]
-pub enum TellError {
+pub enum ReportError {
     /// The output failed.
     Write,
     /// Memory ran out.
     Memory,
 }
 
-impl From<AllocError> for TellError {
+impl From<AllocError> for ReportError {
     fn from(_refused: AllocError) -> Self {
-        TellError::Memory
+        ReportError::Memory
     }
 }
 
-impl From<Error> for TellError {
+impl From<Error> for ReportError {
     fn from(_failed: Error) -> Self {
-        TellError::Write
+        ReportError::Write
     }
 }
 
@@ -44,11 +44,11 @@ pub(crate) fn write_line<O: Write>(
     out: &mut O,
     made: Result<(), AllocError>,
     line: &str,
-) -> Result<(), TellError> {
+) -> Result<(), ReportError> {
     made?;
     match out.write_all(line.as_bytes()) {
         Ok(()) => Ok(()),
-        Err(_) => Err(TellError::Write),
+        Err(_) => Err(ReportError::Write),
     }
 }
 
@@ -67,7 +67,7 @@ struct MapWriter<'a, O> {
 
 impl<O: Write> MapWriter<'_, O> {
     /// Writes the line of the run of damaged intervals, if there is one.
-    fn write_run(&mut self) -> Result<(), TellError> {
+    fn write_run(&mut self) -> Result<(), ReportError> {
         let Some(run) = self.run.take() else {
             return Ok(());
         };
@@ -77,7 +77,7 @@ impl<O: Write> MapWriter<'_, O> {
     }
 
     /// Adds a damaged interval. If it begins another run, writes the line of the one before it.
-    fn add(&mut self, damaged: DamagedRun) -> Result<(), TellError> {
+    fn add(&mut self, damaged: DamagedRun) -> Result<(), ReportError> {
         if let Some(longer) = self.run.and_then(|run| run.with(damaged)) {
             self.run = Some(longer);
             return Ok(());
@@ -88,7 +88,7 @@ impl<O: Write> MapWriter<'_, O> {
     }
 
     /// Writes the line of a sound interval.
-    fn write_sound(&mut self, head: &Head, number: u32, bytes: CodedSpan) -> Result<(), TellError>
+    fn write_sound(&mut self, head: &Head, number: u32, bytes: CodedSpan) -> Result<(), ReportError>
         requires { number < intervals_of head.now }
     {
         self.write_run()?;
@@ -98,7 +98,7 @@ impl<O: Write> MapWriter<'_, O> {
     }
 
     /// Writes the line of a doubtful MCU.
-    fn write_doubtful(&mut self, doubtful: &DoubtfulMcu) -> Result<(), TellError> {
+    fn write_doubtful(&mut self, doubtful: &DoubtfulMcu) -> Result<(), ReportError> {
         self.write_run()?;
         self.line.clear();
         let made = append_doubtful(self.line, self.name, doubtful, self.is_json);
@@ -113,7 +113,7 @@ pub(crate) fn write_breaks<O: Write>(
     name: &[u8],
     breaks: &[Break],
     is_json: bool,
-) -> Result<(), TellError> {
+) -> Result<(), ReportError> {
     for found in breaks {
         line.clear();
         let made = append_break(line, name, *found, is_json);
@@ -143,7 +143,7 @@ pub(crate) fn write_map<'a, O: Write>(
     file: &[u8],
     checked: &Checked,
     form: LineForm,
-) -> Result<bool, TellError>
+) -> Result<bool, ReportError>
     requires { IsFileScan file.now checked.now.scan }
     ensures { IfOk result (IsDoubtIn file.now checked.now.scan (length checked.now.scan.intervals)) }
 {

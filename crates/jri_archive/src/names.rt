@@ -5,8 +5,8 @@ ghost use Rattle.std.specs.Io.Buffered.{reader_remaining};
 ghost use Rattle.jri_archive.specs.Names.{IsNamed, IsNextFile, IsNoText, names_left};
 
 use crate::given::GivenNames;
-use crate::reading::Folder;
-use jri_machine::{FolderWalk, NamedFile, ReadError};
+use crate::reading::Directory;
+use jri_machine::{DirectoryWalk, NamedFile, ReadError};
 use std::alloc::{AllocError, Global};
 use std::io::{BufReader, Read};
 use std::marker::Model;
@@ -31,7 +31,7 @@ impl From<AllocError> for NamesError {
 pub struct FileNames<I: Read + Drop> {
     given: GivenNames<I>,
     /// The search of directories, if they are searched.
-    walk: Option<FolderWalk>,
+    walk: Option<DirectoryWalk>,
 }
 
 impl<I: Read + Drop> Model for FileNames<I> {
@@ -72,13 +72,13 @@ fn file_of(name: Option<Vec<u8>>) -> Option<NamedFile>
 }
 
 /// Returns the next file, with each directory replaced by the files in it; `None` after the last.
-fn next_found<F: Folder, I: Read + Drop>(
+fn next_found<F: Directory, I: Read + Drop>(
     alloc: Global,
-    walk: &mut FolderWalk,
-    folder: &F,
+    walk: &mut DirectoryWalk,
+    directory: &F,
     given: &mut GivenNames<I>,
 ) -> Result<Option<NamedFile>, NamesError> {
-    let list = |name: &str| folder.entries(alloc, name);
+    let list = |name: &str| directory.entries(alloc, name);
     for _ in 0..u64::MAX {
         if let Some(file) = walk.next(&list)? {
             return Ok(Some(file));
@@ -105,7 +105,7 @@ impl<I: Read + Drop> FileNames<I> {
     {
         let mut walk = None;
         if is_recursive {
-            walk = Some(FolderWalk::of(alloc));
+            walk = Some(DirectoryWalk::of(alloc));
         }
         FileNames {
             given: GivenNames::of(given, list),
@@ -132,15 +132,15 @@ impl<I: Read + Drop> FileNames<I> {
     }
 
     /// Returns the next file; `None` after the last.
-    pub fn next<F: Folder>(
+    pub fn next<F: Directory>(
         &mut self,
         alloc: Global,
-        folder: &F,
+        directory: &F,
     ) -> Result<Option<NamedFile>, NamesError>
         ensures { (names : List (List ℕ)) → self.old ≡ Some names → IfOk result (λ file. IsNextFile names file self.new) }
     {
         if let Some(walk) = &mut self.walk {
-            return next_found(alloc, walk, folder, &mut self.given);
+            return next_found(alloc, walk, directory, &mut self.given);
         }
         Ok(file_of(self.given.next(alloc)?))
     }

@@ -7,7 +7,7 @@ use std::time::{Clock, Duration, Instant};
 const PERIOD: u64 = 100;
 
 /// Number of bytes of the longest text.
-const ROOM: usize = 128;
+const SPACE: usize = 128;
 
 /// The number of files that are reported, of the damaged ones among them, and of all files if it is known.
 #[derive(Clone, Copy)]
@@ -126,9 +126,9 @@ impl<C: Clock, E: Write> Progress for TerminalProgress<C, E> {
         let Some(time) = self.due() else {
             return;
         };
-        let mut text = Cursor::new([0; ROOM]);
+        let mut text = Cursor::new([0; SPACE]);
         let _ = write_text(&mut text, reported, time);
-        let size = (text.position() as usize).min(ROOM);
+        let size = (text.position() as usize).min(SPACE);
         self.write(&text.get_ref()[..size]);
         self.is_shown = true;
     }

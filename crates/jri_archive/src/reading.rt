@@ -29,7 +29,7 @@ impl FileBytes {
 }
 
 /// The source of files.
-pub trait Folder {
+pub trait Directory {
     ghost use Rattle.jri_machine.specs.declared.entries.ReadError.{ReadError};
     ghost use Rattle.jri_archive.specs.declared.state_record.Stamp.{Stamp};
 

@@ -9,9 +9,9 @@ use crate::answers::{CheckRequest, RequestError};
 use crate::asking::asked;
 use crate::count_lines::write_counts_line;
 use crate::counts::{CheckEnd, CheckReport};
-use crate::in_step::InStepFolder;
+use crate::in_step::InStepDirectory;
 use crate::progress::Progress;
-use crate::reading::Folder;
+use crate::reading::Directory;
 use crate::sharing::check_all;
 use crate::source::Source;
 use crate::state_file::{State, StateError};
@@ -110,7 +110,7 @@ fn report_end<E: Write>(errors: &mut E, report: &CheckReport, is_quiet: bool) {
         let _ = write_counts_line(errors, report.counts, report.findings);
     }
     let text = match report.end {
-        CheckEnd::AllTold => "",
+        CheckEnd::AllReported => "",
         CheckEnd::NamesUnread => "cannot read further names\n",
         CheckEnd::NamesUnended => "cannot read names: each must end in NUL\n",
         CheckEnd::Unwritten => "cannot write the lines\n",
@@ -192,7 +192,7 @@ fn open_all<L: Lists, E: Write>(
 /// error of the state file.
 pub fn program<
     R: Threads + Wait + Sync,
-    F: Folder + Sync + Drop,
+    F: Directory + Sync + Drop,
     L: Lists,
     O: Write + Send + Drop,
     E: Write + Send + Drop,
@@ -200,7 +200,7 @@ pub fn program<
 >(
     rt: &R,
     alloc: Global,
-    folder: F,
+    directory: F,
     lists: &L,
     words: Result<Vec<Vec<u8>>, AllocError>,
     streams: Streams<O, E, P>,
@@ -229,7 +229,10 @@ pub fn program<
     };
     let is_resync = asked.is_resync;
     let source = Source {
-        folder: InStepFolder { folder, is_resync },
+        directory: InStepDirectory {
+            directory,
+            is_resync,
+        },
         state,
     };
     let (is_quiet, is_strict) = (asked.form.is_quiet, asked.is_strict);

@@ -4,18 +4,18 @@ ghost use Rattle.std.specs.Prelude.{◌≡◌, ◌≤◌, ◌<◌, ◌^◌, ℕ,
 ghost use Rattle.std.specs.Io.Buffered.{reader_remaining};
 ghost use Rattle.jri_archive.specs.Names.{IsNamed, IsNoText};
 ghost use Rattle.jri_archive.specs.Outcomes.{IsOutcomeOf, plain_outcome};
-ghost use Rattle.jri_archive.specs.Told.{AllowsEntries, AreChecksOf, AreSomeTold, AreTold, IsCheckOf, IsClaimOf, IsFoundCheckOf, HasRecord, IsRecordOf, given_names};
+ghost use Rattle.jri_archive.specs.Reporting.{AllowsEntries, AreChecksOf, AreSomeReported, AreReported, IsCheckOf, IsClaimOf, IsFoundCheckOf, HasRecord, IsRecordOf, given_names};
 
 use crate::answers::CheckRequest;
 use crate::counts::{CheckEnd, CheckReport};
 use crate::file_queue::{CheckedFile, FileQueue, write_counts};
 use crate::judging::{checked_file, judged, unread};
-use crate::map::TellError;
+use crate::map::ReportError;
 use crate::names::{FileNames, NamesError};
 use crate::one_check::OneCheck;
 use crate::outcome::Outcome;
 use crate::progress::Progress;
-use crate::reading::Folder;
+use crate::reading::Directory;
 use crate::source::{Content, Source};
 use jri_machine::{NamedFile, ReadError};
 use std::alloc::Global;
@@ -39,7 +39,7 @@ struct NameQueue<S: OneCheck, I: Read + Drop> {
 
 impl<S: OneCheck, I: Read + Drop> Model for NameQueue<S, I> {
     ghost use Rattle.std.specs.Prelude.{ℕ};
-    ghost use Rattle.jri_archive.specs.Told.{IsNameQueueOf};
+    ghost use Rattle.jri_archive.specs.Reporting.{IsNameQueueOf};
 
     ghost Value = { ℕ };
 
@@ -50,7 +50,7 @@ impl<S: OneCheck, I: Read + Drop> Model for NameQueue<S, I> {
 
 /// What the workers share.
 #[derive(Drop)]
-struct Sharing<S: OneCheck, F: Folder, I: Read + Drop, O, P, W> {
+struct Sharing<S: OneCheck, F: Directory, I: Read + Drop, O, P, W> {
     alloc: Global,
     source: Source<F, W>,
     workers: u32,
@@ -58,19 +58,19 @@ struct Sharing<S: OneCheck, F: Folder, I: Read + Drop, O, P, W> {
     names: Mutex<NameQueue<S, I>>,
     desk: Mutex<FileQueue<S, O, P>>,
     /// Signalled when a file is reported.
-    has_told: Condvar,
+    has_reported: Condvar,
 }
 
-impl<S: OneCheck, F: Folder, I: Read + Drop, O, P, W> Model for Sharing<S, F, I, O, P, W> {
+impl<S: OneCheck, F: Directory, I: Read + Drop, O, P, W> Model for Sharing<S, F, I, O, P, W> {
     ghost use Rattle.std.specs.Prelude.{◌≡◌, ℕ, List, None};
     ghost use Rattle.jri_archive.specs.declared.source.Source.{Source};
-    ghost use Rattle.jri_archive.specs.Told.{AllowsEntries, AreChecksOf, HasRecord};
+    ghost use Rattle.jri_archive.specs.Reporting.{AllowsEntries, AreChecksOf, HasRecord};
 
     ghost Value = { Source F W };
 
     ghost view = { λ s. s.source };
 
-    ghost invariant = { λ s. AreChecksOf (F.holds s.source.folder) (F.fails s.source.folder) (F.stamps s.source.folder) (HasRecord s.source.state) S.may_be × (S.names ≡ None → AllowsEntries S.may_be) };
+    ghost invariant = { λ s. AreChecksOf (F.holds s.source.directory) (F.fails s.source.directory) (F.stamps s.source.directory) (HasRecord s.source.state) S.may_be × (S.names ≡ None → AllowsEntries S.may_be) };
 }
 
 impl<S: OneCheck, I: Read + Drop> NameQueue<S, I> {
@@ -95,10 +95,10 @@ impl<S: OneCheck, I: Read + Drop> NameQueue<S, I> {
     }
 
     /// Returns the number of a file that no worker has claimed, and its name.
-    fn claim<F: Folder>(
+    fn claim<F: Directory>(
         &mut self,
         alloc: Global,
-        folder: &F,
+        directory: &F,
     ) -> Result<Option<(u64, NamedFile)>, NamesError>
         ensures claim { IfOk result (λ o. IfSome o (λ c. IsClaimOf S.names c.0 c.1)) }
         ensures all { result ≡ Ok None → (all : List (List ℕ)) → S.names ≡ Some all → self.new ≡ length all }
@@ -109,7 +109,7 @@ impl<S: OneCheck, I: Read + Drop> NameQueue<S, I> {
                 None => Ok(None),
             };
         }
-        match self.names.next(alloc, folder) {
+        match self.names.next(alloc, directory) {
             Ok(Some(file)) => {
                 let number = self.claimed;
                 self.claimed = self.claimed.saturating_add(1);
@@ -130,7 +130,7 @@ impl<S: OneCheck, I: Read + Drop> NameQueue<S, I> {
 
 impl<
     S: OneCheck + Send,
-    F: Folder + Sync,
+    F: Directory + Sync,
     I: Read + Send + Drop,
     O: Write + Send + Drop,
     P: Progress + Send + Drop,
@@ -142,7 +142,7 @@ impl<
         ensures all { result.0 ≡ Ok None → (all : List (List ℕ)) → S.names ≡ Some all → result.1 ≡ length all }
     {
         let mut names = self.names.lock(rt);
-        let file = names.claim(self.alloc, &self.source.folder);
+        let file = names.claim(self.alloc, &self.source.directory);
         (file, names.claimed())
     }
 
@@ -167,7 +167,7 @@ impl<
         ensures map { IfSome result.bytes (λ b. IsOutcomeOf b.items (plain_outcome result.outcome)) }
         ensures outcome { ((x : ReadError) → file.now.error ≡ Some x → IsNoText file.now.name.items x) → file.now.is_skipped ≡ false → S.may_be file.now.name.items result.outcome }
         ensures found { S.names ≡ None → S.may_be file.now.name.items result.outcome }
-        ensures entry { IfSome result.entry (λ r. IsRecordOf (F.holds self.now.folder) (F.stamps self.now.folder) file.now.name.items r result.outcome) }
+        ensures entry { IfSome result.entry (λ r. IsRecordOf (F.holds self.now.directory) (F.stamps self.now.directory) file.now.name.items r result.outcome) }
     {
         if file.is_skipped {
             self.desk.lock(rt).give_back(1);
@@ -198,11 +198,11 @@ impl<
         requires bytes { IfSome file.now.bytes (λ b. IsOutcomeOf b.items (plain_outcome file.now.outcome)) }
         requires next { (all : List (List ℕ)) → S.names ≡ Some all → (slice_get all number ≡ Some name.now) × S.may_be name.now file.now.outcome }
         requires found { S.names ≡ None → S.may_be name.now file.now.outcome }
-        requires entry { IfSome file.now.entry (λ r. IsRecordOf (F.holds self.now.folder) (F.stamps self.now.folder) name.now r file.now.outcome) }
+        requires entry { IfSome file.now.entry (λ r. IsRecordOf (F.holds self.now.directory) (F.stamps self.now.directory) name.now r file.now.outcome) }
     {
         let desk = self.desk.lock(rt);
         let mut desk = self
-            .has_told
+            .has_reported
             .wait_while(rt, desk, |desk| !desk.is_due(number));
         // The wait is over, so it is due.
         if desk.is_due(number) {
@@ -210,7 +210,7 @@ impl<
             self.record(rt, &mut desk, name, file);
         }
         drop(desk);
-        self.has_told.notify_all();
+        self.has_reported.notify_all();
     }
 
     /// Records a file that is reported, unless lines can no longer be written.
@@ -221,7 +221,7 @@ impl<
         name: &[u8],
         file: &CheckedFile,
     )
-        requires { IfSome file.now.entry (λ r. IsRecordOf (F.holds self.now.folder) (F.stamps self.now.folder) name.now r file.now.outcome) }
+        requires { IfSome file.now.entry (λ r. IsRecordOf (F.holds self.now.directory) (F.stamps self.now.directory) name.now r file.now.outcome) }
     {
         if let Some(entry) = &file.entry
             && !desk.is_over()
@@ -281,15 +281,15 @@ fn with_counts<O: Write>(
     is_json: bool,
 ) -> CheckReport
     ensures counts { result.counts ≡ report.counts }
-    ensures end { result.end ≡ CheckEnd.AllTold → report.end ≡ CheckEnd.AllTold }
+    ensures end { result.end ≡ CheckEnd.AllReported → report.end ≡ CheckEnd.AllReported }
 {
     if !has_counts || report.end.is_last() {
         return report;
     }
     let end = match write_counts(alloc, out, &report, is_json) {
         Ok(()) => return report,
-        Err(TellError::Write) => CheckEnd::Unwritten,
-        Err(TellError::Memory) => CheckEnd::Memory,
+        Err(ReportError::Write) => CheckEnd::Unwritten,
+        Err(ReportError::Memory) => CheckEnd::Memory,
     };
     CheckReport { end, ..report }
 }
@@ -298,7 +298,7 @@ fn with_counts<O: Write>(
 fn check_as<
     S: OneCheck + Send,
     R: Threads + Wait + Sync,
-    F: Folder + Sync + Drop,
+    F: Directory + Sync + Drop,
     I: Read + Send + Drop,
     O: Write + Send + Drop,
     P: Progress + Send + Drop,
@@ -313,10 +313,10 @@ fn check_as<
     progress: P,
 ) -> (CheckReport, O)
     requires names { S.names ≡ given_names (reader_remaining I.remaining) list asked.is_recursive asked.names.items }
-    requires checks { AreChecksOf (F.holds source.folder) (F.fails source.folder) (F.stamps source.folder) (HasRecord source.state) S.may_be }
+    requires checks { AreChecksOf (F.holds source.directory) (F.fails source.directory) (F.stamps source.directory) (HasRecord source.state) S.may_be }
     requires entries { S.names ≡ None → AllowsEntries S.may_be }
-    ensures told { result.0.end ≡ CheckEnd.AllTold → (all : List (List ℕ)) → S.names ≡ Some all → AreTold S.may_be all (length all) result.0.counts }
-    ensures found { result.0.end ≡ CheckEnd.AllTold → S.names ≡ None → AreSomeTold S.may_be result.0.counts }
+    ensures reported { result.0.end ≡ CheckEnd.AllReported → (all : List (List ℕ)) → S.names ≡ Some all → AreReported S.may_be all (length all) result.0.counts }
+    ensures found { result.0.end ≡ CheckEnd.AllReported → S.names ≡ None → AreSomeReported S.may_be result.0.counts }
 {
     let names = FileNames::of(alloc, asked.names, list, asked.is_recursive);
     let files = names.left();
@@ -328,7 +328,7 @@ fn check_as<
         has_map: form.has_map,
         names: Mutex::new(NameQueue::of(names)),
         desk: Mutex::new(FileQueue::of(form, files, out, progress)),
-        has_told: Condvar::new(),
+        has_reported: Condvar::new(),
     };
     sharing.run(rt, files);
     sharing.report_missing(rt);
@@ -345,7 +345,7 @@ fn check_as<
 /// that is reported. If several check one large file, it allocates what `check_scan_by` does. Returns `out`.
 pub fn check_all<
     R: Threads + Wait + Sync,
-    F: Folder + Sync + Drop,
+    F: Directory + Sync + Drop,
     I: Read + Send + Drop,
     O: Write + Send + Drop,
     P: Progress + Send + Drop,
@@ -359,8 +359,8 @@ pub fn check_all<
     out: O,
     progress: P,
 ) -> (CheckReport, O)
-    ensures told { result.0.end ≡ CheckEnd.AllTold → (all : List (List ℕ)) → given_names (reader_remaining I.remaining) list asked.is_recursive asked.names.items ≡ Some all → AreTold (IsCheckOf (F.holds source.folder) (F.fails source.folder) (F.stamps source.folder) (HasRecord source.state)) all (length all) result.0.counts }
-    ensures found { result.0.end ≡ CheckEnd.AllTold → given_names (reader_remaining I.remaining) list asked.is_recursive asked.names.items ≡ None → AreSomeTold (IsFoundCheckOf (F.holds source.folder) (F.fails source.folder) (F.stamps source.folder) (HasRecord source.state)) result.0.counts }
+    ensures reported { result.0.end ≡ CheckEnd.AllReported → (all : List (List ℕ)) → given_names (reader_remaining I.remaining) list asked.is_recursive asked.names.items ≡ Some all → AreReported (IsCheckOf (F.holds source.directory) (F.fails source.directory) (F.stamps source.directory) (HasRecord source.state)) all (length all) result.0.counts }
+    ensures found { result.0.end ≡ CheckEnd.AllReported → given_names (reader_remaining I.remaining) list asked.is_recursive asked.names.items ≡ None → AreSomeReported (IsFoundCheckOf (F.holds source.directory) (F.fails source.directory) (F.stamps source.directory) (HasRecord source.state)) result.0.counts }
 {
     let (form, has_counts) = (asked.form, asked.has_counts);
     let (report, mut out) = check_as::<Brand, R, F, I, O, P, W>(

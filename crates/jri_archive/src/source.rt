@@ -3,12 +3,12 @@
 ghost use Rattle.std.specs.Prelude.{◌≡◌, ◌⊎◌, IfOk, IfErr, IfSome, None, Some};
 ghost use Rattle.sha2.specs.Sha256.{sha256};
 ghost use Rattle.jri_archive.specs.Names.{IsNoText};
-ghost use Rattle.jri_archive.specs.Told.{HasRecord, IsOlder, IsRecordOf, IsStamped};
+ghost use Rattle.jri_archive.specs.Reporting.{HasRecord, IsOlder, IsRecordOf, IsStamped};
 
-use crate::map::TellError;
+use crate::map::ReportError;
 use crate::names::FileNames;
 use crate::outcome::Outcome;
-use crate::reading::{FileBytes, Folder};
+use crate::reading::{Directory, FileBytes};
 use crate::state_file::State;
 use crate::state_record::{FileRecord, RecordedState, Stamp};
 use jr_cut::Break;
@@ -21,7 +21,7 @@ use std::sync::Wait;
 /// Where files come from, and the state file of a run, if it has one.
 #[derive(Drop)]
 pub struct Source<F, W> {
-    pub folder: F,
+    pub directory: F,
     pub state: Option<State<W>>,
 }
 
@@ -53,15 +53,15 @@ pub(crate) struct Content {
     pub(crate) breaks: Option<Vec<Break>>,
 }
 
-impl<F: Folder, W: Write + Drop> Source<F, W> {
+impl<F: Directory, W: Write + Drop> Source<F, W> {
     /// Returns the bytes of a file that are checked, and its markers that are out of step.
     fn read(
         &self,
         alloc: Global,
         file: &NamedFile,
     ) -> (Result<Vec<u8>, ReadError>, Option<Vec<Break>>)
-        ensures bytes { IfOk result.0 (λ b. F.holds self.now.folder file.now.name.items b.items) }
-        ensures error { IfErr result.0 (λ e. ((x : ReadError) → file.now.error ≡ Some x → IsNoText file.now.name.items x) → F.fails self.now.folder file.now.name.items e ⊎ IsNoText file.now.name.items e) }
+        ensures bytes { IfOk result.0 (λ b. F.holds self.now.directory file.now.name.items b.items) }
+        ensures error { IfErr result.0 (λ e. ((x : ReadError) → file.now.error ≡ Some x → IsNoText file.now.name.items x) → F.fails self.now.directory file.now.name.items e ⊎ IsNoText file.now.name.items e) }
     {
         if let Some(error) = file.error {
             return (Err(error), None);
@@ -69,7 +69,7 @@ impl<F: Folder, W: Write + Drop> Source<F, W> {
         let Ok(name) = str::from_utf8(file.name.as_slice()) else {
             return (Err(ReadError::NameIsNoText), None);
         };
-        match self.folder.read_for_check(alloc, name) {
+        match self.directory.read_for_check(alloc, name) {
             Ok(FileBytes { bytes, breaks }) => (Ok(bytes), Some(breaks)),
             Err(error) => (Err(error), None),
         }
@@ -77,10 +77,10 @@ impl<F: Folder, W: Write + Drop> Source<F, W> {
 
     /// Returns the size and time of a file; `None` if it is not a regular one.
     fn stamp(&self, file: &NamedFile) -> Option<Stamp>
-        ensures { IfSome result (F.stamps self.now.folder file.now.name.items) }
+        ensures { IfSome result (F.stamps self.now.directory file.now.name.items) }
     {
         match str::from_utf8(file.name.as_slice()) {
-            Ok(name) => self.folder.stamp(name),
+            Ok(name) => self.directory.stamp(name),
             Err(_) => None,
         }
     }
@@ -88,8 +88,8 @@ impl<F: Folder, W: Write + Drop> Source<F, W> {
     /// Returns the stamp and the record of a file before it is read; `None` if no state file is kept, or if it is not a regular
     /// file.
     pub(crate) fn look(&self, file: &NamedFile) -> Option<Glance>
-        ensures stamp { IfSome result (λ g. F.stamps self.now.folder file.now.name.items g.stamp) }
-        ensures known { IfSome result (λ g. IfSome g.known (IsStamped (F.stamps self.now.folder) (HasRecord self.now.state) file.now.name.items)) }
+        ensures stamp { IfSome result (λ g. F.stamps self.now.directory file.now.name.items g.stamp) }
+        ensures known { IfSome result (λ g. IfSome g.known (IsStamped (F.stamps self.now.directory) (HasRecord self.now.state) file.now.name.items)) }
         ensures older { IfSome result (λ g. IfSome g.older (IsOlder (HasRecord self.now.state) file.now.name.items g.stamp)) }
     {
         let state = self.state.as_ref()?;
@@ -114,8 +114,8 @@ impl<F: Folder, W: Write + Drop> Source<F, W> {
         _file: &NamedFile,
         glance: &Option<Glance>,
     ) -> Option<RecordedState>
-        requires { IfSome glance.now (λ g. IfSome g.known (IsStamped (F.stamps self.now.folder) (HasRecord self.now.state) _file.now.name.items)) }
-        ensures { IfSome result (λ was. (r : FileRecord) × IsStamped (F.stamps self.now.folder) (HasRecord self.now.state) _file.now.name.items r × (r.state ≡ was)) }
+        requires { IfSome glance.now (λ g. IfSome g.known (IsStamped (F.stamps self.now.directory) (HasRecord self.now.state) _file.now.name.items)) }
+        ensures { IfSome result (λ was. (r : FileRecord) × IsStamped (F.stamps self.now.directory) (HasRecord self.now.state) _file.now.name.items r × (r.state ≡ was)) }
     {
         if let Some(state) = &self.state
             && !state.is_verifying()
@@ -129,8 +129,8 @@ impl<F: Folder, W: Write + Drop> Source<F, W> {
 
     /// Returns the record of a file that has its size and time.
     pub(crate) fn known(&self, _file: &NamedFile, glance: &Option<Glance>) -> Option<FileRecord>
-        requires { IfSome glance.now (λ g. IfSome g.known (IsStamped (F.stamps self.now.folder) (HasRecord self.now.state) _file.now.name.items)) }
-        ensures { IfSome result (IsStamped (F.stamps self.now.folder) (HasRecord self.now.state) _file.now.name.items) }
+        requires { IfSome glance.now (λ g. IfSome g.known (IsStamped (F.stamps self.now.directory) (HasRecord self.now.state) _file.now.name.items)) }
+        ensures { IfSome result (IsStamped (F.stamps self.now.directory) (HasRecord self.now.state) _file.now.name.items) }
     {
         match glance {
             Some(glance) => glance.known,
@@ -155,7 +155,7 @@ impl<F: Folder, W: Write + Drop> Source<F, W> {
     /// Returns whether there is no regular file of that name.
     fn is_gone(&self, name: &[u8]) -> bool {
         match str::from_utf8(name) {
-            Ok(name) => self.folder.stamp(name).is_none(),
+            Ok(name) => self.directory.stamp(name).is_none(),
             Err(_) => false,
         }
     }
@@ -188,10 +188,10 @@ impl<F: Folder, W: Write + Drop> Source<F, W> {
         file: &NamedFile,
         glance: &Option<Glance>,
     ) -> Content
-        requires { IfSome glance.now (λ g. F.stamps self.now.folder file.now.name.items g.stamp) }
-        ensures bytes { IfOk result.bytes (λ b. F.holds self.now.folder file.now.name.items b.items) }
-        ensures error { IfErr result.bytes (λ e. ((x : ReadError) → file.now.error ≡ Some x → IsNoText file.now.name.items x) → F.fails self.now.folder file.now.name.items e ⊎ IsNoText file.now.name.items e) }
-        ensures stamp { IfSome result.seal (λ s. F.stamps self.now.folder file.now.name.items s.stamp) }
+        requires { IfSome glance.now (λ g. F.stamps self.now.directory file.now.name.items g.stamp) }
+        ensures bytes { IfOk result.bytes (λ b. F.holds self.now.directory file.now.name.items b.items) }
+        ensures error { IfErr result.bytes (λ e. ((x : ReadError) → file.now.error ≡ Some x → IsNoText file.now.name.items x) → F.fails self.now.directory file.now.name.items e ⊎ IsNoText file.now.name.items e) }
+        ensures stamp { IfSome result.seal (λ s. F.stamps self.now.directory file.now.name.items s.stamp) }
         ensures hash { IfSome result.seal (λ s. IfOk result.bytes (λ b. s.hash ≡ sha256 b.items)) }
         ensures sealed { IfErr result.bytes (λ _. result.seal ≡ None) }
     {
@@ -222,8 +222,8 @@ impl<F: Folder, W: Write + Drop> Source<F, W> {
         name: &[u8],
         file: &FileRecord,
         _outcome: &Outcome,
-    ) -> Result<(), TellError>
-        requires { IsRecordOf (F.holds self.now.folder) (F.stamps self.now.folder) name.now file.now _outcome.now }
+    ) -> Result<(), ReportError>
+        requires { IsRecordOf (F.holds self.now.directory) (F.stamps self.now.directory) name.now file.now _outcome.now }
     {
         match &self.state {
             Some(state) => state.append(rt, alloc, name, file),

@@ -4,7 +4,7 @@ ghost use Rattle.std.specs.Prelude.{◌≡◌};
 ghost use Rattle.jri_archive.specs.Records.{recorded};
 ghost use Rattle.jri_archive.specs.Status.{state_error_status};
 
-use crate::map::TellError;
+use crate::map::ReportError;
 use crate::state_line::{parse_record, record_line};
 use crate::state_record::FileRecord;
 use jri_machine::ReadError;
@@ -213,7 +213,7 @@ impl<W: Write> State<W> {
         alloc: Global,
         name: &[u8],
         record: &FileRecord,
-    ) -> Result<(), TellError> {
+    ) -> Result<(), ReportError> {
         let line = record_line(alloc, name, record)?;
         let mut log = self.log.lock(rt);
         log.write_all(line.as_bytes())?;

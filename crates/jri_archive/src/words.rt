@@ -15,17 +15,17 @@ const NO_TEXT: char = '\0';
 
 /// Returns an argument by its number; `None` after the last.
 fn word<E: Env>(env: &E, alloc: Global, number: usize) -> Result<Option<Vec<u8>>, AllocError> {
-    let mut room = USUAL_WORD;
+    let mut space = USUAL_WORD;
     for _ in 0..usize::BITS {
-        let mut bytes = vec![in alloc; 0; room]?;
+        let mut bytes = vec![in alloc; 0; space]?;
         match env.arg(number, &mut bytes) {
             Ok(length) => {
                 bytes.truncate(length);
                 return Ok(Some(bytes));
             }
             Err(FillError::NotPresent) => return Ok(None),
-            Err(FillError::TooLong) if room >= LONGEST_WORD => return Err(AllocError),
-            Err(FillError::TooLong) => room *= 2,
+            Err(FillError::TooLong) if space >= LONGEST_WORD => return Err(AllocError),
+            Err(FillError::TooLong) => space *= 2,
         }
     }
     Err(AllocError)

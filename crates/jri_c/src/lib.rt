@@ -6,14 +6,14 @@
 ghost use Rattle.std.specs.Prelude.{◌≡◌, ◌≢◌, ◌<◌, ◌≤◌, ◌⊎◌, ℕ, List, length, drop, false};
 ghost use Rattle.jr_arrival.specs.Arrival.{CanBecome};
 ghost use Rattle.jr_arrival.specs.Settled.{WantsMore};
-ghost use Rattle.jri_memory.specs.Canvases.{DecodesCanvas, LacksCanvas, LacksLayoutOf, LacksLinesToLay, LacksRoomToLay, LaysOut};
-ghost use Rattle.jri_memory.specs.Damages.{ListsDamages, TellsNoDamage};
-ghost use Rattle.jri_memory.specs.Checks.{ChecksFile, LacksMarkRoom};
-ghost use Rattle.jri_memory.specs.Mends.{HasOtherHeader, IsTooLongMend, LackCopies, LacksMendRoom, MendsFiles, TellsCopyFault, TellsNoMend, files_of};
-ghost use Rattle.jri_memory.specs.Resyncs.{IsTooLongFile, IsTooLongRead, LacksResyncRoom, OfRead, ResyncsFile, TellsNoResync};
-ghost use Rattle.jri_memory.specs.Calls.{DecodesFile, DecodesLines, TellsFault, IsHeaderOf, IsNumberOfSome, LacksLines, LacksRoom, LacksRoomForLines, TellsNoHeader, TellsNoPicture, TellsNoRefusal, TellsNoSize, TellsSize};
+ghost use Rattle.jri_memory.specs.Canvases.{DecodesCanvas, LacksCanvas, LacksLayoutOf, LacksLinesToLay, LacksSpaceToLay, LaysOut};
+ghost use Rattle.jri_memory.specs.Damages.{ListsDamages, ReportsNoDamage};
+ghost use Rattle.jri_memory.specs.Checks.{ChecksFile, LacksMarkSpace};
+ghost use Rattle.jri_memory.specs.Mends.{HasOtherHeader, IsTooLongMend, LackCopies, LacksMendSpace, MendsFiles, ReportsCopyFault, ReportsNoMend, files_of};
+ghost use Rattle.jri_memory.specs.Resyncs.{IsTooLongFile, IsTooLongRead, LacksResyncSpace, OfRead, ResyncsFile, ReportsNoResync};
+ghost use Rattle.jri_memory.specs.Calls.{DecodesFile, DecodesLines, ReportsFault, IsHeaderOf, IsNumberOfSome, LacksLines, LacksSpace, LacksSpaceForLines, ReportsNoHeader, ReportsNoPicture, ReportsNoRefusal, ReportsNoSize, ReportsSize};
 ghost use Rattle.jri_memory.specs.Frames.{HasOneSize};
-ghost use Rattle.jri_memory.specs.Rows.{GivesRows, LacksRoomForRow, LacksRows, LiesInside, LiesOutside, SkipsRows, TellsPartialFault, TellsNoRows, TellsNothing, are_all, file_part, window_part};
+ghost use Rattle.jri_memory.specs.Rows.{ReturnsRows, LacksSpaceForRow, LacksRows, LiesInside, LiesOutside, SkipsRows, ReportsPartialFault, ReportsNoRows, ReportsNothing, are_all, file_part, window_part};
 
 use jr_cut::Break;
 use jri_memory::{
@@ -42,16 +42,16 @@ pub extern "C" fn jri_version() -> u32
 pub extern "C" fn jri_read_header(alloc: Global, file: &[u8], more: u32, header: &mut Header) -> u32
     ensures read { result ≡ 0 → IsHeaderOf file.now header.new }
     ensures stays { result ≡ 0 → (whole : List ℕ) → CanBecome file.now whole → IsHeaderOf whole header.new }
-    ensures refused { result ≡ 2 → TellsFault file.now header.new.refusal header.new.detail }
-    ensures refused_for_good { result ≡ 2 → are_all more ≡ false → (whole : List ℕ) → CanBecome file.now whole → TellsFault whole header.new.refusal header.new.detail }
+    ensures refused { result ≡ 2 → ReportsFault file.now header.new.refusal header.new.detail }
+    ensures refused_for_good { result ≡ 2 → are_all more ≡ false → (whole : List ℕ) → CanBecome file.now whole → ReportsFault whole header.new.refusal header.new.detail }
     ensures memory { result ≡ 1 → header.new.refusal ≡ 19 }
     ensures wanted { result ≡ 7 → WantsMore file.now }
     ensures partial { result ≡ 7 → are_all more ≡ false }
     ensures no_refusal { result ≡ 7 → (header.new.refusal ≡ 0) × (header.new.detail ≡ 0) }
-    ensures no_header { result ≢ 0 → TellsNoHeader header.new }
-    ensures size { result ≡ 2 → TellsSize file.now header.new }
-    ensures size_stays { result ≡ 2 → TellsNoSize header.new ⊎ ((whole : List ℕ) → CanBecome file.now whole → HasOneSize whole header.new.width header.new.height header.new.components) }
-    ensures no_size { result ≢ 0 → result ≢ 2 → TellsNoSize header.new }
+    ensures no_header { result ≢ 0 → ReportsNoHeader header.new }
+    ensures size { result ≡ 2 → ReportsSize file.now header.new }
+    ensures size_stays { result ≡ 2 → ReportsNoSize header.new ⊎ ((whole : List ℕ) → CanBecome file.now whole → HasOneSize whole header.new.width header.new.height header.new.components) }
+    ensures no_size { result ≢ 0 → result ≢ 2 → ReportsNoSize header.new }
     ensures few { result ≢ 7 → result ≤ 2 }
 {
     read_header(alloc, file, more, header)
@@ -73,13 +73,13 @@ pub extern "C" fn jri_decode(
     ensures damaged { result ≡ 3 → OfRead file.now resync (λ read. DecodesFile read pixels.old pixels.new marks.old marks.new report.new) }
     ensures undamaged { result ≡ 0 → report.new.damaged ≡ 0 }
     ensures some_damaged { result ≡ 3 → 0 < report.new.damaged }
-    ensures refused { result ≡ 2 → TellsFault file.now report.new.refusal report.new.detail }
+    ensures refused { result ≡ 2 → ReportsFault file.now report.new.refusal report.new.detail }
     ensures memory { result ≡ 1 → report.new.refusal ≡ 19 }
-    ensures room { result ≡ 4 → LacksRoom file.now (length pixels.old) (length marks.old) }
-    ensures room_alone { result ≡ 4 → TellsNoRefusal report.new }
+    ensures space { result ≡ 4 → LacksSpace file.now (length pixels.old) (length marks.old) }
+    ensures space_alone { result ≡ 4 → ReportsNoRefusal report.new }
     ensures long { result ≡ 8 → IsTooLongRead file.now resync }
-    ensures long_alone { result ≡ 8 → TellsNoRefusal report.new }
-    ensures no_picture { result ≢ 0 → result ≢ 3 → TellsNoPicture report.new }
+    ensures long_alone { result ≡ 8 → ReportsNoRefusal report.new }
+    ensures no_picture { result ≢ 0 → result ≢ 3 → ReportsNoPicture report.new }
     ensures pixels { result ≢ 0 → result ≢ 3 → pixels.new ≡ pixels.old }
     ensures marks { result ≢ 0 → result ≢ 3 → marks.new ≡ marks.old }
     ensures few { result ≢ 8 → result ≤ 4 }
@@ -105,15 +105,15 @@ pub extern "C" fn jri_decode_lines(
     ensures damaged { result ≡ 3 → OfRead file.now resync (λ read. DecodesLines read first count pixels.old pixels.new report.new) }
     ensures undamaged { result ≡ 0 → report.new.damaged ≡ 0 }
     ensures some_damaged { result ≡ 3 → 0 < report.new.damaged }
-    ensures refused { result ≡ 2 → TellsFault file.now report.new.refusal report.new.detail }
+    ensures refused { result ≡ 2 → ReportsFault file.now report.new.refusal report.new.detail }
     ensures memory { result ≡ 1 → report.new.refusal ≡ 19 }
-    ensures room { result ≡ 4 → LacksRoomForLines file.now count (length pixels.old) }
-    ensures room_alone { result ≡ 4 → TellsNoRefusal report.new }
+    ensures space { result ≡ 4 → LacksSpaceForLines file.now count (length pixels.old) }
+    ensures space_alone { result ≡ 4 → ReportsNoRefusal report.new }
     ensures lines { result ≡ 5 → LacksLines file.now first count }
-    ensures lines_alone { result ≡ 5 → TellsNoRefusal report.new }
+    ensures lines_alone { result ≡ 5 → ReportsNoRefusal report.new }
     ensures long { result ≡ 8 → IsTooLongRead file.now resync }
-    ensures long_alone { result ≡ 8 → TellsNoRefusal report.new }
-    ensures no_picture { result ≢ 0 → result ≢ 3 → TellsNoPicture report.new }
+    ensures long_alone { result ≡ 8 → ReportsNoRefusal report.new }
+    ensures no_picture { result ≢ 0 → result ≢ 3 → ReportsNoPicture report.new }
     ensures pixels { result ≢ 0 → result ≢ 3 → pixels.new ≡ pixels.old }
     ensures few { result ≢ 8 → result ≤ 5 }
 {
@@ -149,13 +149,13 @@ pub extern "C" fn jri_check(
     ensures damaged { result ≡ 3 → OfRead file.now resync (λ read. ChecksFile read marks.old marks.new report.new) }
     ensures undamaged { result ≡ 0 → report.new.damaged ≡ 0 }
     ensures some_damaged { result ≡ 3 → 0 < report.new.damaged }
-    ensures refused { result ≡ 2 → TellsFault file.now report.new.refusal report.new.detail }
+    ensures refused { result ≡ 2 → ReportsFault file.now report.new.refusal report.new.detail }
     ensures memory { result ≡ 1 → report.new.refusal ≡ 19 }
-    ensures room { result ≡ 4 → LacksMarkRoom file.now (length marks.old) }
-    ensures room_alone { result ≡ 4 → TellsNoRefusal report.new }
+    ensures space { result ≡ 4 → LacksMarkSpace file.now (length marks.old) }
+    ensures space_alone { result ≡ 4 → ReportsNoRefusal report.new }
     ensures long { result ≡ 8 → IsTooLongRead file.now resync }
-    ensures long_alone { result ≡ 8 → TellsNoRefusal report.new }
-    ensures unchecked { result ≢ 0 → result ≢ 3 → TellsNoPicture report.new }
+    ensures long_alone { result ≡ 8 → ReportsNoRefusal report.new }
+    ensures unchecked { result ≢ 0 → result ≢ 3 → ReportsNoPicture report.new }
     ensures marks { result ≢ 0 → result ≢ 3 → marks.new ≡ marks.old }
     ensures few { result ≢ 8 → result ≤ 4 }
 {
@@ -177,16 +177,16 @@ pub extern "C" fn jri_decode_rows(
     pixels: &mut [u8],
     report: &mut RowsReport,
 ) -> u32
-    ensures given { result ≡ 0 → GivesRows file.now (file_part file.now more) rows place.old place.new pixels.old pixels.new report.new }
-    ensures refused { result ≡ 2 → TellsPartialFault file.now (are_all more) report.new }
+    ensures given { result ≡ 0 → ReturnsRows file.now (file_part file.now more) rows place.old place.new pixels.old pixels.new report.new }
+    ensures refused { result ≡ 2 → ReportsPartialFault file.now (are_all more) report.new }
     ensures memory { result ≡ 1 → report.new.refusal ≡ 19 }
-    ensures room { result ≡ 4 → LacksRoomForRow file.now place.old rows (length pixels.old) }
-    ensures each_room { LacksRoomForRow file.now place.old rows (length pixels.old) → result ≢ 1 → result ≡ 4 }
-    ensures room_alone { result ≡ 4 → TellsNothing report.new }
+    ensures space { result ≡ 4 → LacksSpaceForRow file.now place.old rows (length pixels.old) }
+    ensures each_space { LacksSpaceForRow file.now place.old rows (length pixels.old) → result ≢ 1 → result ≡ 4 }
+    ensures space_alone { result ≡ 4 → ReportsNothing report.new }
     ensures rows { result ≡ 5 → LacksRows file.now place.old rows }
     ensures each_rows { LacksRows file.now place.old rows → result ≢ 1 → result ≡ 5 }
-    ensures rows_alone { result ≡ 5 → TellsNothing report.new }
-    ensures no_rows { result ≢ 0 → TellsNoRows report.new }
+    ensures rows_alone { result ≡ 5 → ReportsNothing report.new }
+    ensures no_rows { result ≢ 0 → ReportsNoRows report.new }
     ensures pixels { result ≢ 0 → pixels.new ≡ pixels.old }
     ensures place { result ≢ 0 → place.new ≡ place.old }
     ensures undamaged { result ≢ 3 }
@@ -209,13 +209,13 @@ pub extern "C" fn jri_skip_rows(
     report: &mut RowsReport,
 ) -> u32
     ensures skipped { result ≡ 0 → SkipsRows file.now (file_part file.now more) rows place.old place.new report.new }
-    ensures refused { result ≡ 2 → TellsPartialFault file.now (are_all more) report.new }
+    ensures refused { result ≡ 2 → ReportsPartialFault file.now (are_all more) report.new }
     ensures memory { result ≡ 1 → report.new.refusal ≡ 19 }
     ensures rows { result ≡ 5 → LacksRows file.now place.old rows }
     ensures each_rows { LacksRows file.now place.old rows → result ≢ 1 → result ≡ 5 }
-    ensures rows_alone { result ≡ 5 → TellsNothing report.new }
-    ensures no_room { result ≢ 4 }
-    ensures no_rows { result ≢ 0 → TellsNoRows report.new }
+    ensures rows_alone { result ≡ 5 → ReportsNothing report.new }
+    ensures no_space { result ≢ 4 }
+    ensures no_rows { result ≢ 0 → ReportsNoRows report.new }
     ensures place { result ≢ 0 → place.new ≡ place.old }
     ensures undamaged { result ≢ 3 }
     ensures few { result ≤ 5 }
@@ -238,20 +238,20 @@ pub extern "C" fn jri_decode_window(
     pixels: &mut [u8],
     report: &mut RowsReport,
 ) -> u32
-    ensures given { result ≡ 0 → GivesRows header.now (window_part window_at window.now more) rows place.old place.new pixels.old pixels.new report.new }
-    ensures refused { result ≡ 2 → TellsPartialFault header.now (are_all more) report.new }
+    ensures given { result ≡ 0 → ReturnsRows header.now (window_part window_at window.now more) rows place.old place.new pixels.old pixels.new report.new }
+    ensures refused { result ≡ 2 → ReportsPartialFault header.now (are_all more) report.new }
     ensures memory { result ≡ 1 → report.new.refusal ≡ 19 }
-    ensures room { result ≡ 4 → LacksRoomForRow header.now place.old rows (length pixels.old) }
-    ensures each_room { LacksRoomForRow header.now place.old rows (length pixels.old) → result ≢ 1 → result ≢ 11 → result ≡ 4 }
-    ensures room_alone { result ≡ 4 → TellsNothing report.new }
+    ensures space { result ≡ 4 → LacksSpaceForRow header.now place.old rows (length pixels.old) }
+    ensures each_space { LacksSpaceForRow header.now place.old rows (length pixels.old) → result ≢ 1 → result ≢ 11 → result ≡ 4 }
+    ensures space_alone { result ≡ 4 → ReportsNothing report.new }
     ensures rows { result ≡ 5 → LacksRows header.now place.old rows }
     ensures each_rows { LacksRows header.now place.old rows → result ≢ 1 → result ≡ 5 }
-    ensures rows_alone { result ≡ 5 → TellsNothing report.new }
+    ensures rows_alone { result ≡ 5 → ReportsNothing report.new }
     ensures inside { result ≡ 0 → WantsMore header.now ⊎ LiesInside header.now (window_part window_at window.now more) place.old rows }
     ensures outside { result ≡ 11 → LiesOutside header.now (window_part window_at window.now more) place.old rows }
     ensures each_outside { LiesOutside header.now (window_part window_at window.now more) place.old rows → result ≢ 1 → result ≡ 11 }
-    ensures outside_alone { result ≡ 11 → TellsNothing report.new }
-    ensures no_rows { result ≢ 0 → TellsNoRows report.new }
+    ensures outside_alone { result ≡ 11 → ReportsNothing report.new }
+    ensures no_rows { result ≢ 0 → ReportsNoRows report.new }
     ensures pixels { result ≢ 0 → pixels.new ≡ pixels.old }
     ensures place { result ≢ 0 → place.new ≡ place.old }
     ensures undamaged { result ≢ 3 }
@@ -280,17 +280,17 @@ pub extern "C" fn jri_skip_window(
     report: &mut RowsReport,
 ) -> u32
     ensures skipped { result ≡ 0 → SkipsRows header.now (window_part window_at window.now more) rows place.old place.new report.new }
-    ensures refused { result ≡ 2 → TellsPartialFault header.now (are_all more) report.new }
+    ensures refused { result ≡ 2 → ReportsPartialFault header.now (are_all more) report.new }
     ensures memory { result ≡ 1 → report.new.refusal ≡ 19 }
     ensures rows { result ≡ 5 → LacksRows header.now place.old rows }
     ensures each_rows { LacksRows header.now place.old rows → result ≢ 1 → result ≡ 5 }
-    ensures rows_alone { result ≡ 5 → TellsNothing report.new }
+    ensures rows_alone { result ≡ 5 → ReportsNothing report.new }
     ensures inside { result ≡ 0 → WantsMore header.now ⊎ LiesInside header.now (window_part window_at window.now more) place.old rows }
     ensures outside { result ≡ 11 → LiesOutside header.now (window_part window_at window.now more) place.old rows }
     ensures each_outside { LiesOutside header.now (window_part window_at window.now more) place.old rows → result ≢ 1 → result ≡ 11 }
-    ensures outside_alone { result ≡ 11 → TellsNothing report.new }
-    ensures no_room { result ≢ 4 }
-    ensures no_rows { result ≢ 0 → TellsNoRows report.new }
+    ensures outside_alone { result ≡ 11 → ReportsNothing report.new }
+    ensures no_space { result ≢ 4 }
+    ensures no_rows { result ≢ 0 → ReportsNoRows report.new }
     ensures place { result ≢ 0 → place.new ≡ place.old }
     ensures undamaged { result ≢ 3 }
     ensures few { result ≢ 11 → result ≤ 5 }
@@ -320,9 +320,9 @@ pub extern "C" fn jri_list_damage(
     ensures some_listed { result ≡ 3 → ListsDamages file.now first first_at damages.old damages.new report.new }
     ensures none { result ≡ 0 → report.new.count ≡ 0 }
     ensures some { result ≡ 3 → 0 < report.new.count }
-    ensures refused { result ≡ 2 → TellsFault file.now report.new.refusal report.new.detail }
+    ensures refused { result ≡ 2 → ReportsFault file.now report.new.refusal report.new.detail }
     ensures memory { result ≡ 1 → report.new.refusal ≡ 19 }
-    ensures nothing { result ≢ 0 → result ≢ 3 → TellsNoDamage report.new }
+    ensures nothing { result ≢ 0 → result ≢ 3 → ReportsNoDamage report.new }
     ensures kept { result ≢ 0 → result ≢ 3 → damages.new ≡ damages.old }
     ensures few { result ≤ 3 }
 {
@@ -373,15 +373,15 @@ pub extern "C" fn jri_decode_canvas(
     ensures damaged { result ≡ 3 → OfRead file.now resync (λ read. DecodesCanvas read stride layout canvas.old canvas.new marks.old marks.new report.new) }
     ensures undamaged { result ≡ 0 → report.new.damaged ≡ 0 }
     ensures some_damaged { result ≡ 3 → 0 < report.new.damaged }
-    ensures refused { result ≡ 2 → TellsFault file.now report.new.refusal report.new.detail }
+    ensures refused { result ≡ 2 → ReportsFault file.now report.new.refusal report.new.detail }
     ensures memory { result ≡ 1 → report.new.refusal ≡ 19 }
-    ensures room { result ≡ 4 → LacksCanvas file.now stride layout (length canvas.old) (length marks.old) }
-    ensures room_alone { result ≡ 4 → TellsNoRefusal report.new }
+    ensures space { result ≡ 4 → LacksCanvas file.now stride layout (length canvas.old) (length marks.old) }
+    ensures space_alone { result ≡ 4 → ReportsNoRefusal report.new }
     ensures layout { result ≡ 6 → LacksLayoutOf file.now stride layout }
-    ensures layout_alone { result ≡ 6 → TellsNoRefusal report.new }
+    ensures layout_alone { result ≡ 6 → ReportsNoRefusal report.new }
     ensures long { result ≡ 8 → IsTooLongRead file.now resync }
-    ensures long_alone { result ≡ 8 → TellsNoRefusal report.new }
-    ensures no_picture { result ≢ 0 → result ≢ 3 → TellsNoPicture report.new }
+    ensures long_alone { result ≡ 8 → ReportsNoRefusal report.new }
+    ensures no_picture { result ≢ 0 → result ≢ 3 → ReportsNoPicture report.new }
     ensures canvas { result ≢ 0 → result ≢ 3 → canvas.new ≡ canvas.old }
     ensures marks { result ≢ 0 → result ≢ 3 → marks.new ≡ marks.old }
     ensures few { result ≢ 8 → result ≤ 6 }
@@ -403,7 +403,7 @@ pub extern "C" fn jri_lay_out(
     layout: u32,
 ) -> u32
     ensures done { result ≡ 0 → LaysOut lines.now width components stride layout canvas.old canvas.new }
-    ensures room { result ≡ 4 → LacksRoomToLay lines.now width components stride layout (length canvas.old) }
+    ensures space { result ≡ 4 → LacksSpaceToLay lines.now width components stride layout (length canvas.old) }
     ensures layout { result ≡ 6 → LacksLinesToLay lines.now width components stride layout }
     ensures canvas { result ≢ 0 → canvas.new ≡ canvas.old }
     ensures few { result ≢ 0 → result ≢ 4 → result ≡ 6 }
@@ -423,12 +423,12 @@ pub extern "C" fn jri_resynchronise(
     report: &mut ResyncReport,
 ) -> u32
     ensures done { result ≡ 0 → ResyncsFile file.now out.old out.new breaks.old breaks.new report.new }
-    ensures refused { result ≡ 2 → TellsFault file.now report.new.refusal report.new.detail }
+    ensures refused { result ≡ 2 → ReportsFault file.now report.new.refusal report.new.detail }
     ensures memory { result ≡ 1 → report.new.refusal ≡ 19 }
-    ensures room { result ≡ 4 → LacksResyncRoom file.now (length out.old) report.new }
+    ensures space { result ≡ 4 → LacksResyncSpace file.now (length out.old) report.new }
     ensures long { result ≡ 8 → IsTooLongFile file.now }
     ensures long_alone { result ≡ 8 → report.new.refusal ≡ 0 }
-    ensures nothing { result ≢ 0 → result ≢ 4 → TellsNoResync report.new }
+    ensures nothing { result ≢ 0 → result ≢ 4 → ReportsNoResync report.new }
     ensures out { result ≢ 0 → out.new ≡ out.old }
     ensures breaks { result ≢ 0 → breaks.new ≡ breaks.old }
     ensures few { result ≢ 0 → result ≢ 1 → result ≢ 2 → result ≢ 4 → result ≡ 8 }
@@ -454,14 +454,14 @@ pub extern "C" fn jri_mend(
     ensures damaged { result ≡ 3 → MendsFiles (files_of sizes.now files.now) out.old out.new choices.old choices.new report.new }
     ensures undamaged { result ≡ 0 → report.new.damaged ≡ 0 }
     ensures some_damaged { result ≡ 3 → 0 < report.new.damaged }
-    ensures refused { result ≡ 2 → TellsCopyFault (files_of sizes.now files.now) report.new }
+    ensures refused { result ≡ 2 → ReportsCopyFault (files_of sizes.now files.now) report.new }
     ensures memory { result ≡ 1 → report.new.refusal ≡ 19 }
-    ensures room { result ≡ 4 → LacksMendRoom (files_of sizes.now files.now) (length out.old) report.new }
+    ensures space { result ≡ 4 → LacksMendSpace (files_of sizes.now files.now) (length out.old) report.new }
     ensures long { result ≡ 8 → IsTooLongMend (files_of sizes.now files.now) }
     ensures copies { result ≡ 9 → LackCopies sizes.now files.now }
     ensures header { result ≡ 10 → HasOtherHeader (files_of sizes.now files.now) report.new.copy }
     ensures no_refusal { 8 ≤ result → report.new.refusal ≡ 0 }
-    ensures nothing { result ≢ 0 → result ≢ 3 → result ≢ 4 → TellsNoMend report.new }
+    ensures nothing { result ≢ 0 → result ≢ 3 → result ≢ 4 → ReportsNoMend report.new }
     ensures out { result ≢ 0 → result ≢ 3 → out.new ≡ out.old }
     ensures choices { result ≢ 0 → result ≢ 3 → choices.new ≡ choices.old }
     ensures few { 4 < result → (8 ≤ result) × (result ≤ 10) }

@@ -7,7 +7,7 @@ use Rattle.std.proofs.lemmas.Slice.{take-put_mid, drop-put_mid}
 use Rattle.std.proofs.lemmas.Nat.{mul-le}
 use borrow.Rule.Slice.PartMut.{put_mid, same_len_mid}
 use Rattle.std.proofs.Common.{◌++◌, take}
-use Rattle.jri_canvas.specs.Layouts.{StandOn, laid_line_size}
+use Rattle.jri_canvas.specs.Layouts.{LieOn, laid_line_size}
 use Rattle.jri_canvas.specs.declared.lines.CanvasLines.{CanvasLines}
 
 module _ (a k : ℕ) (xs ys : List ℕ) (inside : a ≤ length xs) where
@@ -22,23 +22,23 @@ module _ (a k : ℕ) (xs ys : List ℕ) (inside : a ≤ length xs) where
       let back : a + j - a ≡ j = omega arith in
       front (a + j) (omega (arith, lt)) ∙ get_or-append_right (take a xs) ys a (a + j) 0 (length-take-le a xs inside) (omega arith) ∙ ap (λ i. get_or ys i 0) back
 
-  behind : length ys ≡ k → (i : ℕ) → a + k ≤ i → get_or (put_mid a k xs ys) i 0 ≡ get_or xs i 0
-  behind long i le =
+  after : length ys ≡ k → (i : ℕ) → a + k ≤ i → get_or (put_mid a k xs ys) i 0 ≡ get_or xs i 0
+  after long i le =
       let none : i + 0 ≡ i = omega arith in
       ap (λ (n : ℕ). get_or (put_mid a k xs ys) n 0) (sym none) ∙ sym (get_or-drop i (put_mid a k xs ys) 0 0)
       ∙ ap (λ (l : List ℕ). get_or l 0 0) (drop-put_mid a k xs ys i le inside long) ∙ get_or-drop i xs 0 0 ∙ ap (λ (n : ℕ). get_or xs n 0) none
 
 module _ (c : CanvasLines) (line : ℕ → List ℕ) where
-  pub stand_none : (first : ℕ) (old : List ℕ) → StandOn c first first line old old
-  stand_none first old = record {
+  pub lie_none : (first : ℕ) (old : List ℕ) → LieOn c first first line old old
+  lie_none first old = record {
     long = refl;
     lines = λ k j from to _. let none : ⊥ = omega (arith, from, to) in elim none [ ];
     kept = λ i out. refl;
   }
 
   -- the lines before line `mid`, and those starting at it
-  pub stand_both : laid_line_size c ≤ c.stride → (first mid end : ℕ) (old some all : List ℕ) → first ≤ mid → mid ≤ end → StandOn c first mid line old some → StandOn c mid end line some all → StandOn c first end line old all
-  stand_both narrow first mid end old some all le le' start rest = record {
+  pub lie_both : laid_line_size c ≤ c.stride → (first mid end : ℕ) (old some all : List ℕ) → first ≤ mid → mid ≤ end → LieOn c first mid line old some → LieOn c mid end line some all → LieOn c first end line old all
+  lie_both narrow first mid end old some all le le' start rest = record {
     long = rest.long ∙ start.long;
     lines = λ k j from to lt. elim (cases_lt k mid) [
       | inl early ↦
@@ -52,24 +52,24 @@ module _ (c : CanvasLines) (line : ℕ → List ℕ) where
   }
 
   -- one line
-  pub stand_one : (first k : ℕ) (old ys : List ℕ) → k ≡ laid_line_size c → length ys ≡ laid_line_size c → first * c.stride + laid_line_size c ≤ length old → ys ≡ line first
-      → StandOn c first (first + 1) line old (put_mid (first * c.stride) k old ys)
-  stand_one first k old ys size long room is =
+  pub lie_one : (first k : ℕ) (old ys : List ℕ) → k ≡ laid_line_size c → length ys ≡ laid_line_size c → first * c.stride + laid_line_size c ≤ length old → ys ≡ line first
+      → LieOn c first (first + 1) line old (put_mid (first * c.stride) k old ys)
+  lie_one first k old ys size long space is =
       let at = first * c.stride in
-      let inside : at ≤ length old = omega (arith, room) in record {
-        long = same_len_mid at k old ys (omega (arith, length-take-le k (drop at old) (omega (arith, length-drop at old, size, room)), size, long));
+      let inside : at ≤ length old = omega (arith, space) in record {
+        long = same_len_mid at k old ys (omega (arith, length-take-le k (drop at old) (omega (arith, length-drop at old, size, space)), size, long));
         lines = λ n j from to lt.
             let here : n ≡ first = omega (arith, from, to) in
             ap (λ (m : ℕ). get_or (put_mid at k old ys) (m * c.stride + j) 0) here ∙ there at k old ys inside j (omega (arith, lt, long)) ∙ ap (λ (l : List ℕ). get_or l j 0) is ∙ ap (λ (m : ℕ). get_or (line m) j 0) (sym here);
         kept = λ i out. elim (out first (omega arith) (omega arith)) [
           | inl lt ↦ before at k old ys inside i lt
-          | inr le ↦ behind at k old ys inside (long ∙ sym size) i (omega (arith, le, size))
+          | inr le ↦ after at k old ys inside (long ∙ sym size) i (omega (arith, le, size))
         ];
       }
 
 -- lines that are equal
-pub stand_as : (c : CanvasLines) (line other : ℕ → List ℕ) (first end : ℕ) (old new : List ℕ) → ((k : ℕ) → first ≤ k → k < end → line k ≡ other k) → StandOn c first end line old new → StandOn c first end other old new
-stand_as c line other first end old new same s = record {
+pub lie_as : (c : CanvasLines) (line other : ℕ → List ℕ) (first end : ℕ) (old new : List ℕ) → ((k : ℕ) → first ≤ k → k < end → line k ≡ other k) → LieOn c first end line old new → LieOn c first end other old new
+lie_as c line other first end old new same s = record {
   long = s.long;
   lines = λ k j from to lt. s.lines k j from to lt ∙ ap (λ (l : List ℕ). get_or l j 0) (same k from to);
   kept = s.kept;

@@ -25,8 +25,8 @@ joined_four : (xs : List ℕ) (p q r s : ℕ) → (((xs ++ p ∷ []) ++ q ∷ []
 joined_four xs p q r s = simp append_assoc
 
 -- the first bytes of a pixel, starting at byte m
-three_put : (m : ℕ) (out : List ℕ) (p q r : ℕ) → m + 3 ≤ length out → take (m + 3) (set (set (set out m p) (m + 1) q) (m + 2) r) ≡ ((take m out ++ p ∷ []) ++ q ∷ []) ++ r ∷ []
-three_put m out p q r room =
+three_stored : (m : ℕ) (out : List ℕ) (p q r : ℕ) → m + 3 ≤ length out → take (m + 3) (set (set (set out m p) (m + 1) q) (m + 2) r) ≡ ((take m out ++ p ∷ []) ++ q ∷ []) ++ r ∷ []
+three_stored m out p q r space =
     let one = set out m p in
     let two = set one (m + 1) q in
     let long : length one ≡ length out = length-set out m p in
@@ -38,14 +38,14 @@ three_put m out p q r room =
 
 pub three_more : (f : ℕ → List ℕ) (i : ℕ) (out : List ℕ) (p q r : ℕ) → 3 * i + 3 ≤ length out → f i ≡ p ∷ q ∷ r ∷ [] → take (3 * i) out ≡ flat_map f (range_with_len 0 i)
     → take (3 * (i + 1)) (set (set (set out (3 * i) p) (3 * i + 1) q) (3 * i + 2) r) ≡ flat_map f (range_with_len 0 (i + 1))
-three_more f i out p q r room is h =
+three_more f i out p q r space is h =
     let next : 3 * (i + 1) ≡ 3 * i + 3 = omega arith in
     ap (λ (k : ℕ). take k (set (set (set out (3 * i) p) (3 * i + 1) q) (3 * i + 2) r)) next
-    ∙ three_put (3 * i) out p q r room ∙ joined_three (take (3 * i) out) p q r ∙ ap₂ (λ x y. x ++ y) h (sym is) ∙ flat_map-more f i
+    ∙ three_stored (3 * i) out p q r space ∙ joined_three (take (3 * i) out) p q r ∙ ap₂ (λ x y. x ++ y) h (sym is) ∙ flat_map-more f i
 
 pub four_more : (f : ℕ → List ℕ) (i : ℕ) (out : List ℕ) (p q r s : ℕ) → 4 * i + 4 ≤ length out → f i ≡ p ∷ q ∷ r ∷ s ∷ [] → take (4 * i) out ≡ flat_map f (range_with_len 0 i)
     → take (4 * (i + 1)) (set (set (set (set out (4 * i) p) (4 * i + 1) q) (4 * i + 2) r) (4 * i + 3) s) ≡ flat_map f (range_with_len 0 (i + 1))
-four_more f i out p q r s room is h =
+four_more f i out p q r s space is h =
     let one = set out (4 * i) p in
     let two = set one (4 * i + 1) q in
     let three = set two (4 * i + 2) r in
@@ -53,4 +53,4 @@ four_more f i out p q r s room is h =
     let longer : length two ≡ length one = length-set one (4 * i + 1) q in
     let longest : length three ≡ length two = length-set two (4 * i + 2) r in
     let last : take (4 * (i + 1)) (set three (4 * i + 3) s) ≡ take (4 * i + 3) three ++ s ∷ [] = take-set_at three (4 * i + 3) (4 * (i + 1)) s (omega arith) (omega arith) in
-    last ∙ ap (λ z. z ++ s ∷ []) (three_put (4 * i) out p q r (omega arith)) ∙ joined_four (take (4 * i) out) p q r s ∙ ap₂ (λ x y. x ++ y) h (sym is) ∙ flat_map-more f i
+    last ∙ ap (λ z. z ++ s ∷ []) (three_stored (4 * i) out p q r (omega arith)) ∙ joined_four (take (4 * i) out) p q r s ∙ ap₂ (λ x y. x ++ y) h (sym is) ∙ flat_map-more f i

@@ -52,49 +52,49 @@ take_past (x ∷ xs) ys n l e =
 
 -- the first l of the bytes that are stored starting at byte i
 stored : (i l n : ℕ) (out v : List ℕ) → n ≡ i + l → l ≤ length v → i + length v ≤ length out → take n (put_chunk i out v) ≡ take i out ++ take l v
-stored i l n out v e few room =
-    let whole : take (i + length v) (put_chunk i out v) ≡ take i out ++ v = take_more_put_chunk i out v (i + length v) refl room in
-    let long : length (take i out) ≡ i = length-take-le i out (omega (arith, room)) in
+stored i l n out v e few space =
+    let whole : take (i + length v) (put_chunk i out v) ≡ take i out ++ v = take_more_put_chunk i out v (i + length v) refl space in
+    let long : length (take i out) ≡ i = length-take-le i out (omega (arith, space)) in
     sym (take-take n (i + length v) (put_chunk i out v) (omega (arith, e, few))) ∙ ap (take n) whole ∙ take_past (take i out) v n l (omega (arith, e, long))
 
 -- n pixels after m of them
 pixels_more : (f : ℕ → List ℕ) (m n i l k : ℕ) (out v : List ℕ) → k ≡ i + l → l ≤ length v → i + length v ≤ length out → take i out ≡ flat_map f (range_with_len 0 m) → take l v ≡ flat_map f (range_with_len m n)
     → take k (put_chunk i out v) ≡ flat_map f (range_with_len 0 (m + n))
-pixels_more f m n i l k out v e few room before new =
+pixels_more f m n i l k out v e few space before new =
     let none : 0 + m ≡ m = omega arith in
     let split : flat_map f (range_with_len 0 (m + n)) ≡ flat_map f (range_with_len 0 m) ++ flat_map f (range_with_len m n) =
     ap (flat_map f) (range-append 0 m n) ∙ flat_map-append f (range_with_len 0 m) (range_with_len (0 + m) n) ∙ ap (λ (a : ℕ). flat_map f (range_with_len 0 m) ++ flat_map f (range_with_len a n)) none in
-    stored i l k out v e few room ∙ ap₂ (λ x y. x ++ y) before new ∙ sym split
+    stored i l k out v e few space ∙ ap₂ (λ x y. x ++ y) before new ∙ sym split
 
 -- five pixels of three bytes
 pub fives_more : (o : Order) (line out v : List ℕ) (n : ℕ) → length v ≡ 16 → 15 * n + 16 ≤ length out → take 15 v ≡ coloured o Colour (chunk (15 * n) 16 line) 5 → take (3 * (5 * n)) out ≡ coloured o Colour line (5 * n)
     → take (3 * (5 * (n + 1))) (put_chunk (15 * n) out v) ≡ coloured o Colour line (5 * (n + 1))
-fives_more o line out v n long room is before =
+fives_more o line out v n long space is before =
     let from : 15 * n ≡ 3 * (5 * n) = omega arith in
     let next : 5 * n + 5 ≡ 5 * (n + 1) = omega arith in
     let new : take 15 v ≡ flat_map (laid_pixel o Colour line) (range_with_len (5 * n) 5) = is ∙ ap (λ (i : ℕ). coloured o Colour (chunk i 16 line) 5) from ∙ colours_in o line (5 * n) 16 5 (omega arith) in
-    pixels_more (laid_pixel o Colour line) (5 * n) 5 (15 * n) 15 (3 * (5 * (n + 1))) out v (omega arith) (omega (arith, long)) (omega (arith, long, room)) (ap (λ (i : ℕ). take i out) from ∙ before) new
+    pixels_more (laid_pixel o Colour line) (5 * n) 5 (15 * n) 15 (3 * (5 * (n + 1))) out v (omega arith) (omega (arith, long)) (omega (arith, long, space)) (ap (λ (i : ℕ). take i out) from ∙ before) new
     ∙ ap (coloured o Colour line) next
 
 -- four pixels of four bytes
 pub fours_more : (o : Order) (line out v : List ℕ) (n : ℕ) → length v ≡ 16 → 16 * n + 16 ≤ length out → v ≡ coloured o Colour (chunk (12 * n) 16 line) 4 → take (4 * (4 * n)) out ≡ coloured o Colour line (4 * n)
     → take (4 * (4 * (n + 1))) (put_chunk (16 * n) out v) ≡ coloured o Colour line (4 * (n + 1))
-fours_more o line out v n long room is before =
+fours_more o line out v n long space is before =
     let from : 12 * n ≡ 3 * (4 * n) = omega arith in
     let to : 16 * n ≡ 4 * (4 * n) = omega arith in
     let next : 4 * n + 4 ≡ 4 * (n + 1) = omega arith in
     let new : take 16 v ≡ flat_map (laid_pixel o Colour line) (range_with_len (4 * n) 4) = take_all 16 v (omega (arith, long)) ∙ is ∙ ap (λ (i : ℕ). coloured o Colour (chunk i 16 line) 4) from ∙ colours_in o line (4 * n) 16 4 (omega arith) in
-    pixels_more (laid_pixel o Colour line) (4 * n) 4 (16 * n) 16 (4 * (4 * (n + 1))) out v (omega arith) (omega (arith, long)) (omega (arith, long, room)) (ap (λ (i : ℕ). take i out) to ∙ before) new
+    pixels_more (laid_pixel o Colour line) (4 * n) 4 (16 * n) 16 (4 * (4 * (n + 1))) out v (omega arith) (omega (arith, long)) (omega (arith, long, space)) (ap (λ (i : ℕ). take i out) to ∙ before) new
     ∙ ap (coloured o Colour line) next
 
 -- sixteen grey pixels of four bytes
 pub sixteens_more : (o : Order) (line out v : List ℕ) (n : ℕ) → length v ≡ 64 → 64 * n + 64 ≤ length out → v ≡ coloured o Grey (chunk (16 * n) 16 line) 16 → take (4 * (16 * n)) out ≡ coloured o Grey line (16 * n)
     → take (4 * (16 * (n + 1))) (put_chunk (64 * n) out v) ≡ coloured o Grey line (16 * (n + 1))
-sixteens_more o line out v n long room is before =
+sixteens_more o line out v n long space is before =
     let to : 64 * n ≡ 4 * (16 * n) = omega arith in
     let next : 16 * n + 16 ≡ 16 * (n + 1) = omega arith in
     let new : take 64 v ≡ flat_map (laid_pixel o Grey line) (range_with_len (16 * n) 16) = take_all 64 v (omega (arith, long)) ∙ is ∙ greys_in o line (16 * n) 16 16 (omega arith) in
-    pixels_more (laid_pixel o Grey line) (16 * n) 16 (64 * n) 64 (4 * (16 * (n + 1))) out v (omega arith) (omega (arith, long)) (omega (arith, long, room)) (ap (λ (i : ℕ). take i out) to ∙ before) new
+    pixels_more (laid_pixel o Grey line) (16 * n) 16 (64 * n) 64 (4 * (16 * (n + 1))) out v (omega arith) (omega (arith, long)) (omega (arith, long, space)) (ap (λ (i : ℕ). take i out) to ∙ before) new
     ∙ ap (coloured o Grey line) next
 
 -- red, green and blue are unchanged

@@ -67,11 +67,11 @@ abbrev pub line_in : (size : ℕ) → List ℕ → ℕ → List ℕ
 line_in size lines k = take size (drop (k * size) lines)
 
 -- each line starting at `first` and before `end` fits at its stride
-abbrev pub HavePlaces : CanvasLines → (first end room : ℕ) → Type 0
-HavePlaces c first end room = (k : ℕ) → first ≤ k → k < end → k * c.stride + laid_line_size c ≤ room
+abbrev pub HavePlaces : CanvasLines → (first end space : ℕ) → Type 0
+HavePlaces c first end space = (k : ℕ) → first ≤ k → k < end → k * c.stride + laid_line_size c ≤ space
 
 -- each line k starting at `first` and before `end` is at k * stride, and each byte that is in none of them is unchanged
-pub record StandOn (c : CanvasLines) (first end : ℕ) (line : ℕ → List ℕ) (old new : List ℕ) : Type 0 where
+pub record LieOn (c : CanvasLines) (first end : ℕ) (line : ℕ → List ℕ) (old new : List ℕ) : Type 0 where
   pub long : length new ≡ length old
   pub lines : (k j : ℕ) → first ≤ k → k < end → j < laid_line_size c → slice_index new (k * c.stride + j) ≡ slice_index (line k) j
   pub kept : (i : ℕ) → ((k : ℕ) → first ≤ k → k < end → (i < k * c.stride) ⊎ (k * c.stride + laid_line_size c ≤ i)) → slice_index new i ≡ slice_index old i

@@ -24,7 +24,7 @@ fn spread_to_three(line: &[u8], out: &mut [u8])
 
 /// Writes each byte of grey after those that are done three times, and 255.
 fn spread_rest_to_four(line: &[u8], done: usize, out: &mut [u8])
-    requires room { length out.old ≡ 4 * length line.now }
+    requires space { length out.old ≡ 4 * length line.now }
     requires few { done ≤ length line.now }
     requires front { take (4 * done) out.old ≡ coloured order.Rgbx pixels.Grey line.now done }
     ensures { out.new ≡ coloured order.Rgbx pixels.Grey line.now (length line.now) }
@@ -51,7 +51,7 @@ fn spread_to_four(line: &[u8], out: &mut [u8])
 /// Red, green and blue of each pixel.
 fn copy_three(line: &[u8], width: usize, out: &mut [u8])
     requires line { length line.now ≡ 3 * width }
-    requires room { length out.old ≡ 3 * width }
+    requires space { length out.old ≡ 3 * width }
     ensures { out.new ≡ coloured order.Rgb pixels.Colour line.now width }
 {
     out.copy_from_slice(line);
@@ -60,7 +60,7 @@ fn copy_three(line: &[u8], width: usize, out: &mut [u8])
 /// Writes blue, green and red of the pixels after those that are done.
 fn turn_rest(line: &[u8], done: usize, width: usize, out: &mut [u8])
     requires line { length line.now ≡ 3 * width }
-    requires room { length out.old ≡ 3 * width }
+    requires space { length out.old ≡ 3 * width }
     requires few { done ≤ width }
     requires front { take (3 * done) out.old ≡ coloured order.Bgr pixels.Colour line.now done }
     ensures { out.new ≡ coloured order.Bgr pixels.Colour line.now width }
@@ -75,7 +75,7 @@ fn turn_rest(line: &[u8], done: usize, width: usize, out: &mut [u8])
 /// Blue, green and red of each pixel.
 fn turn_three(line: &[u8], width: usize, out: &mut [u8])
     requires line { length line.now ≡ 3 * width }
-    requires room { length out.old ≡ 3 * width }
+    requires space { length out.old ≡ 3 * width }
     ensures { out.new ≡ coloured order.Bgr pixels.Colour line.now width }
 {
     let done = turn_by_fives(line, width, out);
@@ -85,7 +85,7 @@ fn turn_three(line: &[u8], width: usize, out: &mut [u8])
 /// Writes red, green and blue of the pixels after those that are done, and 255.
 fn copy_rest_to_four(line: &[u8], done: usize, width: usize, out: &mut [u8])
     requires line { length line.now ≡ 3 * width }
-    requires room { length out.old ≡ 4 * width }
+    requires space { length out.old ≡ 4 * width }
     requires few { done ≤ width }
     requires front { take (4 * done) out.old ≡ coloured order.Rgbx pixels.Colour line.now done }
     ensures { out.new ≡ coloured order.Rgbx pixels.Colour line.now width }
@@ -101,7 +101,7 @@ fn copy_rest_to_four(line: &[u8], done: usize, width: usize, out: &mut [u8])
 /// Red, green and blue of each pixel, and 255.
 fn copy_to_four(line: &[u8], width: usize, out: &mut [u8])
     requires line { length line.now ≡ 3 * width }
-    requires room { length out.old ≡ 4 * width }
+    requires space { length out.old ≡ 4 * width }
     ensures { out.new ≡ coloured order.Rgbx pixels.Colour line.now width }
 {
     let done = copy_by_fours(line, width, out);
@@ -111,7 +111,7 @@ fn copy_to_four(line: &[u8], width: usize, out: &mut [u8])
 /// Writes blue, green and red of the pixels after those that are done, and 255.
 fn turn_rest_to_four(line: &[u8], done: usize, width: usize, out: &mut [u8])
     requires line { length line.now ≡ 3 * width }
-    requires room { length out.old ≡ 4 * width }
+    requires space { length out.old ≡ 4 * width }
     requires few { done ≤ width }
     requires front { take (4 * done) out.old ≡ coloured order.Bgrx pixels.Colour line.now done }
     ensures { out.new ≡ coloured order.Bgrx pixels.Colour line.now width }
@@ -127,7 +127,7 @@ fn turn_rest_to_four(line: &[u8], done: usize, width: usize, out: &mut [u8])
 /// Blue, green and red of each pixel, and 255.
 fn turn_to_four(line: &[u8], width: usize, out: &mut [u8])
     requires line { length line.now ≡ 3 * width }
-    requires room { length out.old ≡ 4 * width }
+    requires space { length out.old ≡ 4 * width }
     ensures { out.new ≡ coloured order.Bgrx pixels.Colour line.now width }
 {
     let done = turn_by_fours(line, width, out);
@@ -137,7 +137,7 @@ fn turn_to_four(line: &[u8], width: usize, out: &mut [u8])
 /// Lays out a line of `width` pixels.
 pub fn lay_line(line: &[u8], width: usize, pixels: Pixels, layout: Layout, out: &mut [u8])
     requires line { length line.now ≡ sample_count pixels * width }
-    requires room { length out.old ≡ laid_size layout pixels * width }
+    requires space { length out.old ≡ laid_size layout pixels * width }
     ensures { out.new ≡ laid_pixels layout pixels line.now width }
 {
     match (layout, pixels) {

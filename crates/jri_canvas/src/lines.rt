@@ -1,7 +1,7 @@
 //! Lines laid out, each at its stride.
 
 ghost use Rattle.std.specs.Prelude.{◌≡◌, ◌+◌, ◌-◌, ◌*◌, ◌^◌, ◌<◌, ◌≤◌, length, take, drop, true, false};
-ghost use Rattle.jri_canvas.specs.Layouts.{HavePlaces, StandOn, laid_line, laid_line_size, laid_size, line_in, plain_line_size, sample_count};
+ghost use Rattle.jri_canvas.specs.Layouts.{HavePlaces, LieOn, laid_line, laid_line_size, laid_size, line_in, plain_line_size, sample_count};
 
 use crate::layout::{Layout, Pixels};
 use crate::line::lay_line;
@@ -38,21 +38,21 @@ impl CanvasLines {
     }
 }
 
-/// Returns whether `count` lines fit on a canvas of `room` bytes.
-pub fn have_places(form: &CanvasLines, count: usize, room: usize) -> bool
+/// Returns whether `count` lines fit on a canvas of `space` bytes.
+pub fn have_places(form: &CanvasLines, count: usize, space: usize) -> bool
     requires { 0 < form.now.stride }
-    ensures there { result ≡ true → HavePlaces form.now 0 count room }
-    ensures not_there { result ≡ false → HavePlaces form.now 0 count room → ⊥ }
+    ensures there { result ≡ true → HavePlaces form.now 0 count space }
+    ensures not_there { result ≡ false → HavePlaces form.now 0 count space → ⊥ }
 {
     let size = form.bytes();
-    count == 0 || size <= room && count - 1 <= (room - size) / form.stride
+    count == 0 || size <= space && count - 1 <= (space - size) / form.stride
 }
 
 /// Lays out a line as the one of this number.
 fn lay_at(line: &[u8], form: &CanvasLines, number: usize, canvas: &mut [u8])
     requires line { length line.now ≡ plain_line_size form.now }
     requires place { number * form.now.stride + laid_line_size form.now ≤ length canvas.old }
-    ensures { StandOn form.now number (number + 1) (λ _. laid_line form.now line.now) canvas.old canvas.new }
+    ensures { LieOn form.now number (number + 1) (λ _. laid_line form.now line.now) canvas.old canvas.new }
 {
     let size = form.bytes();
     let at = number * form.stride;
@@ -71,7 +71,7 @@ pub fn lay_lines(lines: &[u8], form: &CanvasLines, first: u32, count: usize, can
     requires lines { length lines.now ≡ count * plain_line_size form.now }
     requires stride { laid_line_size form.now ≤ form.now.stride }
     requires places { HavePlaces form.now first (first + count) (length canvas.old) }
-    ensures { StandOn form.now first (first + count) (λ k. laid_line form.now (line_in (plain_line_size form.now) lines.now (k - first))) canvas.old canvas.new }
+    ensures { LieOn form.now first (first + count) (λ k. laid_line form.now (line_in (plain_line_size form.now) lines.now (k - first))) canvas.old canvas.new }
 {
     let line = form.bytes_before();
     for k in 0..count {

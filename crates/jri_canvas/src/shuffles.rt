@@ -55,7 +55,7 @@ fn spread_with_fourth(bytes: u8x16) -> u8x64
 /// Lays out blue, green and red of the first pixels, five at a time. Returns their number.
 pub(crate) fn turn_by_fives(line: &[u8], width: usize, out: &mut [u8]) -> usize
     requires line { length line.now ≡ 3 * width }
-    requires room { length out.old ≡ 3 * width }
+    requires space { length out.old ≡ 3 * width }
     ensures few { result ≤ width }
     ensures front { take (3 * result) out.new ≡ coloured order.Bgr pixels.Colour line.now result }
 {
@@ -71,7 +71,7 @@ pub(crate) fn turn_by_fives(line: &[u8], width: usize, out: &mut [u8]) -> usize
 /// Lays out red, green, blue and 255 of the first pixels, four at a time. Returns their number.
 pub(crate) fn copy_by_fours(line: &[u8], width: usize, out: &mut [u8]) -> usize
     requires line { length line.now ≡ 3 * width }
-    requires room { length out.old ≡ 4 * width }
+    requires space { length out.old ≡ 4 * width }
     ensures few { result ≤ width }
     ensures front { take (4 * result) out.new ≡ coloured order.Rgbx pixels.Colour line.now result }
 {
@@ -87,7 +87,7 @@ pub(crate) fn copy_by_fours(line: &[u8], width: usize, out: &mut [u8]) -> usize
 /// Lays out blue, green, red and 255 of the first pixels, four at a time. Returns their number.
 pub(crate) fn turn_by_fours(line: &[u8], width: usize, out: &mut [u8]) -> usize
     requires line { length line.now ≡ 3 * width }
-    requires room { length out.old ≡ 4 * width }
+    requires space { length out.old ≡ 4 * width }
     ensures few { result ≤ width }
     ensures front { take (4 * result) out.new ≡ coloured order.Bgrx pixels.Colour line.now result }
 {

@@ -4,7 +4,7 @@
 
 use jr_base::limits::MAX_FILE_BYTES;
 use jri_archive::{
-    Ended, Folder, Lists, Stamp, StateError, Streams, TerminalProgress, program, words_of,
+    Directory, Ended, Lists, Stamp, StateError, Streams, TerminalProgress, program, words_of,
 };
 use jri_machine::{Entry, ReadError, entries_in, unread};
 use std::alloc::Global;
@@ -27,7 +27,7 @@ struct Disk<'a> {
 
 /// Reserves space for all bytes of a file and one more, so that two reads take it and see its end. If the system
 /// reports no size, or allocation fails, reads take it part by part.
-fn make_room(bytes: &mut Vec<u8>, file: &File) {
+fn make_space(bytes: &mut Vec<u8>, file: &File) {
     if let Ok(data) = file.metadata() {
         let _ = bytes.reserve(data.len().saturating_add(1).min(TOO_MANY) as usize);
     }
@@ -68,7 +68,7 @@ fn read_file(alloc: Global, file: File) -> IoResult<Vec<u8>> {
         _ => {}
     }
     let mut bytes = Vec::new(alloc);
-    make_room(&mut bytes, &file);
+    make_space(&mut bytes, &file);
     file.take(TOO_MANY).read_to_end(&mut bytes)?;
     Ok(bytes)
 }
@@ -148,7 +148,7 @@ fn is_special(rt: &HostRuntime, name: &str) -> bool {
     }
 }
 
-impl<'a> Folder for Disk<'a> {
+impl<'a> Directory for Disk<'a> {
     fn read(&self, alloc: Global, name: &str) -> Result<Vec<u8>, ReadError> {
         if name == STANDARD_INPUT {
             return match read_stream(alloc, &mut self.rt.stdin()) {

@@ -87,14 +87,14 @@ left old new n w v g h l = subst (λ (o : Tally _). Left old o w) (sym g) (subst
 
 -- the fault of a file that is read whole, and of no other kind
 module _ (left : Option (List ℕ)) {T : Type 0} (r : Result T Fault) (f : Fault) (e : r ≡ Err f) (is : IsFaultOfInput left f) where
-  told : (x : Fault) → r ≡ Err x → IsFaultOfInput left x
-  told x w = let z : ◌≡◌ {A = Result T Fault} (Err f) (Err x) = sym e ∙ w in let same : f ≡ x = cc in subst (IsFaultOfInput left) same is
+  stated : (x : Fault) → r ≡ Err x → IsFaultOfInput left x
+  stated x w = let z : ◌≡◌ {A = Result T Fault} (Err f) (Err x) = sym e ∙ w in let same : f ≡ x = cc in subst (IsFaultOfInput left) same is
 
   pub unwritten_fault : r ≡ Err fault.Write → ⊥
-  unwritten_fault w = told fault.Write w
+  unwritten_fault w = stated fault.Write w
 
   pub opened_fault : r ≡ Err fault.NoFile → ⊥
-  opened_fault w = told fault.NoFile w
+  opened_fault w = stated fault.NoFile w
 
   pub refused_fault : (x : Refusal) → r ≡ Err (fault.Refused x) → OfFile left (λ file. RefusalOf file x)
-  refused_fault x w = told (fault.Refused x) w
+  refused_fault x w = stated (fault.Refused x) w

@@ -33,7 +33,7 @@ own_scan file h s breaks in_step same is none =
     record {
       resynced = becomes.0;
       is = record { head = s.head; ended = EndOfImage; is_head = is.head; is = subst (λ (b : List Break). Becomes file s.head becomes.0 b EndOfImage) (sym none) becomes.1 };
-      is_scan = record { head = becomes.1.head; lawful = is.lawful; cut = becomes.2 };
+      is_scan = record { head = becomes.1.head; valid = is.valid; cut = becomes.2 };
     }
 
 module _ (left : Option (List ℕ)) (first : Option ℕ) (scan : ScanValue) (old new : Option (List ℕ)) where

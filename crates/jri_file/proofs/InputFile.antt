@@ -14,15 +14,15 @@ use Rattle.jr_segments.specs.declared.refusal.Refusal.TheVariants as refusal
 use Rattle.jri_file.specs.Files.{BeginsWithFault, BeginsWithHead, IsFaultOf, IsFaultOfInput, IsHeaderFaultOfInput, OfFile, fault_by}
 
 -- what was read, and then more
-pub read_on : (left then behind : Option (List ℕ)) (first file : List ℕ) → Consumes left then first → Consumes (prepend_known first then) behind file → Consumes left behind file
-read_on None then behind first file p q = tt
-read_on (Some xs) None behind first file p q = absurd p
+pub read_on : (left then after : Option (List ℕ)) (first file : List ℕ) → Consumes left then first → Consumes (prepend_known first then) after file → Consumes left after file
+read_on None then after first file p q = tt
+read_on (Some xs) None after first file p q = absurd p
 read_on (Some xs) (Some ys) None first file p q = absurd q
 read_on (Some xs) (Some ys) (Some zs) first file p q = p ∙ q
 
 -- nothing was read before
-pub read_first : (left behind : Option (List ℕ)) (first : List ℕ) → Consumes (prepend_known [] left) behind first → Consumes left behind first
-read_first None behind first p = tt
+pub read_first : (left after : Option (List ℕ)) (first : List ℕ) → Consumes (prepend_known [] left) after first → Consumes left after first
+read_first None after first p = tt
 read_first (Some xs) None first p = absurd p
 read_first (Some xs) (Some ys) first p = p
 
@@ -34,8 +34,8 @@ front_of n file rest few end = elim (cases_lt (length file) n) [
 ]
 
 -- the input's file
-pub of_file : (P : List ℕ → Type 0) (left behind : Option (List ℕ)) (file : List ℕ) → Consumes left behind file → length file ≤ MAX_FILE_BYTES + 1 → (length file < MAX_FILE_BYTES + 1 → IsAtEnd behind) → P file → OfFile left P
-of_file P None behind file p few end holds = tt
+pub of_file : (P : List ℕ → Type 0) (left after : Option (List ℕ)) (file : List ℕ) → Consumes left after file → length file ≤ MAX_FILE_BYTES + 1 → (length file < MAX_FILE_BYTES + 1 → IsAtEnd after) → P file → OfFile left P
+of_file P None after file p few end holds = tt
 of_file P (Some xs) None file p few end holds = absurd p
 of_file P (Some xs) (Some ys) file p few end holds =
     subst P (sym (ap (take (MAX_FILE_BYTES + 1)) p ∙ front_of (MAX_FILE_BYTES + 1) file ys few end)) holds
@@ -53,12 +53,12 @@ fault_of_input left then first fault.Memory p is = tt
 fault_of_input left then first fault.Write p is = absurd is
 fault_of_input left then first fault.NoFile p is = absurd is
 
-pub fault_of_file : (left behind : Option (List ℕ)) (file : List ℕ) (f : Fault) → Consumes left behind file → length file ≤ MAX_FILE_BYTES + 1 → (length file < MAX_FILE_BYTES + 1 → IsAtEnd behind) → IsFaultOf file f → IsFaultOfInput left f
-fault_of_file left behind file fault.Read p few end is = tt
-fault_of_file left behind file (fault.Refused r) p few end is = of_file (λ f. RefusalOf f r) left behind file p few end is
-fault_of_file left behind file fault.Memory p few end is = tt
-fault_of_file left behind file fault.Write p few end is = absurd is
-fault_of_file left behind file fault.NoFile p few end is = absurd is
+pub fault_of_file : (left after : Option (List ℕ)) (file : List ℕ) (f : Fault) → Consumes left after file → length file ≤ MAX_FILE_BYTES + 1 → (length file < MAX_FILE_BYTES + 1 → IsAtEnd after) → IsFaultOf file f → IsFaultOfInput left f
+fault_of_file left after file fault.Read p few end is = tt
+fault_of_file left after file (fault.Refused r) p few end is = of_file (λ f. RefusalOf f r) left after file p few end is
+fault_of_file left after file fault.Memory p few end is = tt
+fault_of_file left after file fault.Write p few end is = absurd is
+fault_of_file left after file fault.NoFile p few end is = absurd is
 
 -- the input's file begins with bytes that have a header
 pub begins_with : (left then : Option (List ℕ)) (front : List ℕ) (h : HeadValue) → Consumes left then front → HeadOf front h → OfFile left (λ file. BeginsWithHead file h)
@@ -117,8 +117,8 @@ module _ (left then : Option (List ℕ)) (front : List ℕ) (p : Consumes left t
   fault_by_front refusal.Memory later of = tt
 
 -- the first bytes, and those that a reader returned
-pub first_and : (then behind : Option (List ℕ)) (first given : List ℕ) → Consumes then behind given → Consumes (prepend_known first then) behind (first ++ given)
-first_and None behind first given p = tt
+pub first_and : (then after : Option (List ℕ)) (first given : List ℕ) → Consumes then after given → Consumes (prepend_known first then) after (first ++ given)
+first_and None after first given p = tt
 first_and (Some ys) None first given p = absurd p
 first_and (Some ys) (Some zs) first given p = ap (λ (l : List ℕ). first ++ l) p ∙ sym (append_assoc first given zs)
 

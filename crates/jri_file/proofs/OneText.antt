@@ -18,7 +18,7 @@ abbrev OnePicture : Type 0
 OnePicture = (scan : ScanValue) (n : ℕ) → HasOnePicture scan n
 
 shows_first : (file : List ℕ) (first : Option ℕ) (s : ScanValue) (k : List Mark) (f : ℕ → ℕ → ℕ → ℕ) → IsPictureOf file first s k f → ShowsFirst s (least first (length s.intervals)) k f
-shows_first file first s k f p = record { lawful = p.is_scan.lawful; picture = p.picture; first = p.decoded }
+shows_first file first s k f p = record { valid = p.is_scan.valid; picture = p.picture; first = p.decoded }
 
 one_head : (file : List ℕ) (a b : HeadValue) → HasOneHead file ⊎ HasOneFault file → HeadOf file a → HeadOf file b → a ≡ b
 one_head file a b (inl one) p q = one.only a p ∙ sym (one.only b q)

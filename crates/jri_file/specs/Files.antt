@@ -6,7 +6,7 @@ use Rattle.jr_segments.specs.declared.refusal.Refusal.TheVariants as refusal
 use Rattle.jr_base.specs.declared.limits.TheConstants.{MAX_FILE_BYTES}
 use Rattle.jr_head.specs.Heads.{HeadOf, RefusalOf}
 use Rattle.jr_head.specs.HeadValue.{HeadValue}
-use Rattle.jr_head.specs.Geometry.{IsLawful}
+use Rattle.jr_head.specs.Geometry.{IsValid}
 use Rattle.jr_scan.specs.ScanValue.{ScanValue, IsScanOf}
 use Rattle.jr_scan.specs.FirstIntervalsValue.{least}
 use Rattle.jr_picture.specs.declared.mark.Mark.{Mark}
@@ -17,7 +17,7 @@ use Rattle.jr_picture.specs.declared.report.Fault.TheVariants as fault
 -- the header is the file's, within its limits, and the intervals are those that its scan is cut into
 pub record IsScanOfFile (file : List ℕ) (scan : ScanValue) : Type 0 where
   pub head : HeadOf file scan.head
-  pub lawful : IsLawful scan.head
+  pub valid : IsValid scan.head
   pub cut : IsScanOf file scan
 
 -- a prefix of the file has the header, and so has every file that begins with that prefix and is not too long

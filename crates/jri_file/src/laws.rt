@@ -1,7 +1,7 @@
 //! Laws of files, scans and their images.
 
 ghost use Rattle.std.specs.Prelude.{◌≡◌, ◌<◌, ◌≤◌, ℕ, List, length, Option, All};
-ghost use Rattle.jr_head.specs.Geometry.{IsLawful};
+ghost use Rattle.jr_head.specs.Geometry.{IsValid};
 ghost use Rattle.jr_head.specs.Heads.{HeadOf};
 ghost use Rattle.jr_paint.specs.Text.{text_of};
 ghost use Rattle.jr_scan.specs.ScanValue.{ScanValue};
@@ -20,7 +20,7 @@ pub fn one_text()
 /// A scan has an image for each number of its first intervals: whatever their data are, each has a decoding or a longest
 /// prefix of whole MCUs.
 pub fn each_scan_has_a_picture()
-    ensures { (scan : ScanValue) (n : ℕ) → IsLawful scan.head → n ≤ length scan.intervals → HasPicture scan n }
+    ensures { (scan : ScanValue) (n : ℕ) → IsValid scan.head → n ≤ length scan.intervals → HasPicture scan n }
 {}
 
 /// States that a file with an accepted header has an image for each number of first intervals; by `one_text` its text

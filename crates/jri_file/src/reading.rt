@@ -70,8 +70,8 @@ fn read_parts<R: Read>(
     ensures fault { IfErr result IsUnread }
 {
     'parts: while bytes.len() < enough {
-        let room = (limit - bytes.len()).min(space.len());
-        let part = &mut space[..room];
+        let wanted = (limit - bytes.len()).min(space.len());
+        let part = &mut space[..wanted];
         let count = read_part(input, part)?;
         if count == 0 {
             return Ok(());
@@ -130,8 +130,8 @@ pub(crate) fn cut_on<R: Read>(
     let mut part = [0; PART];
     let mut come = before;
     'parts: while come < TOO_MANY {
-        let room = (TOO_MANY - come).min(PART);
-        let part = &mut part[..room];
+        let wanted = (TOO_MANY - come).min(PART);
+        let part = &mut part[..wanted];
         let count = read_part(input, part)?;
         if count == 0 {
             return Ok(come);

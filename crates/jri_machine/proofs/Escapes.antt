@@ -28,8 +28,8 @@ escaped_more text name p r is = record {
 
 -- the first n of some bytes, none of which is a backslash
 pub escaped_run : (text name more : List ℕ) (n : ℕ) → n ≤ length more → ((k : ℕ) → k < n → IsPlainByte (get_or more k 0)) → IsEscaped text name → IsEscaped (text ++ take n more) (name ++ take n more)
-escaped_run text name more zero room plain r = subst (λ (x : List ℕ). IsEscaped x (name ++ [])) (sym (append-nil text)) (subst (IsEscaped text) (sym (append-nil name)) r)
-escaped_run text name more (suc n) room plain r =
+escaped_run text name more zero space plain r = subst (λ (x : List ℕ). IsEscaped x (name ++ [])) (sym (append-nil text)) (subst (IsEscaped text) (sym (append-nil name)) r)
+escaped_run text name more (suc n) space plain r =
     let before = escaped_run text name more n (omega arith) (λ k lt. plain k (omega arith)) r in
     let b = get_or more n 0 in
     let one = escaped_more (text ++ take n more) (name ++ take n more) (Plain b) before (plain n (omega arith)) in
@@ -40,24 +40,24 @@ escaped_run text name more (suc n) room plain r =
 -- ---- a name is written run by run
 
 -- the first `at` bytes of the name are written after the line
-abbrev pub Puts : (line new name : List ℕ) → (at : ℕ) → Type 0
-Puts line new name at = (at ≤ length name) × ((text : List ℕ) × (new ≡ line ++ text) × IsEscaped text (take at name))
+abbrev pub Stores : (line new name : List ℕ) → (at : ℕ) → Type 0
+Stores line new name at = (at ≤ length name) × ((text : List ℕ) × (new ≡ line ++ text) × IsEscaped text (take at name))
 
-pub put_run : (line new newer name run rest : List ℕ) (at count : ℕ) → rest ≡ take (length name - at) (drop at name) → count ≤ length rest → ((k : ℕ) → k < count → IsPlainByte (get_or rest k 0))
-    → length run ≤ length (take count rest) → run ≡ take (length run) (take count rest) → newer ≡ new ++ run → Puts line new name at → Puts line newer name (at + length run)
-put_run line new newer name run rest at count cut room plain few is wrote p =
+pub write_run : (line new newer name run rest : List ℕ) (at count : ℕ) → rest ≡ take (length name - at) (drop at name) → count ≤ length rest → ((k : ℕ) → k < count → IsPlainByte (get_or rest k 0))
+    → length run ≤ length (take count rest) → run ≡ take (length run) (take count rest) → newer ≡ new ++ run → Stores line new name at → Stores line newer name (at + length run)
+write_run line new newer name run rest at count cut space plain few is wrote p =
     let n = length run in
     let whole : rest ≡ drop at name = cut ∙ take_all (length name - at) (drop at name) (omega (arith, length-drop at name)) in
-    let le : n ≤ count = omega (arith, few, length-take-le count rest room) in
-    let left : at + n ≤ length name = omega (arith, p.0, le, room, ap length whole, length-drop at name) in
+    let le : n ≤ count = omega (arith, few, length-take-le count rest space) in
+    let left : at + n ≤ length name = omega (arith, p.0, le, space, ap length whole, length-drop at name) in
     let front : run ≡ take n (drop at name) = is ∙ take-take n count rest le ∙ ap (take n) whole in
-    let e = escaped_run p.1.0 (take at name) rest n (omega (arith, le, room)) (λ k lt. plain k (omega (arith, lt, le))) p.1.2 in
+    let e = escaped_run p.1.0 (take at name) rest n (omega (arith, le, space)) (λ k lt. plain k (omega (arith, lt, le))) p.1.2 in
     let named : take at name ++ take n rest ≡ take (at + n) name = ap (λ (x : List ℕ). take at name ++ take n x) whole ∙ sym (take-add at n name) in
     let joined : newer ≡ line ++ (p.1.0 ++ take n rest) = wrote ∙ ap (λ (x : List ℕ). x ++ run) p.1.1 ∙ append_assoc line p.1.0 run ∙ ap (λ (x : List ℕ). line ++ (p.1.0 ++ x)) (front ∙ ap (take n) (sym whole)) in
     (left, (_, joined, subst (IsEscaped (p.1.0 ++ take n rest)) named e))
 
-pub put_byte : (line new newer name : List ℕ) (at : ℕ) → at < length name → get_or name at 0 < 256 → newer ≡ new ++ spelt (Number (get_or name at 0)) → Puts line new name at → Puts line newer name (at + 1)
-put_byte line new newer name at lt small wrote p =
+pub write_byte : (line new newer name : List ℕ) (at : ℕ) → at < length name → get_or name at 0 < 256 → newer ≡ new ++ spelt (Number (get_or name at 0)) → Stores line new name at → Stores line newer name (at + 1)
+write_byte line new newer name at lt small wrote p =
     let b = get_or name at 0 in
     let e = escaped_more p.1.0 (take at name) (Number b) p.1.2 small in
     let joined : newer ≡ line ++ (p.1.0 ++ spelt (Number b)) = wrote ∙ ap (λ (x : List ℕ). x ++ spelt (Number b)) p.1.1 ∙ append_assoc line p.1.0 (spelt (Number b)) in

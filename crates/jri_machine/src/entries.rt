@@ -8,7 +8,7 @@ pub enum ReadError {
     /// It may not be read.
     NotAllowed,
     /// It is a directory.
-    Folder,
+    Directory,
     /// Its name is not UTF-8: the toolchain opens files by text alone.
     NameIsNoText,
     /// It is a FIFO, a socket or a device.
@@ -29,7 +29,7 @@ impl ReadError {
         match self {
             ReadError::NotFound => "no such file",
             ReadError::NotAllowed => "permission denied",
-            ReadError::Folder => "a folder",
+            ReadError::Directory => "a folder",
             ReadError::NameIsNoText => "its name is not UTF-8",
             ReadError::NotRegular => "not a regular file",
             ReadError::NameTooLong => "its name is too long",
@@ -44,7 +44,7 @@ impl ReadError {
 #[derive(Clone, Copy)]
 pub enum EntryKind {
     File,
-    Folder,
+    Directory,
     /// Its kind cannot be read.
     Unread(ReadError),
 }

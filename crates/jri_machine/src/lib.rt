@@ -12,4 +12,4 @@ pub use entries::{Entry, EntryKind, ReadError};
 pub use escaping::{begin_line, write_string};
 pub use laws::names_come_back;
 pub use listing::{entries_in, unread};
-pub use walking::{FolderWalk, NamedFile, is_jpeg};
+pub use walking::{DirectoryWalk, NamedFile, is_jpeg};

@@ -12,7 +12,7 @@ pub fn unread(error: &Error) -> ReadError {
         ErrorKind::OutOfMemory => ReadError::Memory,
         ErrorKind::NotFound => ReadError::NotFound,
         ErrorKind::PermissionDenied => ReadError::NotAllowed,
-        ErrorKind::IsADirectory => ReadError::Folder,
+        ErrorKind::IsADirectory => ReadError::Directory,
         ErrorKind::InvalidFilename => ReadError::NameTooLong,
         _ => ReadError::Failed,
     }
@@ -24,7 +24,7 @@ fn kind_of(rt: &HostRuntime, name: &[u8]) -> Option<EntryKind> {
         return Some(EntryKind::Unread(ReadError::NameIsNoText));
     };
     match fs::symlink_metadata(rt, name) {
-        Ok(found) if found.is_dir() => Some(EntryKind::Folder),
+        Ok(found) if found.is_dir() => Some(EntryKind::Directory),
         Ok(found) if found.is_file() => Some(EntryKind::File),
         Ok(_) => None,
         Err(error) => Some(EntryKind::Unread(unread(&error))),
@@ -32,9 +32,9 @@ fn kind_of(rt: &HostRuntime, name: &[u8]) -> Option<EntryKind> {
 }
 
 /// Returns the name of a directory with a slash at its end, by which the system follows a link to one.
-fn with_slash(alloc: Global, folder: &str) -> Result<String, AllocError> {
-    let mut name = String::from_str(alloc, folder)?;
-    if !folder.is_empty() && !folder.ends_with('/') {
+fn with_slash(alloc: Global, directory: &str) -> Result<String, AllocError> {
+    let mut name = String::from_str(alloc, directory)?;
+    if !directory.is_empty() && !directory.ends_with('/') {
         name.push('/')?;
     }
     Ok(name)
@@ -56,13 +56,13 @@ fn next_name<R: Read>(alloc: Global, names: &mut BufReader<R>) -> IoResult<Optio
 fn add_entry(
     rt: &HostRuntime,
     entries: &mut Vec<Entry>,
-    folder: &str,
+    directory: &str,
     name: &[u8],
 ) -> Result<(), AllocError> {
     if name == b".".as_slice() || name == b"..".as_slice() {
         return Ok(());
     }
-    let mut whole = folder.as_bytes().to_vec(rt.alloc())?;
+    let mut whole = directory.as_bytes().to_vec(rt.alloc())?;
     whole.extend_from_slice(name)?;
     if let Some(kind) = kind_of(rt, whole.as_slice()) {
         entries.push(Entry { name: whole, kind })?;
@@ -71,18 +71,18 @@ fn add_entry(
 }
 
 /// Reads the entries of a directory. If reading fails halfway the directory itself is an entry that is not read.
-fn read_entries(rt: &HostRuntime, folder: &str) -> IoResult<Vec<Entry>> {
+fn read_entries(rt: &HostRuntime, directory: &str) -> IoResult<Vec<Entry>> {
     let alloc: Global = rt.alloc();
-    let folder = with_slash(alloc, folder)?;
-    let mut names = BufReader::new(alloc, rt.open_dir(folder.as_str())?)?;
+    let directory = with_slash(alloc, directory)?;
+    let mut names = BufReader::new(alloc, rt.open_dir(directory.as_str())?)?;
     let mut entries = Vec::new(alloc);
     for _ in 0..u64::MAX {
         match next_name(alloc, &mut names) {
-            Ok(Some(name)) => add_entry(rt, &mut entries, folder.as_str(), name.as_slice())?,
+            Ok(Some(name)) => add_entry(rt, &mut entries, directory.as_str(), name.as_slice())?,
             Ok(None) => break,
             Err(error) => {
                 let kind = EntryKind::Unread(unread(&error));
-                let name = folder.into_bytes();
+                let name = directory.into_bytes();
                 entries.push(Entry { name, kind })?;
                 break;
             }

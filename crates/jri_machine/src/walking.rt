@@ -36,17 +36,17 @@ fn is_unknown(entry: &Entry) -> bool {
 /// A search of directories. Its calls take what lists the directory of a name: its files and directories, in any order, and
 /// no links; `None` if it is not a directory.
 #[derive(Drop)]
-pub struct FolderWalk {
+pub struct DirectoryWalk {
     /// The entries of the directories, the next one last.
     waiting: Vec<Entry>,
     /// The directories in which the search started, as they were named.
     searched: HashSet<Vec<u8>>,
 }
 
-impl FolderWalk {
+impl DirectoryWalk {
     /// Returns a walk that has entered no directory yet.
-    pub fn of(alloc: Global) -> FolderWalk {
-        FolderWalk {
+    pub fn of(alloc: Global) -> DirectoryWalk {
+        DirectoryWalk {
             waiting: Vec::new(alloc),
             searched: HashSet::new(alloc),
         }
@@ -122,7 +122,7 @@ impl FolderWalk {
             };
             let is_skipped = is_unknown(&entry);
             let entered = match entry.kind {
-                EntryKind::Folder => self.enter(list, entry.name.as_slice())?,
+                EntryKind::Directory => self.enter(list, entry.name.as_slice())?,
                 EntryKind::File => Ok(!is_jpeg(entry.name.as_slice())),
                 EntryKind::Unread(error) => Err(error),
             };

@@ -3,7 +3,7 @@ use Rattle.std.proofs.Common.{◌≡◌, ℕ, zero, suc, ◌+◌, ◌-◌, ◌*�
 use Rattle.std.specs.List.{flat_map, range_with_len}
 use Rattle.std.proofs.lemmas.List.{take_at, drop_at, length-append}
 use Rattle.jr_head.specs.HeadValue.{HeadValue}
-use Rattle.jr_head.specs.Geometry.{IsLawful, mcus_across, vertical_max}
+use Rattle.jr_head.specs.Geometry.{IsValid, mcus_across, vertical_max}
 use Rattle.jr_segments.specs.declared.kind.Kind.{Kind}
 use Rattle.jr_segments.specs.declared.kind.Kind.TheVariants.{Grey, Rgb, Ycc}
 use Rattle.jr_paint.specs.Lines.{line_of, line_size}
@@ -50,11 +50,11 @@ module _ (g : ℕ → List ℕ) (size : ℕ) (long : (x : ℕ) → length (g x) 
       ap (λ z. take size (drop (k * size) z)) parts ∙ ap (λ z. take size z) (drop_at front (g (y + k) ++ rest) (k * size) before) ∙ take_at (g (y + k)) rest size (long (y + k))
 
 -- a line of the row of MCUs is that of the image
-pub line_painted : (b : DecodedScan) (h : HeadValue) → b.scan.head ≡ h → IsLawful h → (groups : List (List ℕ)) (r : ℕ) → ShowsMcus b (r * mcus_across h) (units_in h groups)
+pub line_painted : (b : DecodedScan) (h : HeadValue) → b.scan.head ≡ h → IsValid h → (groups : List (List ℕ)) (r : ℕ) → ShowsMcus b (r * mcus_across h) (units_in h groups)
     → (k : ℕ) → r * (8 * vertical_max h) ≤ k → k < r * (8 * vertical_max h) + 8 * vertical_max h → k < h.height → line_of h (samples_in (record { head = h; groups = groups })) k ≡ line_of h (samples_of b) k
-line_painted b h is lawful groups r shows k from to inside =
+line_painted b h is valid groups r shows k from to inside =
     let deep = 8 * vertical_max h in
     let at : k ≡ r * deep + (k - r * deep) = omega (arith, from) in
     let few : k - r * deep + 1 ≤ deep = omega (arith, from, to) in
-    let same = row_painted b h is lawful groups r shows k 1 (k - r * deep) at few (omega (arith, inside)) in
+    let same = row_painted b h is valid groups r shows k 1 (k - r * deep) at few (omega (arith, inside)) in
     sym (append-nil (line_of h (samples_in (record { head = h; groups = groups })) k)) ∙ same ∙ append-nil (line_of h (samples_of b) k)

@@ -33,5 +33,5 @@ module _ (marks : List ℕ) (count asked : ℕ) (all : 0 < length marks → aske
   pub asked_long : length (take asked marks) ≡ asked
   asked_long = length-take-le asked marks (asked_few (length marks) count asked all none few)
 
-  pub asked_room : (n : ℕ) → count ≡ n → 0 < length (take asked marks) → length (take asked marks) ≡ n
-  asked_room n is there = asked_long ∙ asked_all (length marks) count asked all none (omega (arith, there, asked_long)) ∙ is
+  pub asked_space : (n : ℕ) → count ≡ n → 0 < length (take asked marks) → length (take asked marks) ≡ n
+  asked_space n is there = asked_long ∙ asked_all (length marks) count asked all none (omega (arith, there, asked_long)) ∙ is

@@ -6,7 +6,7 @@ use Rattle.jr_head.specs.Heads.{RefusalOf}
 use Rattle.jr_segments.specs.Refusal.{number_of}
 use Rattle.jr_arrival.specs.Arrival.{CanBecome, IsFinalFault}
 use Rattle.jr_arrival.proofs.HeadsStay.{fault_is_final, head_is_final}
-use Rattle.jri_memory.specs.Calls.{IsHeaderOf, TellsFault, TellsNoSize, TellsSize, detail_of}
+use Rattle.jri_memory.specs.Calls.{IsHeaderOf, ReportsFault, ReportsNoSize, ReportsSize, detail_of}
 use Rattle.jri_memory.specs.Frames.{HasOneSize, LacksSize}
 use Rattle.jri_memory.specs.declared.frame_size.FrameSize.{FrameSize}
 use Rattle.jri_memory.specs.declared.header.Header.{Header}
@@ -36,7 +36,7 @@ header_stays bytes whole m can of_bytes = record {
 }
 
 pub refusal_stays : (bytes whole : List ℕ) (f : Refusal) (number detail : ℕ) → CanBecome bytes whole → IsFinalFault bytes f → RefusalOf bytes f
-    → number ≡ number_of f → detail ≡ detail_of f → TellsFault whole number detail
+    → number ≡ number_of f → detail ≡ detail_of f → ReportsFault whole number detail
 refusal_stays bytes whole f number detail can final of_bytes number_is detail_is = record {
   fault = f;
   is = fault_is_final bytes whole f can final of_bytes;
@@ -53,14 +53,14 @@ with_numbers file s m same has =
     subst (λ (c : ℕ). HasOneSize file m.width m.height c) (sym same.2)
     (subst (λ (h : ℕ). HasOneSize file m.width h s.components) (sym same.1) (subst (λ (w : ℕ). HasOneSize file w s.height s.components) (sym same.0) has))
 
-pub size_is_told : (file : List ℕ) (found : Option FrameSize) (m : Header) → IfSome found (λ s. HasOneSize file s.width s.height s.components) → IfNone found (LacksSize file)
-    → IfSome found (HasNumbers m) → IfNone found (TellsNoSize m) → TellsSize file m
-size_is_told file (Some s) m has lacks sized unsized = inl (with_numbers file s m sized has)
-size_is_told file None m has lacks sized unsized = inr (unsized, lacks)
+pub size_is_stated : (file : List ℕ) (found : Option FrameSize) (m : Header) → IfSome found (λ s. HasOneSize file s.width s.height s.components) → IfNone found (LacksSize file)
+    → IfSome found (HasNumbers m) → IfNone found (ReportsNoSize m) → ReportsSize file m
+size_is_stated file (Some s) m has lacks sized unsized = inl (with_numbers file s m sized has)
+size_is_stated file None m has lacks sized unsized = inr (unsized, lacks)
 
 -- a size that is reported for the bytes so far is the file's
-pub size_stays : (bytes : List ℕ) (m : Header) → TellsSize bytes m → TellsNoSize m ⊎ ((whole : List ℕ) → CanBecome bytes whole → HasOneSize whole m.width m.height m.components)
-size_stays bytes m told = elim told [
+pub size_stays : (bytes : List ℕ) (m : Header) → ReportsSize bytes m → ReportsNoSize m ⊎ ((whole : List ℕ) → CanBecome bytes whole → HasOneSize whole m.width m.height m.components)
+size_stays bytes m stated = elim stated [
   | inl has ↦ inr (λ whole can. subst (λ (file : List ℕ). HasOneSize file m.width m.height m.components) (sym can.is) (one_size_more bytes can.more m.width m.height m.components has))
   | inr none ↦ inl none.0
 ]

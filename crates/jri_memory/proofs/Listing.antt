@@ -32,7 +32,7 @@ pub damages_none : (file : List ℕ) (s : ScanValue) (first i count : ℕ) (list
     → AreDamages file s first (i + 1) count list
 damages_none file s first i count list sound a = record {
   start = omega (arith, a.start);
-  each = λ k lt. (let e = a.each k lt in record { interval = e.interval; span = e.span; tells = e.tells; is = e.is; segment = e.segment; from = e.from; before = omega (arith, e.before) });
+  each = λ k lt. (let e = a.each k lt in record { interval = e.interval; span = e.span; reports = e.reports; is = e.is; segment = e.segment; from = e.from; before = omega (arith, e.before) });
   order = a.order;
   all = λ j from before none. elim (cases_lt j i) [
     | inl lt ↦ a.all j from lt none
@@ -40,13 +40,13 @@ damages_none file s first i count list sound a = record {
   ];
 }
 
-module _ (file : List ℕ) (s : ScanValue) (span : CodedSpan) (first i count : ℕ) (list : List Damage) (damaged : DamagedInterval) (d : Damage) (room : count < length list)
-    (is : IsDamageOf (interval_of s i) span damaged) (segment : IsSegmentOf file s i span) (tells : IsDamageEntry damaged d) (a : AreDamages file s first i count list) where
+module _ (file : List ℕ) (s : ScanValue) (span : CodedSpan) (first i count : ℕ) (list : List Damage) (damaged : DamagedInterval) (d : Damage) (space : count < length list)
+    (is : IsDamageOf (interval_of s i) span damaged) (segment : IsSegmentOf file s i span) (reports : IsDamageEntry damaged d) (a : AreDamages file s first i count list) where
   at : d.interval ≡ i
-  at = tells.interval ∙ is.number
+  at = reports.interval ∙ is.number
 
   here : damage_at (set list count d) count ≡ d
-  here = get_or-set_same list count d no_damage room
+  here = get_or-set_same list count d no_damage space
 
   other : (k : ℕ) → k < count → damage_at (set list count d) k ≡ damage_at list k
   other k lt = get_or-set_other list count k d no_damage (λ e. omega (arith, lt, e))
@@ -58,13 +58,13 @@ module _ (file : List ℕ) (s : ScanValue) (span : CodedSpan) (first i count : �
     each = λ k lt. elim (cases_lt k count) [
       | inl before ↦ (
           let e = a.each k before in
-          subst (IsListedAt file s first (i + 1)) (sym (other k before)) (record { interval = e.interval; span = e.span; tells = e.tells; is = e.is; segment = e.segment; from = e.from; before = omega (arith, e.before) }))
+          subst (IsListedAt file s first (i + 1)) (sym (other k before)) (record { interval = e.interval; span = e.span; reports = e.reports; is = e.is; segment = e.segment; from = e.from; before = omega (arith, e.before) }))
       | inr last ↦ (
           let e : k ≡ count = omega (arith, last, lt) in
           subst (λ (n : ℕ). IsListedAt file s first (i + 1) (damage_at (set list count d) n)) (sym e) (subst (IsListedAt file s first (i + 1)) (sym here) (record {
             interval = damaged;
             span = span;
-            tells = tells;
+            reports = reports;
             is = subst (λ (n : ℕ). IsDamageOf (interval_of s n) span damaged) (sym at) is;
             segment = subst (λ (n : ℕ). IsSegmentOf file s n span) (sym at) segment;
             from = omega (arith, at, a.start);

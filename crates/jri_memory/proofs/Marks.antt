@@ -11,15 +11,15 @@ use Rattle.jr_picture.specs.declared.mark.Mark.TheVariants.{Blank, Sound, Damage
 use Rattle.jr_picture.specs.Headline.{mark_in, is_sound, is_damaged}
 use Rattle.jr_rows.specs.MarkBytes.{mark_byte}
 use Rattle.jr_rows.specs.declared.marked.Marked.{Marked}
-use Rattle.jri_memory.specs.Checks.{IsMarkOf, ArePut}
+use Rattle.jri_memory.specs.Checks.{IsMarkOf, AreStored}
 
-pub put_none : (s : ScanValue) (m : Marked) (bytes : List ℕ) → m.sound ≡ 0 → m.damaged ≡ 0 → ArePut s 0 m bytes []
-put_none s m bytes a b = record {
+pub store_none : (s : ScanValue) (m : Marked) (bytes : List ℕ) → m.sound ≡ 0 → m.damaged ≡ 0 → AreStored s 0 m bytes []
+store_none s m bytes a b = record {
   are = record { long = refl; each = λ i lt. absurd (omega (arith, lt)) };
   sound = a;
   damaged = b;
   all = omega (arith, a, b);
-  put = λ some i lt. absurd (omega (arith, lt));
+  store = λ some i lt. absurd (omega (arith, lt));
 }
 
 -- a predicate that holds for each of n marks, and for one more after them, holds for each of these
@@ -40,11 +40,11 @@ damaged_counted : (b : Bool) → count_by is_damaged (cond b Sound Damaged ∷ [
 damaged_counted true = refl
 damaged_counted false = refl
 
-pub put_more : (s : ScanValue) (n : ℕ) (before after : Marked) (old new : List ℕ) (ms : List Mark) (b : Bool) → ArePut s n before old ms → IsMarkOf (interval_of s n) (cond b Sound Damaged)
+pub store_more : (s : ScanValue) (n : ℕ) (before after : Marked) (old new : List ℕ) (ms : List Mark) (b : Bool) → AreStored s n before old ms → IsMarkOf (interval_of s n) (cond b Sound Damaged)
     → after.sound ≡ before.sound + cond {A = ℕ} b 1 0 → after.damaged ≡ before.damaged + cond {A = ℕ} b 0 1 → after.sound + after.damaged ≡ n + 1
     → length new ≡ length old → (0 < length old → slice_index new n ≡ mark_byte (cond b Sound Damaged)) → ((i : ℕ) → i < n → slice_index new i ≡ slice_index old i)
-    → ArePut s (n + 1) after new (ms ++ cond b Sound Damaged ∷ [])
-put_more s n before after old new ms b p is sound damaged all long put kept =
+    → AreStored s (n + 1) after new (ms ++ cond b Sound Damaged ∷ [])
+store_more s n before after old new ms b p is sound damaged all long store kept =
     let m : Mark = cond b Sound Damaged in
     record {
       are = record {
@@ -54,6 +54,6 @@ put_more s n before after old new ms b p is sound damaged all long put kept =
       sound = omega (arith, sound, p.sound, sound_counted b, sum_by-append (λ (k : Mark). cond (is_sound k) 1 0) ms (m ∷ []));
       damaged = omega (arith, damaged, p.damaged, damaged_counted b, sum_by-append (λ (k : Mark). cond (is_damaged k) 1 0) ms (m ∷ []));
       all = all;
-      put = λ some. let there : 0 < length old = omega (arith, some, long) in
-          each_more n ms m (λ i k. slice_index new i ≡ mark_byte k) p.are.long (λ i lt. kept i lt ∙ p.put there i lt) (put there);
+      store = λ some. let there : 0 < length old = omega (arith, some, long) in
+          each_more n ms m (λ i k. slice_index new i ≡ mark_byte k) p.are.long (λ i lt. kept i lt ∙ p.store there i lt) (store there);
     }

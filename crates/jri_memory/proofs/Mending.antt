@@ -44,12 +44,12 @@ module _ (sizes bytes : List ℕ) (copies : List CopyValue) (k at : ℕ) (lt : k
 -- a list whose first entries are choices has one more
 pub entry_more : (chosen : List Choice) (old : List ChoiceEntry) (k : ℕ) (d : Choice) → k < length chosen → k < length old
     → set (map choice_entry (take k chosen) ++ drop k old) k (choice_entry (get_or chosen k d)) ≡ map choice_entry (take (k + 1) chosen) ++ drop (k + 1) old
-entry_more chosen old k d there room =
+entry_more chosen old k d there space =
     let first = map choice_entry (take k chosen) in
     let long : length first ≡ k = length-map (take k chosen) choice_entry ∙ length-take-le k chosen (omega (arith, there)) in
     let rest = drop (k + 1) old in
     let e = choice_entry (get_or chosen k d) in
-    let split : drop k old ≡ get_or old k e ∷ rest = drop_more old k e room in
-    let put : set (first ++ (get_or old k e ∷ rest)) k e ≡ first ++ (e ∷ rest) = subst (λ n. set (first ++ (get_or old k e ∷ rest)) n e ≡ first ++ (e ∷ rest)) long (set-append_seam first (get_or old k e) rest e) in
+    let split : drop k old ≡ get_or old k e ∷ rest = drop_more old k e space in
+    let store : set (first ++ (get_or old k e ∷ rest)) k e ≡ first ++ (e ∷ rest) = subst (λ n. set (first ++ (get_or old k e ∷ rest)) n e ≡ first ++ (e ∷ rest)) long (set-append_seam first (get_or old k e) rest e) in
     let more = map_more choice_entry chosen k d there in
-    ap (λ (l : List ChoiceEntry). set (first ++ l) k e) split ∙ put ∙ sym (ap (λ (l : List ChoiceEntry). l ++ rest) more ∙ append_assoc first (e ∷ []) rest)
+    ap (λ (l : List ChoiceEntry). set (first ++ l) k e) split ∙ store ∙ sym (ap (λ (l : List ChoiceEntry). l ++ rest) more ∙ append_assoc first (e ∷ []) rest)

@@ -24,7 +24,7 @@ in_step file s is due =
     record {
       read = becomes.0;
       is = record { head = s.head; breaks = []; ended = EndOfImage; is = is.head; becomes = becomes.1 };
-      here = record { head = becomes.1.head; lawful = is.lawful; cut = becomes.2 };
+      here = record { head = becomes.1.head; valid = is.valid; cut = becomes.2 };
     }
 
 -- the scan of a file that is read as it is, or whose restart markers are in step

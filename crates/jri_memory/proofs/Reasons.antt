@@ -7,13 +7,13 @@ use Rattle.jr_head.specs.HeadValue.{HeadValue}
 use Rattle.jr_head.specs.Heads.{HeadOf, RefusalOf}
 use Rattle.jr_head.proofs.OneHeadLaws.{one_head_or_one_fault}
 use Rattle.jr_arrival.specs.Parts.{FilePart}
-use Rattle.jr_arrival.specs.Places.{rows_with_room}
+use Rattle.jr_arrival.specs.Places.{rows_with_space}
 use Rattle.jr_arrival.specs.Settled.{WantsMore}
 use Rattle.jr_arrival.specs.declared.place.RowPlace.{RowPlace}
 use Rattle.jri_memory.specs.declared.places.PlaceError.{PlaceError}
-use Rattle.jri_memory.specs.declared.places.PlaceError.TheVariants.{Refused, NoRows, NoRoom, NotInWindow}
+use Rattle.jri_memory.specs.declared.places.PlaceError.TheVariants.{Refused, NoRows, BufferTooSmall, NotInWindow}
 use Rattle.jri_memory.specs.declared.rows_report.RowsReport.{RowsReport}
-use Rattle.jri_memory.specs.Rows.{GivesRows, SkipsRows, HasRowAt, IsInPart, IsWhy, LacksRoomForRow, LacksRows, LiesInside, LiesOutside}
+use Rattle.jri_memory.specs.Rows.{ReturnsRows, SkipsRows, HasRowAt, IsInPart, IsWhy, LacksSpaceForRow, LacksRows, LiesInside, LiesOutside}
 
 one_head : (bytes : List ℕ) (g h : HeadValue) → All (λ b. b < 256) bytes → HeadOf bytes g → HeadOf bytes h → g ≡ h
 one_head bytes g h fits a b = elim (one_head_or_one_fault bytes fits) [ inl one ↦ one.only g a ∙ sym (one.only h b) | inr fault ↦ absurd (fault.no_head g a) ]
@@ -32,9 +32,9 @@ module _ (header : List ℕ) (fits : All (λ b. b < 256) header) (p : RowPlace) 
   pub has_rows : (h : HeadValue) → HeadOf header h → HasRowAt h p rows → LacksRows header p rows → ⊥
   has_rows h a there lacks = lacks.none (subst (λ (g : HeadValue). HasRowAt g p rows) (one_head header h lacks.h fits a lacks.is) there)
 
-  pub has_room : (h : HeadValue) (room : ℕ) → HeadOf header h → 0 < rows_with_room h p.row room → LacksRoomForRow header p rows room → ⊥
-  has_room h room a some lacks =
-      let none : rows_with_room h p.row room ≡ 0 = subst (λ (g : HeadValue). rows_with_room g p.row room ≡ 0) (one_head header lacks.h h fits lacks.is a) lacks.less in
+  pub has_space : (h : HeadValue) (space : ℕ) → HeadOf header h → 0 < rows_with_space h p.row space → LacksSpaceForRow header p rows space → ⊥
+  has_space h space a some lacks =
+      let none : rows_with_space h p.row space ≡ 0 = subst (λ (g : HeadValue). rows_with_space g p.row space ≡ 0) (one_head header lacks.h h fits lacks.is a) lacks.less in
       omega (arith, some, none)
 
   pub is_inside : (x : FilePart) → LiesInside header x p rows → LiesOutside header x p rows → ⊥
@@ -46,34 +46,34 @@ module _ (header : List ℕ) (fits : All (λ b. b < 256) header) (p : RowPlace) 
 
   -- a call that returns or skips rows has some at the position, and space for the next
   module _ (x : FilePart) (new : RowPlace) (r : RowsReport) where
-    pub gives_rows : (old pixels : List ℕ) → GivesRows header x rows p new old pixels r → LacksRows header p rows → ⊥
-    gives_rows old pixels (inl awaits) lacks = wants_none header lacks.h fits lacks.is awaits.0.wanted
-    gives_rows old pixels (inr given) lacks = has_rows given.h given.moves.head given.there lacks
+    pub returns_rows : (old pixels : List ℕ) → ReturnsRows header x rows p new old pixels r → LacksRows header p rows → ⊥
+    returns_rows old pixels (inl awaits) lacks = wants_none header lacks.h fits lacks.is awaits.0.wanted
+    returns_rows old pixels (inr given) lacks = has_rows given.h given.moves.head given.there lacks
 
-    pub gives_room : (old pixels : List ℕ) → GivesRows header x rows p new old pixels r → LacksRoomForRow header p rows (length old) → ⊥
-    gives_room old pixels (inl awaits) lacks = wants_none header lacks.h fits lacks.is awaits.0.wanted
-    gives_room old pixels (inr given) lacks = has_room given.h (length old) given.moves.head given.room lacks
+    pub returns_space : (old pixels : List ℕ) → ReturnsRows header x rows p new old pixels r → LacksSpaceForRow header p rows (length old) → ⊥
+    returns_space old pixels (inl awaits) lacks = wants_none header lacks.h fits lacks.is awaits.0.wanted
+    returns_space old pixels (inr given) lacks = has_space given.h (length old) given.moves.head given.space lacks
 
     pub skips_rows : SkipsRows header x rows p new r → LacksRows header p rows → ⊥
     skips_rows (inl awaits) lacks = wants_none header lacks.h fits lacks.is awaits.wanted
     skips_rows (inr skipped) lacks = has_rows skipped.h skipped.moves.head skipped.there lacks
 
   -- what is true of the position is why it is not moved, unless memory ran out
-  module _ (x : FilePart) (room : ℕ) where
-    pub only_rows : (e : PlaceError) → e ≢ Refused Memory → IsWhy header x p rows room e → LacksRows header p rows → e ≡ NoRows
+  module _ (x : FilePart) (space : ℕ) where
+    pub only_rows : (e : PlaceError) → e ≢ Refused Memory → IsWhy header x p rows space e → LacksRows header p rows → e ≡ NoRows
     only_rows (Refused f) other why lacks = absurd (no_fault header lacks.h f fits lacks.is (why (λ m. other (subst (λ (g : Refusal). Refused f ≡ Refused g) m refl))).is)
     only_rows NoRows other why lacks = refl
-    only_rows NoRoom other why lacks = absurd (has_rows why.h why.is why.there lacks)
+    only_rows BufferTooSmall other why lacks = absurd (has_rows why.h why.is why.there lacks)
     only_rows NotInWindow other why lacks = absurd (has_rows why.h why.is why.there lacks)
 
-    pub only_outside : (e : PlaceError) → e ≢ Refused Memory → (e ≡ NoRoom → LiesInside header x p rows) → IsWhy header x p rows room e → LiesOutside header x p rows → e ≡ NotInWindow
+    pub only_outside : (e : PlaceError) → e ≢ Refused Memory → (e ≡ BufferTooSmall → LiesInside header x p rows) → IsWhy header x p rows space e → LiesOutside header x p rows → e ≡ NotInWindow
     only_outside (Refused f) other within why lies = absurd (no_fault header lies.h f fits lies.is (why (λ m. other (subst (λ (g : Refusal). Refused f ≡ Refused g) m refl))).is)
     only_outside NoRows other within why lies = absurd (has_rows lies.h lies.is lies.there why)
-    only_outside NoRoom other within why lies = absurd (is_inside x (within refl) lies)
+    only_outside BufferTooSmall other within why lies = absurd (is_inside x (within refl) lies)
     only_outside NotInWindow other within why lies = refl
 
-    pub only_room : (e : PlaceError) → e ≢ Refused Memory → e ≢ NotInWindow → IsWhy header x p rows room e → LacksRoomForRow header p rows room → e ≡ NoRoom
-    only_room (Refused f) other inside why lacks = absurd (no_fault header lacks.h f fits lacks.is (why (λ m. other (subst (λ (g : Refusal). Refused f ≡ Refused g) m refl))).is)
-    only_room NoRows other inside why lacks = absurd (has_rows lacks.h lacks.is lacks.there why)
-    only_room NoRoom other inside why lacks = refl
-    only_room NotInWindow other inside why lacks = absurd (inside refl)
+    pub only_space : (e : PlaceError) → e ≢ Refused Memory → e ≢ NotInWindow → IsWhy header x p rows space e → LacksSpaceForRow header p rows space → e ≡ BufferTooSmall
+    only_space (Refused f) other inside why lacks = absurd (no_fault header lacks.h f fits lacks.is (why (λ m. other (subst (λ (g : Refusal). Refused f ≡ Refused g) m refl))).is)
+    only_space NoRows other inside why lacks = absurd (has_rows lacks.h lacks.is lacks.there why)
+    only_space BufferTooSmall other inside why lacks = refl
+    only_space NotInWindow other inside why lacks = absurd (inside refl)

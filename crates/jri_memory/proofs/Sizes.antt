@@ -7,28 +7,28 @@ use Rattle.jr_segments.specs.Bytes.{byte}
 use Rattle.jr_segments.specs.Frames.{frame_component_count, height, width}
 use Rattle.jr_segments.specs.Segments.{is_known, segment_at}
 use Rattle.jri_memory.specs.declared.frame_size.FrameSize.{FrameSize}
-use Rattle.jri_memory.specs.Frames.{HasFrame, HasOneSize, HasOther, HasSegment, HasSize, LacksSize, behind_segments, is_any_frame}
+use Rattle.jri_memory.specs.Frames.{HasFrame, HasOneSize, HasOther, HasSegment, HasSize, LacksSize, after_segments, is_any_frame}
 
 -- the bytes are those after some segments of the file that may precede its frame header
 pub record HasRead (file rest : List ℕ) : Type 0 where
   pub prefix : byte 0 file ≡ PREFIX
   pub start : byte 1 file ≡ SOI
   pub before : ℕ
-  pub is : rest ≡ behind_segments before (drop 2 file)
-  pub others : (k : ℕ) → k < before → HasOther (behind_segments k (drop 2 file))
+  pub is : rest ≡ after_segments before (drop 2 file)
+  pub others : (k : ℕ) → k < before → HasOther (after_segments k (drop 2 file))
 
 pub read_none : (file rest : List ℕ) → byte 0 file ≡ PREFIX → byte 1 file ≡ SOI → rest ≡ drop 2 file → HasRead file rest
 read_none file rest prefix start is = record { prefix = prefix; start = start; before = 0; is = is; others = λ k lt. absurd (omega (arith, lt)) }
 
-pub read_more : (file rest after : List ℕ) → HasRead file rest → HasOther rest → after ≡ behind_segments 1 rest → HasRead file after
+pub read_more : (file rest after : List ℕ) → HasRead file rest → HasOther rest → after ≡ after_segments 1 rest → HasRead file after
 read_more file rest after r other is = record {
   prefix = r.prefix;
   start = r.start;
   before = suc r.before;
-  is = is ∙ ap (behind_segments 1) r.is;
+  is = is ∙ ap (after_segments 1) r.is;
   others = λ k lt. elim (cases_lt k r.before) [
     | inl less ↦ r.others k less
-    | inr last ↦ (let e : r.before ≡ k = omega (arith, lt, last) in subst (λ (n : ℕ). HasOther (behind_segments n (drop 2 file))) e (subst HasOther r.is other))
+    | inr last ↦ (let e : r.before ≡ k = omega (arith, lt, last) in subst (λ (n : ℕ). HasOther (after_segments n (drop 2 file))) e (subst HasOther r.is other))
   ];
 }
 
@@ -56,7 +56,7 @@ only_size file w h c u v d r s = elim (cases_lt s.before r.before) [
     | inl more ↦ absurd (apart _ w h c r.frame (s.others r.before more))
     | inr last ↦ (
         let e : s.before ≡ r.before = omega (arith, le, last) in
-        let frame : HasFrame (behind_segments r.before (drop 2 file)) u v d = subst (λ (n : ℕ). HasFrame (behind_segments n (drop 2 file)) u v d) e s.frame in
+        let frame : HasFrame (after_segments r.before (drop 2 file)) u v d = subst (λ (n : ℕ). HasFrame (after_segments n (drop 2 file)) u v d) e s.frame in
         (frame.width ∙ sym r.frame.width, frame.height ∙ sym r.frame.height, frame.components ∙ sym r.frame.components))
   ]
 ]
@@ -83,7 +83,7 @@ no_size file rest r no_other no_frame w h c s = elim (cases_lt s.before r.before
   | inl less ↦ apart _ w h c s.frame (r.others s.before less)
   | inr le ↦ elim (cases_lt r.before s.before) [
     | inl more ↦ no_other (subst HasOther (sym r.is) (s.others r.before more))
-    | inr last ↦ (let e : s.before ≡ r.before = omega (arith, le, last) in no_frame w h c (subst (λ (t : List ℕ). HasFrame t w h c) (sym r.is) (subst (λ (n : ℕ). HasFrame (behind_segments n (drop 2 file)) w h c) e s.frame)))
+    | inr last ↦ (let e : s.before ≡ r.before = omega (arith, le, last) in no_frame w h c (subst (λ (t : List ℕ). HasFrame t w h c) (sym r.is) (subst (λ (n : ℕ). HasFrame (after_segments n (drop 2 file)) w h c) e s.frame)))
   ]
 ]
 

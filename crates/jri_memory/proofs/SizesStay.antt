@@ -5,9 +5,9 @@ use Rattle.jr_base.specs.Fill.{fill_count}
 use Rattle.jr_base.specs.declared.marker.TheConstants.{SOI}
 use Rattle.jr_segments.specs.Bytes.{byte, word}
 use Rattle.jr_segments.specs.Frames.{frame_component_count, height, width}
-use Rattle.jr_segments.specs.Segments.{Segment, at_code, behind_segment, is_known, segment_at}
+use Rattle.jr_segments.specs.Segments.{Segment, at_code, after_segment, is_known, segment_at}
 use Rattle.jr_arrival.proofs.TestsStay.{has_code}
-use Rattle.jri_memory.specs.Frames.{HasFrame, HasOneSize, HasOther, HasSegment, HasSize, behind_segments, is_any_frame}
+use Rattle.jri_memory.specs.Frames.{HasFrame, HasOneSize, HasOther, HasSegment, HasSize, after_segments, is_any_frame}
 use Rattle.jri_memory.proofs.Sizes.{only_size}
 
 abbrev segment_by : ℕ → List ℕ → Segment
@@ -32,7 +32,7 @@ segment_more fill (c ∷ a ∷ b ∷ r) more l all =
 record Stays (bytes more : List ℕ) : Type 0 where
   pub there : HasSegment (bytes ++ more)
   pub same : segment_at (bytes ++ more) ≡ segment_at bytes
-  pub after : behind_segment (bytes ++ more) ≡ behind_segment bytes ++ more
+  pub after : after_segment (bytes ++ more) ≡ after_segment bytes ++ more
 
 stays : (bytes more : List ℕ) → HasSegment bytes → Stays bytes more
 stays bytes more h =
@@ -49,11 +49,11 @@ stays bytes more h =
       after = ap (λ n. drop (1 + n) (at_code (bytes ++ more))) w ∙ ap (drop (1 + word 1 (at_code bytes))) code.code ∙ drop-append-le (1 + word 1 (at_code bytes)) (at_code bytes) more h.whole;
     }
 
-behind_more : (n : ℕ) (bytes more : List ℕ) → ((k : ℕ) → k < n → HasOther (behind_segments k bytes)) → behind_segments n (bytes ++ more) ≡ behind_segments n bytes ++ more
-behind_more zero bytes more others = refl
-behind_more (suc n) bytes more others =
-    let s = stays (behind_segments n bytes) more (others n (omega arith)).there in
-    ap behind_segment (behind_more n bytes more (λ k lt. others k (omega (arith, lt)))) ∙ s.after
+after_more : (n : ℕ) (bytes more : List ℕ) → ((k : ℕ) → k < n → HasOther (after_segments k bytes)) → after_segments n (bytes ++ more) ≡ after_segments n bytes ++ more
+after_more zero bytes more others = refl
+after_more (suc n) bytes more others =
+    let s = stays (after_segments n bytes) more (others n (omega arith)).there in
+    ap after_segment (after_more n bytes more (λ k lt. others k (omega (arith, lt)))) ∙ s.after
 
 other_more : (bytes more : List ℕ) → HasOther bytes → HasOther (bytes ++ more)
 other_more bytes more h =
@@ -82,14 +82,14 @@ two_bytes (a ∷ b ∷ r) e = omega arith
 size_more : (file more : List ℕ) (w h c : ℕ) → HasSize file w h c → HasSize (file ++ more) w h c
 size_more file more w h c s =
     let two : 2 ≤ length file = two_bytes file s.start in
-    let behind : (n : ℕ) → n ≤ s.before → behind_segments n (drop 2 file) ++ more ≡ behind_segments n (drop 2 (file ++ more)) =
-    λ n le. sym (ap (behind_segments n) (drop-append-le 2 file more two) ∙ behind_more n (drop 2 file) more (λ k lt. s.others k (omega (arith, lt, le)))) in
+    let after : (n : ℕ) → n ≤ s.before → after_segments n (drop 2 file) ++ more ≡ after_segments n (drop 2 (file ++ more)) =
+    λ n le. sym (ap (after_segments n) (drop-append-le 2 file more two) ∙ after_more n (drop 2 file) more (λ k lt. s.others k (omega (arith, lt, le)))) in
     record {
       prefix = get_or_append_left file more 0 0 (omega (arith, two)) ∙ s.prefix;
       start = get_or_append_left file more 0 1 (omega (arith, two)) ∙ s.start;
       before = s.before;
-      others = λ k lt. subst HasOther (behind k (omega (arith, lt))) (other_more _ more (s.others k lt));
-      frame = subst (λ (t : List ℕ). HasFrame t w h c) (behind s.before (omega arith)) (frame_more _ more w h c s.frame);
+      others = λ k lt. subst HasOther (after k (omega (arith, lt))) (other_more _ more (s.others k lt));
+      frame = subst (λ (t : List ℕ). HasFrame t w h c) (after s.before (omega arith)) (frame_more _ more w h c s.frame);
     }
 
 pub one_size_more : (file more : List ℕ) (w h c : ℕ) → HasOneSize file w h c → HasOneSize (file ++ more) w h c

@@ -49,7 +49,7 @@ abbrev pub IsNumberOfSome : ℕ → Type 0
 IsNumberOfSome number = (0 < number) × (number < 20)
 
 -- the file's first fault has this number and this detail
-pub record TellsFault (file : List ℕ) (number detail : ℕ) : Type 0 where
+pub record ReportsFault (file : List ℕ) (number detail : ℕ) : Type 0 where
   pub fault : Refusal
   pub is : RefusalOf file fault
   pub number_is : number ≡ number_of fault
@@ -86,7 +86,7 @@ pub record IsHeaderOf (file : List ℕ) (m : Header) : Type 0 where
   pub no_detail : m.detail ≡ 0
 
 -- of no header: 0 for all but the size and the refusal's two numbers
-pub record TellsNoHeader (m : Header) : Type 0 where
+pub record ReportsNoHeader (m : Header) : Type 0 where
   pub kind : m.kind ≡ 0
   pub intervals : m.intervals ≡ 0
   pub pixels : m.pixels ≡ 0
@@ -101,14 +101,14 @@ pub record TellsNoHeader (m : Header) : Type 0 where
   pub vertical : m.vertical ≡ of_three (λ _. 0)
 
 -- of no frame header: no size
-pub record TellsNoSize (m : Header) : Type 0 where
+pub record ReportsNoSize (m : Header) : Type 0 where
   pub width : m.width ≡ 0
   pub height : m.height ≡ 0
   pub components : m.components ≡ 0
 
 -- the size in the file's first frame header, or none if it has none
-abbrev pub TellsSize : List ℕ → Header → Type 0
-TellsSize file m = HasOneSize file m.width m.height m.components ⊎ (TellsNoSize m × LacksSize file)
+abbrev pub ReportsSize : List ℕ → Header → Type 0
+ReportsSize file m = HasOneSize file m.width m.height m.components ⊎ (ReportsNoSize m × LacksSize file)
 
 -- what ended the scan, as numbers: 0 for what that end has not
 abbrev pub IsScanEnd : ScanEnd → (ended found due at : ℕ) → Type 0
@@ -118,16 +118,16 @@ IsScanEnd (OutOfStep number expected offset) ended found due at = (ended ≡ 3) 
 IsScanEnd (ExtraRestart offset) ended found due at = (ended ≡ 4) × (found ≡ 0) × (due ≡ 0) × (at ≡ offset)
 IsScanEnd EndOfFile ended found due at = (ended ≡ 5) × (found ≡ 0) × (due ≡ 0) × (at ≡ 0)
 
-abbrev pub TellsScanEnd : ScanEnd → DecodeReport → Type 0
-TellsScanEnd end r = IsScanEnd end r.ended r.found r.due r.at
+abbrev pub ReportsScanEnd : ScanEnd → DecodeReport → Type 0
+ReportsScanEnd end r = IsScanEnd end r.ended r.found r.due r.at
 
 -- a report of no refusal
-pub record TellsNoRefusal (r : DecodeReport) : Type 0 where
+pub record ReportsNoRefusal (r : DecodeReport) : Type 0 where
   pub number : r.refusal ≡ 0
   pub detail : r.detail ≡ 0
 
 -- a report of no image: 0 for all but the refusal's two numbers
-pub record TellsNoPicture (r : DecodeReport) : Type 0 where
+pub record ReportsNoPicture (r : DecodeReport) : Type 0 where
   pub intervals : r.intervals ≡ 0
   pub sound : r.sound ≡ 0
   pub damaged : r.damaged ≡ 0
@@ -138,11 +138,11 @@ pub record TellsNoPicture (r : DecodeReport) : Type 0 where
   pub at : r.at ≡ 0
 
 -- the report's numbers are those of the marks and of the scan
-pub record TellsReport (scan : ScanValue) (marks : List Mark) (r : DecodeReport) : Type 0 where
+pub record ReportsReport (scan : ScanValue) (marks : List Mark) (r : DecodeReport) : Type 0 where
   pub intervals : r.intervals ≡ length scan.intervals
   pub counts : AreCounts marks r.sound r.damaged r.blank
-  pub ended : TellsScanEnd scan.ended r
-  pub no_fault : TellsNoRefusal r
+  pub ended : ReportsScanEnd scan.ended r
+  pub no_fault : ReportsNoRefusal r
 
 -- these bytes are the first ones of a buffer, and the bytes after them are unchanged
 abbrev pub over : List ℕ → List ℕ → List ℕ
@@ -156,10 +156,10 @@ pub record DecodesFile (file old_pixels pixels old_marks marks : List ℕ) (r : 
   pub is : IsPictureOf file None scan each f
   pub painted : pixels ≡ over (lines_of scan.head f scan.head.height) old_pixels
   pub marked : 0 < length old_marks → marks ≡ over (map mark_byte each) old_marks
-  pub reported : TellsReport scan each r
+  pub reported : ReportsReport scan each r
 
 -- the pixels of the file's image do not fit, or its marks, which were asked for, do not
-pub record LacksRoom (file : List ℕ) (pixels marks : ℕ) : Type 0 where
+pub record LacksSpace (file : List ℕ) (pixels marks : ℕ) : Type 0 where
   pub head : HeadValue
   pub is : HeadOf file head
   pub less : (pixels < picture_size head) ⊎ ((0 < marks) × (marks < intervals_of head))
@@ -176,7 +176,7 @@ pub record LacksLines (file : List ℕ) (first count : ℕ) : Type 0 where
   pub less : HasTheseLines head first count → ⊥
 
 -- that number of lines of the file's image does not fit
-pub record LacksRoomForLines (file : List ℕ) (count pixels : ℕ) : Type 0 where
+pub record LacksSpaceForLines (file : List ℕ) (count pixels : ℕ) : Type 0 where
   pub head : HeadValue
   pub is : HeadOf file head
   pub less : pixels < count * line_size head
@@ -193,8 +193,8 @@ pub record DecodesLines (file : List ℕ) (first count : ℕ) (old_pixels pixels
   pub counted : EndInLines scan first count each r.sound r.damaged
   pub blank : r.blank ≡ 0
   pub intervals : r.intervals ≡ length scan.intervals
-  pub ended : TellsScanEnd scan.ended r
-  pub no_fault : TellsNoRefusal r
+  pub ended : ReportsScanEnd scan.ended r
+  pub no_fault : ReportsNoRefusal r
 
 -- nothing was decoded since the file is refused, and the report says so
 pub record IsRefusal (undecoded : DecodeError) (r : DecodeReport) : Type 0 where

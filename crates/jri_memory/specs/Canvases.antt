@@ -10,9 +10,9 @@ use Rattle.jr_picture.specs.Headline.{AreCounts, ShowsFirst}
 use Rattle.jr_rows.specs.MarkBytes.{mark_byte}
 use Rattle.jr_scan.specs.ScanValue.{ScanValue, intervals_of}
 use Rattle.jri_file.specs.Files.{IsPictureOf}
-use Rattle.jri_canvas.specs.Layouts.{HavePlaces, StandOn, laid_line, laid_line_size, layout_number, line_in, plain_line_size, sample_count}
+use Rattle.jri_canvas.specs.Layouts.{HavePlaces, LieOn, laid_line, laid_line_size, layout_number, line_in, plain_line_size, sample_count}
 use Rattle.jri_canvas.specs.declared.lines.CanvasLines.{CanvasLines}
-use Rattle.jri_memory.specs.Calls.{TellsReport, over}
+use Rattle.jri_memory.specs.Calls.{ReportsReport, over}
 use Rattle.jri_memory.specs.declared.report.DecodeReport.{DecodeReport}
 
 -- a canvas has lines of this form, by the numbers of a call
@@ -43,19 +43,19 @@ pub record LaysOut (lines : List ℕ) (width components stride layout : ℕ) (ol
   pub is : HasForm width components stride layout form
   pub count : ℕ
   pub all : length lines ≡ count * plain_line_size form
-  pub stand : StandOn form 0 count (λ k. laid_line form (line_in (plain_line_size form) lines k)) old new
+  pub lie : LieOn form 0 count (λ k. laid_line form (line_in (plain_line_size form) lines k)) old new
 
 -- that number of lines does not fit
-pub record LacksPlaces (width components stride layout count room : ℕ) : Type 0 where
+pub record LacksPlaces (width components stride layout count space : ℕ) : Type 0 where
   pub form : CanvasLines
   pub is : HasForm width components stride layout form
-  pub less : HavePlaces form 0 count room → ⊥
+  pub less : HavePlaces form 0 count space → ⊥
 
 -- these lines do not fit
-pub record LacksRoomToLay (lines : List ℕ) (width components stride layout room : ℕ) : Type 0 where
+pub record LacksSpaceToLay (lines : List ℕ) (width components stride layout space : ℕ) : Type 0 where
   pub count : ℕ
   pub all : length lines ≡ count * (components * width)
-  pub less : LacksPlaces width components stride layout count room
+  pub less : LacksPlaces width components stride layout count space
 
 -- there are no pixels of that number of components, these bytes are not whole lines, or they have no layout
 abbrev pub LacksLinesToLay : (lines : List ℕ) (width components stride layout : ℕ) → Type 0
@@ -68,8 +68,8 @@ pub record LaysScan (scan : ScanValue) (form : CanvasLines) (old new old_bytes b
   pub marks : List Mark
   pub f : ℕ → ℕ → ℕ → ℕ
   pub shows : ShowsFirst scan (length scan.intervals) marks f
-  pub stand : StandOn form 0 scan.head.height (λ y. laid_line form (line_of scan.head f y)) old new
-  pub put : 0 < length old_bytes → bytes ≡ map mark_byte marks
+  pub lie : LieOn form 0 scan.head.height (λ y. laid_line form (line_of scan.head f y)) old new
+  pub store : 0 < length old_bytes → bytes ≡ map mark_byte marks
   pub counted : AreCounts marks c.sound c.damaged c.blank
 
 -- the lines of the file's image are laid out, from the top of the canvas; marks that were asked for are its own; and so is
@@ -81,15 +81,15 @@ pub record DecodesCanvas (file : List ℕ) (stride layout : ℕ) (old new old_ma
   pub is : IsPictureOf file None scan each f
   pub form : CanvasLines
   pub form_is : HasForm scan.head.width (components_of scan.head) stride layout form
-  pub stand : StandOn form 0 scan.head.height (λ y. laid_line form (line_of scan.head f y)) old new
+  pub lie : LieOn form 0 scan.head.height (λ y. laid_line form (line_of scan.head f y)) old new
   pub marked : 0 < length old_marks → marks ≡ over (map mark_byte each) old_marks
-  pub reported : TellsReport scan each r
+  pub reported : ReportsReport scan each r
 
 -- the lines of the file's image do not fit on the canvas, or its marks, which were asked for, do not
-pub record LacksCanvas (file : List ℕ) (stride layout room marks : ℕ) : Type 0 where
+pub record LacksCanvas (file : List ℕ) (stride layout space marks : ℕ) : Type 0 where
   pub head : HeadValue
   pub is : HeadOf file head
-  pub less : LacksPlaces head.width (components_of head) stride layout head.height room ⊎ ((0 < marks) × (marks < intervals_of head))
+  pub less : LacksPlaces head.width (components_of head) stride layout head.height space ⊎ ((0 < marks) × (marks < intervals_of head))
 
 -- the lines of the file's image have no such layout at that stride
 pub record LacksLayoutOf (file : List ℕ) (stride layout : ℕ) : Type 0 where

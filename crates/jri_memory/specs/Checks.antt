@@ -11,7 +11,7 @@ use Rattle.jr_picture.specs.Headline.{mark_in, is_sound, is_damaged}
 use Rattle.jr_rows.specs.MarkBytes.{mark_byte}
 use Rattle.jr_rows.specs.declared.marked.Marked.{Marked}
 use Rattle.jri_file.specs.Files.{IsScanOfFile}
-use Rattle.jri_memory.specs.Calls.{TellsReport, over}
+use Rattle.jri_memory.specs.Calls.{ReportsReport, over}
 use Rattle.jri_memory.specs.declared.report.DecodeReport.{DecodeReport}
 
 -- the mark of an interval that is read to its end: it has a decoding, or it has none
@@ -26,12 +26,12 @@ pub record AreMarksOf (scan : ScanValue) (n : ℕ) (marks : List Mark) : Type 0 
   pub each : (i : ℕ) → i < n → IsMarkOf (interval_of scan i) (mark_in marks i)
 
 -- they are counted, and written if there is space for marks
-pub record ArePut (scan : ScanValue) (n : ℕ) (counted : Marked) (bytes : List ℕ) (marks : List Mark) : Type 0 where
+pub record AreStored (scan : ScanValue) (n : ℕ) (counted : Marked) (bytes : List ℕ) (marks : List Mark) : Type 0 where
   pub are : AreMarksOf scan n marks
   pub sound : counted.sound ≡ count_by is_sound marks
   pub damaged : counted.damaged ≡ count_by is_damaged marks
   pub all : counted.sound + counted.damaged ≡ n
-  pub put : 0 < length bytes → (i : ℕ) → i < n → slice_index bytes i ≡ mark_byte (mark_in marks i)
+  pub store : 0 < length bytes → (i : ℕ) → i < n → slice_index bytes i ≡ mark_byte (mark_in marks i)
 
 -- each interval of the file's scan has its mark; marks that were asked for are these, and so is the report
 pub record ChecksFile (file old_marks marks : List ℕ) (r : DecodeReport) : Type 0 where
@@ -40,10 +40,10 @@ pub record ChecksFile (file old_marks marks : List ℕ) (r : DecodeReport) : Typ
   pub is : IsScanOfFile file scan
   pub are : AreMarksOf scan (length scan.intervals) each
   pub marked : 0 < length old_marks → marks ≡ over (map mark_byte each) old_marks
-  pub reported : TellsReport scan each r
+  pub reported : ReportsReport scan each r
 
 -- the marks of the file's intervals were asked for and do not fit
-pub record LacksMarkRoom (file : List ℕ) (marks : ℕ) : Type 0 where
+pub record LacksMarkSpace (file : List ℕ) (marks : ℕ) : Type 0 where
   pub head : HeadValue
   pub is : HeadOf file head
   pub asked : 0 < marks

@@ -11,9 +11,9 @@ use Rattle.jri_memory.specs.declared.damages.Damage.{Damage}
 use Rattle.jri_memory.specs.declared.damages.DamageReport.{DamageReport}
 
 -- the bytes of an interval as numbers, 0 if it has none
-abbrev pub TellsBytes : Option CodedSpan → Damage → Type 0
-TellsBytes None d = (d.start ≡ 0) × (d.end ≡ 0)
-TellsBytes (Some span) d = (d.start ≡ span.start) × (d.end ≡ span.end)
+abbrev pub ReportsBytes : Option CodedSpan → Damage → Type 0
+ReportsBytes None d = (d.start ≡ 0) × (d.end ≡ 0)
+ReportsBytes (Some span) d = (d.start ≡ span.start) × (d.end ≡ span.end)
 
 -- a damaged interval as numbers
 pub record IsDamageEntry (i : DamagedInterval) (d : Damage) : Type 0 where
@@ -23,7 +23,7 @@ pub record IsDamageEntry (i : DamagedInterval) (d : Damage) : Type 0 where
   pub decodable : d.decodable ≡ i.decodable
   pub first_line : d.first_line ≡ i.lines.first
   pub last_line : d.last_line ≡ i.lines.last
-  pub bytes : TellsBytes i.bytes d
+  pub bytes : ReportsBytes i.bytes d
 
 -- the entry past the last one
 abbrev pub no_damage : Damage
@@ -36,7 +36,7 @@ damage_at damages k = slice_index_or damages k no_damage
 pub record IsListedAt (file : List ℕ) (s : ScanValue) (first next : ℕ) (d : Damage) : Type 0 where
   pub interval : DamagedInterval
   pub span : CodedSpan
-  pub tells : IsDamageEntry interval d
+  pub reports : IsDamageEntry interval d
   pub is : IsDamageOf (interval_of s d.interval) span interval
   pub segment : IsSegmentOf file s d.interval span
   pub from : first ≤ d.interval
@@ -69,13 +69,13 @@ pub record ListsDamages (file : List ℕ) (first first_at : ℕ) (old new : List
   pub top : IsPositionOf file scan 0 0
   pub lists : IsPositionOf file scan first first_at → ListsFrom file scan (min first (length scan.intervals)) r.next r.next_at r.count new
   pub within : r.next ≤ length scan.intervals
-  pub room : r.next < length scan.intervals → r.count ≡ length old
+  pub space : r.next < length scan.intervals → r.count ≡ length old
   pub long : length new ≡ length old
-  pub behind : drop r.count new ≡ drop r.count old
+  pub after : drop r.count new ≡ drop r.count old
   pub no_fault : (r.refusal ≡ 0) × (r.detail ≡ 0)
 
 -- a report of no list: 0 for all but the refusal's two numbers
-pub record TellsNoDamage (r : DamageReport) : Type 0 where
+pub record ReportsNoDamage (r : DamageReport) : Type 0 where
   pub count : r.count ≡ 0
   pub next : r.next ≡ 0
   pub next_at : r.next_at ≡ 0

@@ -4,7 +4,7 @@ use Rattle.jr_base.specs.declared.marker.TheConstants.{PREFIX, SOI, SOS}
 use Rattle.jr_base.specs.Fill.{fill_count}
 use Rattle.jr_segments.specs.Bytes.{byte, word}
 use Rattle.jr_segments.specs.Frames.{frame_component_count, height, width}
-use Rattle.jr_segments.specs.Segments.{at_code, behind_segment, is_frame, is_known, is_not_baseline, segment_at}
+use Rattle.jr_segments.specs.Segments.{at_code, after_segment, is_frame, is_known, is_not_baseline, segment_at}
 
 -- the bytes begin with a marker, of any code, and a whole segment
 pub record HasSegment (bytes : List ℕ) : Type 0 where
@@ -33,17 +33,17 @@ pub record HasFrame (bytes : List ℕ) (across down count : ℕ) : Type 0 where
   pub components : count ≡ frame_component_count (segment_at bytes).payload
 
 -- the bytes after the first n segments
-abbrev pub behind_segments : ℕ → List ℕ → List ℕ
-behind_segments zero bytes = bytes
-behind_segments (suc n) bytes = behind_segment (behind_segments n bytes)
+abbrev pub after_segments : ℕ → List ℕ → List ℕ
+after_segments zero bytes = bytes
+after_segments (suc n) bytes = after_segment (after_segments n bytes)
 
 -- the file begins with SOI, segments that may precede the frame header, and a frame header that has this size
 pub record HasSize (file : List ℕ) (across down count : ℕ) : Type 0 where
   pub prefix : byte 0 file ≡ PREFIX
   pub start : byte 1 file ≡ SOI
   pub before : ℕ
-  pub others : (k : ℕ) → k < before → HasOther (behind_segments k (drop 2 file))
-  pub frame : HasFrame (behind_segments before (drop 2 file)) across down count
+  pub others : (k : ℕ) → k < before → HasOther (after_segments k (drop 2 file))
+  pub frame : HasFrame (after_segments before (drop 2 file)) across down count
 
 -- the file has this size and no other one
 pub record HasOneSize (file : List ℕ) (across down count : ℕ) : Type 0 where

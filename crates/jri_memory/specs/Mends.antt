@@ -11,7 +11,7 @@ use Rattle.jr_mend.specs.declared.choice.Choice.{Choice}
 use Rattle.jr_mend.specs.declared.choice.TheConstants.{MAX_COPIES}
 use Rattle.jr_mend.specs.Copies.{CopyValue, HasOtherHead}
 use Rattle.jr_mend.specs.Mended.{HasChosen, IsMended}
-use Rattle.jri_memory.specs.Calls.{TellsFault, over}
+use Rattle.jri_memory.specs.Calls.{ReportsFault, over}
 use Rattle.jri_memory.specs.Filling.{listed_over}
 use Rattle.jri_memory.specs.declared.mend.MendFailure.{MendFailure}
 use Rattle.jri_memory.specs.declared.mend.MendFailure.TheVariants.{Memory, NoCopies, Refused, OtherHeader, TooLong}
@@ -89,7 +89,7 @@ abbrev pub is_damaged_choice : Choice → Bool
 is_damaged_choice c = is_some c.front
 
 -- the report's numbers are those of the mended file
-pub record TellsMend (choices : List Choice) (file : List ℕ) (t : MendReport) : Type 0 where
+pub record ReportsMend (choices : List Choice) (file : List ℕ) (t : MendReport) : Type 0 where
   pub intervals : t.intervals ≡ length choices
   pub damaged : t.damaged ≡ count_by is_damaged_choice choices
   pub size : t.size ≡ length file
@@ -104,22 +104,22 @@ pub record MendsFiles (files : List (List ℕ)) (old_out out : List ℕ) (old_ch
   pub is : IsMendOf files chosen file
   pub written : out ≡ over file old_out
   pub listed : choices ≡ listed_over (map choice_entry chosen) old_choices
-  pub reported : TellsMend chosen file t
+  pub reported : ReportsMend chosen file t
 
 -- the mended file does not fit, and the report says how long it is
-pub record LacksMendRoom (files : List (List ℕ)) (room : ℕ) (t : MendReport) : Type 0 where
+pub record LacksMendSpace (files : List (List ℕ)) (space : ℕ) (t : MendReport) : Type 0 where
   pub chosen : List Choice
   pub file : List ℕ
   pub is : IsMendOf files chosen file
-  pub reported : TellsMend chosen file t
-  pub less : room < t.size
+  pub reported : ReportsMend chosen file t
+  pub less : space < t.size
 
 -- the copy of the report is refused, and the report says why
-abbrev pub TellsCopyFault : List (List ℕ) → MendReport → Type 0
-TellsCopyFault files t = (t.copy < length files) × TellsFault (slice_index_or files t.copy []) t.refusal t.detail
+abbrev pub ReportsCopyFault : List (List ℕ) → MendReport → Type 0
+ReportsCopyFault files t = (t.copy < length files) × ReportsFault (slice_index_or files t.copy []) t.refusal t.detail
 
 -- a report of no mended file: 0 for all but the copy's number and the refusal's two numbers
-pub record TellsNoMend (t : MendReport) : Type 0 where
+pub record ReportsNoMend (t : MendReport) : Type 0 where
   pub intervals : t.intervals ≡ 0
   pub damaged : t.damaged ≡ 0
   pub size : t.size ≡ 0

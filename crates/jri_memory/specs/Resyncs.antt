@@ -56,7 +56,7 @@ IsResyncError file (Refused f) = f ≢ Memory → RefusalOf file f
 IsResyncError file TooLong = IsTooLongFile file
 
 -- the report's numbers are those of the resynchronised file
-pub record TellsResync (r : Resynced) (t : ResyncReport) : Type 0 where
+pub record ReportsResync (r : Resynced) (t : ResyncReport) : Type 0 where
   pub size : t.size ≡ length r.file.items
   pub breaks : t.breaks ≡ length r.breaks.items
   pub ended : IsScanEnd r.ended t.ended t.found t.due t.at
@@ -69,17 +69,17 @@ pub record ResyncsFile (file old_out out : List ℕ) (old_breaks breaks : List B
   pub is : IsResyncOfFile file resynced
   pub written : out ≡ over resynced.file.items old_out
   pub listed : breaks ≡ listed_over resynced.breaks.items old_breaks
-  pub reported : TellsResync resynced t
+  pub reported : ReportsResync resynced t
 
 -- the resynchronised file does not fit, and the report says how long it is
-pub record LacksResyncRoom (file : List ℕ) (room : ℕ) (t : ResyncReport) : Type 0 where
+pub record LacksResyncSpace (file : List ℕ) (space : ℕ) (t : ResyncReport) : Type 0 where
   pub resynced : Resynced
   pub is : IsResyncOfFile file resynced
-  pub reported : TellsResync resynced t
-  pub less : room < t.size
+  pub reported : ReportsResync resynced t
+  pub less : space < t.size
 
 -- a report of no resynchronised file: 0 for all but the refusal's two numbers
-pub record TellsNoResync (t : ResyncReport) : Type 0 where
+pub record ReportsNoResync (t : ResyncReport) : Type 0 where
   pub ended : t.ended ≡ 0
   pub found : t.found ≡ 0
   pub due : t.due ≡ 0

@@ -14,10 +14,10 @@ use Rattle.jr_arrival.specs.Meaning.{IsPlaceIn, MayBe, offset_in}
 use Rattle.jr_arrival.specs.Parts.{FilePart, part_at}
 use Rattle.jr_arrival.specs.Shown.{AreLines, LeavesRowAt}
 use Rattle.jr_arrival.specs.declared.place.RowPlace.{RowPlace}
-use Rattle.jr_arrival.specs.Places.{IsPlaceOf, lines_above, lines_between, rows_to_give, rows_with_room}
+use Rattle.jr_arrival.specs.Places.{IsPlaceOf, lines_above, lines_between, rows_to_give, rows_with_space}
 use Rattle.jri_memory.specs.Calls.{detail_of}
 use Rattle.jri_memory.specs.declared.places.PlaceError.{PlaceError}
-use Rattle.jri_memory.specs.declared.places.PlaceError.TheVariants.{Refused, NoRows, NoRoom, NotInWindow}
+use Rattle.jri_memory.specs.declared.places.PlaceError.TheVariants.{Refused, NoRows, BufferTooSmall, NotInWindow}
 use Rattle.jri_memory.specs.declared.rows_report.RowsReport.{RowsReport}
 
 -- whether bytes are all of their file, by the number that a caller passes
@@ -33,14 +33,14 @@ abbrev pub window_part : (from : ℕ) (bytes : List ℕ) (more : ℕ) → FilePa
 window_part from bytes more = part_at from bytes (are_all more)
 
 -- a report of no rows
-pub record TellsNoRows (r : RowsReport) : Type 0 where
+pub record ReportsNoRows (r : RowsReport) : Type 0 where
   pub rows : r.rows ≡ 0
   pub lines : r.lines ≡ 0
   pub first : r.first_line ≡ 0
 
 -- a report of no rows and no refusal
-pub record TellsNothing (r : RowsReport) : Type 0 where
-  pub no_rows : TellsNoRows r
+pub record ReportsNothing (r : RowsReport) : Type 0 where
+  pub no_rows : ReportsNoRows r
   pub refusal : r.refusal ≡ 0
   pub detail : r.detail ≡ 0
 
@@ -50,7 +50,7 @@ pub record IsPartialFault (bytes : List ℕ) (all : Bool) (fault : Refusal) : Ty
   pub stays : all ≡ false → IsFinalFault bytes fault
 
 -- it has this number and this detail
-pub record TellsPartialFault (bytes : List ℕ) (all : Bool) (r : RowsReport) : Type 0 where
+pub record ReportsPartialFault (bytes : List ℕ) (all : Bool) (r : RowsReport) : Type 0 where
   pub fault : Refusal
   pub is : IsPartialFault bytes all fault
   pub number_is : r.refusal ≡ number_of fault
@@ -58,7 +58,7 @@ pub record TellsPartialFault (bytes : List ℕ) (all : Bool) (r : RowsReport) : 
 
 -- the image with this header has a row of MCUs at the position, and some are requested
 pub record HasRowAt (h : HeadValue) (p : RowPlace) (rows : ℕ) : Type 0 where
-  pub stands : IsPlaceOf h p
+  pub lies : IsPlaceOf h p
   pub row : p.row < mcus_down h
   pub some : 0 < rows
 
@@ -85,22 +85,22 @@ pub record AwaitsHead (header : List ℕ) (x : FilePart) (old new : RowPlace) (r
   pub more : x.are_all ≡ false
   pub wanted : WantsMore header
   pub place : new ≡ old
-  pub told : TellsNothing r
+  pub stated : ReportsNothing r
 
 -- rows are decoded, those requested that fit into the pixels, of which the next does: their lines are those of the image of each file that may have
 -- this part and of which the position was one; what follows their lines is unchanged
 pub record DecodesRows (header : List ℕ) (x : FilePart) (rows : ℕ) (old new : RowPlace) (old_pixels pixels : List ℕ) (r : RowsReport) : Type 0 where
   pub h : HeadValue
   pub there : HasRowAt h old rows
-  pub room : 0 < rows_with_room h old.row (length old_pixels)
+  pub space : 0 < rows_with_space h old.row (length old_pixels)
   pub moves : MovesOn header x (rows_to_give h old.row rows (length old_pixels)) old new h r
   pub are : AreLines x h old (lines_above h old.row) r.lines (take (r.lines * line_size h) pixels)
   pub long : length pixels ≡ length old_pixels
-  pub behind : drop (r.lines * line_size h) pixels ≡ drop (r.lines * line_size h) old_pixels
+  pub after : drop (r.lines * line_size h) pixels ≡ drop (r.lines * line_size h) old_pixels
 
 -- of a header's bytes, and a part of the file
-abbrev pub GivesRows : (header : List ℕ) → FilePart → (rows : ℕ) (old new : RowPlace) (old_pixels pixels : List ℕ) → RowsReport → Type 0
-GivesRows header x rows old new old_pixels pixels r = (AwaitsHead header x old new r × (pixels ≡ old_pixels)) ⊎ DecodesRows header x rows old new old_pixels pixels r
+abbrev pub ReturnsRows : (header : List ℕ) → FilePart → (rows : ℕ) (old new : RowPlace) (old_pixels pixels : List ℕ) → RowsReport → Type 0
+ReturnsRows header x rows old new old_pixels pixels r = (AwaitsHead header x old new r × (pixels ≡ old_pixels)) ⊎ DecodesRows header x rows old new old_pixels pixels r
 
 -- the requested rows are skipped
 pub record PassesRows (header : List ℕ) (x : FilePart) (rows : ℕ) (old new : RowPlace) (r : RowsReport) : Type 0 where
@@ -118,11 +118,11 @@ pub record LacksRows (bytes : List ℕ) (p : RowPlace) (rows : ℕ) : Type 0 whe
   pub none : HasRowAt h p rows → ⊥
 
 -- the bytes' image has a row of MCUs at the position and some are requested, but its lines do not fit into that number of bytes
-pub record LacksRoomForRow (bytes : List ℕ) (p : RowPlace) (rows room : ℕ) : Type 0 where
+pub record LacksSpaceForRow (bytes : List ℕ) (p : RowPlace) (rows space : ℕ) : Type 0 where
   pub h : HeadValue
   pub is : HeadOf bytes h
   pub there : HasRowAt h p rows
-  pub less : rows_with_room h p.row room ≡ 0
+  pub less : rows_with_space h p.row space ≡ 0
 
 -- the position is at a byte of the part, or after its last one
 pub record IsInPart (x : FilePart) (h : HeadValue) (p : RowPlace) : Type 0 where
@@ -144,11 +144,11 @@ pub record LiesOutside (header : List ℕ) (x : FilePart) (p : RowPlace) (rows :
   pub out : IsInPart x h p → ⊥
 
 -- why a position is not moved
-abbrev pub IsWhy : (header : List ℕ) → FilePart → (p : RowPlace) (rows room : ℕ) → PlaceError → Type 0
-IsWhy header x p rows room (Refused fault) = fault ≢ Memory → IsPartialFault header x.are_all fault
-IsWhy header x p rows room NoRows = LacksRows header p rows
-IsWhy header x p rows room NoRoom = LacksRoomForRow header p rows room
-IsWhy header x p rows room NotInWindow = LiesOutside header x p rows
+abbrev pub IsWhy : (header : List ℕ) → FilePart → (p : RowPlace) (rows space : ℕ) → PlaceError → Type 0
+IsWhy header x p rows space (Refused fault) = fault ≢ Memory → IsPartialFault header x.are_all fault
+IsWhy header x p rows space NoRows = LacksRows header p rows
+IsWhy header x p rows space BufferTooSmall = LacksSpaceForRow header p rows space
+IsWhy header x p rows space NotInWindow = LiesOutside header x p rows
 
 -- it is not moved since the bytes are refused, and the report says so
 pub record IsRefusedPlace (unmoved : PlaceError) (r : RowsReport) : Type 0 where

@@ -2,7 +2,7 @@
 
 ghost use Rattle.std.specs.Prelude.{◌≡◌, ◌≢◌, ◌<◌, ◌≤◌};
 ghost use Rattle.jr_segments.specs.declared.refusal.Refusal.TheVariants.{Memory};
-ghost use Rattle.jri_memory.specs.Calls.{IsRefusal, TellsNoPicture, TellsNoRefusal};
+ghost use Rattle.jri_memory.specs.Calls.{IsRefusal, ReportsNoPicture, ReportsNoRefusal};
 
 use crate::decode::DecodeError;
 use crate::report::DecodeReport;
@@ -25,8 +25,8 @@ pub fn status_of(refusal: Refusal) -> u32
 }
 
 /// Reports a decoding, and returns the status.
-pub(crate) fn tell(decoded: DecodeReport, report: &mut DecodeReport) -> u32
-    ensures told { report.new ≡ decoded }
+pub(crate) fn report_decoded(decoded: DecodeReport, report: &mut DecodeReport) -> u32
+    ensures stated { report.new ≡ decoded }
     ensures undamaged { result ≡ 0 → decoded.damaged ≡ 0 }
     ensures damaged { result ≡ 3 → 0 < decoded.damaged }
     ensures done { result ≢ 0 → result ≡ 3 }
@@ -36,26 +36,26 @@ pub(crate) fn tell(decoded: DecodeReport, report: &mut DecodeReport) -> u32
 }
 
 /// Reports why nothing is decoded, and returns the status.
-pub(crate) fn tell_why(undecoded: DecodeError, report: &mut DecodeReport) -> u32
+pub(crate) fn report_undone(undecoded: DecodeError, report: &mut DecodeReport) -> u32
     ensures undone { result ≢ 0 }
     ensures undamaged { result ≢ 3 }
     ensures few { result ≢ 8 → result ≤ 4 }
     ensures refused { result ≡ 2 → IsRefusal undecoded report.new }
     ensures memory { result ≡ 1 → report.new.refusal ≡ 19 }
-    ensures room { result ≡ 4 → undecoded ≡ DecodeError.NoRoom }
-    ensures each_room { undecoded ≡ DecodeError.NoRoom → result ≡ 4 }
-    ensures room_alone { result ≡ 4 → TellsNoRefusal report.new }
+    ensures space { result ≡ 4 → undecoded ≡ DecodeError.BufferTooSmall }
+    ensures each_space { undecoded ≡ DecodeError.BufferTooSmall → result ≡ 4 }
+    ensures space_alone { result ≡ 4 → ReportsNoRefusal report.new }
     ensures long { result ≡ 8 → undecoded ≡ DecodeError.TooLong }
     ensures each_long { undecoded ≡ DecodeError.TooLong → result ≡ 8 }
-    ensures long_alone { result ≡ 8 → TellsNoRefusal report.new }
-    ensures no_picture { TellsNoPicture report.new }
+    ensures long_alone { result ≡ 8 → ReportsNoRefusal report.new }
+    ensures no_picture { ReportsNoPicture report.new }
 {
     match undecoded {
         DecodeError::Refused(refusal) => {
             *report = DecodeReport::refused(refusal);
             status_of(refusal)
         }
-        DecodeError::NoRoom => {
+        DecodeError::BufferTooSmall => {
             *report = DecodeReport::empty();
             BUFFER_TOO_SMALL
         }

@@ -3,13 +3,13 @@
 ghost use Rattle.std.specs.Prelude.{◌≡◌, ◌≢◌, ◌<◌, ◌≤◌, ◌⊎◌, ℕ, List, length, false};
 ghost use Rattle.jr_arrival.specs.Arrival.{CanBecome};
 ghost use Rattle.jr_arrival.specs.Settled.{WantsMore};
-ghost use Rattle.jri_memory.specs.Checks.{ChecksFile, LacksMarkRoom};
-ghost use Rattle.jri_memory.specs.Calls.{DecodesFile, DecodesLines, TellsFault, IsHeaderOf, LacksLines, LacksRoom, LacksRoomForLines, TellsNoHeader, TellsNoPicture, TellsNoRefusal, TellsNoSize, TellsSize};
+ghost use Rattle.jri_memory.specs.Checks.{ChecksFile, LacksMarkSpace};
+ghost use Rattle.jri_memory.specs.Calls.{DecodesFile, DecodesLines, ReportsFault, IsHeaderOf, LacksLines, LacksSpace, LacksSpaceForLines, ReportsNoHeader, ReportsNoPicture, ReportsNoRefusal, ReportsNoSize, ReportsSize};
 ghost use Rattle.jri_memory.specs.Frames.{HasOneSize};
 ghost use Rattle.jri_memory.specs.Resyncs.{IsTooLongRead, OfRead};
 ghost use Rattle.jri_memory.specs.Rows.{are_all};
 
-use crate::answers::{status_of, tell, tell_why};
+use crate::answers::{report_decoded, report_undone, status_of};
 use crate::check::check;
 use crate::decode::decode;
 use crate::file_head::head_of;
@@ -27,16 +27,16 @@ use std::alloc::Global;
 pub fn read_header(alloc: Global, file: &[u8], more: u32, header: &mut Header) -> u32
     ensures read { result ≡ 0 → IsHeaderOf file.now header.new }
     ensures stays { result ≡ 0 → (whole : List ℕ) → CanBecome file.now whole → IsHeaderOf whole header.new }
-    ensures refused { result ≡ 2 → TellsFault file.now header.new.refusal header.new.detail }
-    ensures refused_for_good { result ≡ 2 → are_all more ≡ false → (whole : List ℕ) → CanBecome file.now whole → TellsFault whole header.new.refusal header.new.detail }
+    ensures refused { result ≡ 2 → ReportsFault file.now header.new.refusal header.new.detail }
+    ensures refused_for_good { result ≡ 2 → are_all more ≡ false → (whole : List ℕ) → CanBecome file.now whole → ReportsFault whole header.new.refusal header.new.detail }
     ensures memory { result ≡ 1 → header.new.refusal ≡ 19 }
     ensures wanted { result ≡ 7 → WantsMore file.now }
     ensures partial { result ≡ 7 → are_all more ≡ false }
     ensures no_refusal { result ≡ 7 → (header.new.refusal ≡ 0) × (header.new.detail ≡ 0) }
-    ensures no_header { result ≢ 0 → TellsNoHeader header.new }
-    ensures size { result ≡ 2 → TellsSize file.now header.new }
-    ensures size_stays { result ≡ 2 → TellsNoSize header.new ⊎ ((whole : List ℕ) → CanBecome file.now whole → HasOneSize whole header.new.width header.new.height header.new.components) }
-    ensures no_size { result ≢ 0 → result ≢ 2 → TellsNoSize header.new }
+    ensures no_header { result ≢ 0 → ReportsNoHeader header.new }
+    ensures size { result ≡ 2 → ReportsSize file.now header.new }
+    ensures size_stays { result ≡ 2 → ReportsNoSize header.new ⊎ ((whole : List ℕ) → CanBecome file.now whole → HasOneSize whole header.new.width header.new.height header.new.components) }
+    ensures no_size { result ≢ 0 → result ≢ 2 → ReportsNoSize header.new }
     ensures few { result ≢ 7 → result ≤ 2 }
 {
     let bytes = FileBytes {
@@ -75,20 +75,20 @@ pub fn decode_file(
     ensures damaged { result ≡ 3 → OfRead file.now resync (λ read. DecodesFile read pixels.old pixels.new marks.old marks.new report.new) }
     ensures undamaged { result ≡ 0 → report.new.damaged ≡ 0 }
     ensures some_damaged { result ≡ 3 → 0 < report.new.damaged }
-    ensures refused { result ≡ 2 → TellsFault file.now report.new.refusal report.new.detail }
+    ensures refused { result ≡ 2 → ReportsFault file.now report.new.refusal report.new.detail }
     ensures memory { result ≡ 1 → report.new.refusal ≡ 19 }
-    ensures room { result ≡ 4 → LacksRoom file.now (length pixels.old) (length marks.old) }
-    ensures room_alone { result ≡ 4 → TellsNoRefusal report.new }
+    ensures space { result ≡ 4 → LacksSpace file.now (length pixels.old) (length marks.old) }
+    ensures space_alone { result ≡ 4 → ReportsNoRefusal report.new }
     ensures long { result ≡ 8 → IsTooLongRead file.now resync }
-    ensures long_alone { result ≡ 8 → TellsNoRefusal report.new }
-    ensures no_picture { result ≢ 0 → result ≢ 3 → TellsNoPicture report.new }
+    ensures long_alone { result ≡ 8 → ReportsNoRefusal report.new }
+    ensures no_picture { result ≢ 0 → result ≢ 3 → ReportsNoPicture report.new }
     ensures pixels { result ≢ 0 → result ≢ 3 → pixels.new ≡ pixels.old }
     ensures marks { result ≢ 0 → result ≢ 3 → marks.new ≡ marks.old }
     ensures few { result ≢ 8 → result ≤ 4 }
 {
     match decode(alloc, file, resync, pixels, marks) {
-        Ok(decoded) => tell(decoded, report),
-        Err(undecoded) => tell_why(undecoded, report),
+        Ok(decoded) => report_decoded(decoded, report),
+        Err(undecoded) => report_undone(undecoded, report),
     }
 }
 
@@ -109,25 +109,25 @@ pub fn decode_lines(
     ensures damaged { result ≡ 3 → OfRead file.now resync (λ read. DecodesLines read first count pixels.old pixels.new report.new) }
     ensures undamaged { result ≡ 0 → report.new.damaged ≡ 0 }
     ensures some_damaged { result ≡ 3 → 0 < report.new.damaged }
-    ensures refused { result ≡ 2 → TellsFault file.now report.new.refusal report.new.detail }
+    ensures refused { result ≡ 2 → ReportsFault file.now report.new.refusal report.new.detail }
     ensures memory { result ≡ 1 → report.new.refusal ≡ 19 }
-    ensures room { result ≡ 4 → LacksRoomForLines file.now count (length pixels.old) }
-    ensures room_alone { result ≡ 4 → TellsNoRefusal report.new }
+    ensures space { result ≡ 4 → LacksSpaceForLines file.now count (length pixels.old) }
+    ensures space_alone { result ≡ 4 → ReportsNoRefusal report.new }
     ensures lines { result ≡ 5 → LacksLines file.now first count }
-    ensures lines_alone { result ≡ 5 → TellsNoRefusal report.new }
+    ensures lines_alone { result ≡ 5 → ReportsNoRefusal report.new }
     ensures long { result ≡ 8 → IsTooLongRead file.now resync }
-    ensures long_alone { result ≡ 8 → TellsNoRefusal report.new }
-    ensures no_picture { result ≢ 0 → result ≢ 3 → TellsNoPicture report.new }
+    ensures long_alone { result ≡ 8 → ReportsNoRefusal report.new }
+    ensures no_picture { result ≢ 0 → result ≢ 3 → ReportsNoPicture report.new }
     ensures pixels { result ≢ 0 → result ≢ 3 → pixels.new ≡ pixels.old }
     ensures few { result ≢ 8 → result ≤ 5 }
 {
     match decode_some(alloc, file, resync, first, count, pixels) {
-        Ok(Some(decoded)) => tell(decoded, report),
+        Ok(Some(decoded)) => report_decoded(decoded, report),
         Ok(None) => {
             *report = DecodeReport::empty();
             NO_LINES
         }
-        Err(undecoded) => tell_why(undecoded, report),
+        Err(undecoded) => report_undone(undecoded, report),
     }
 }
 
@@ -146,18 +146,18 @@ pub fn check_marks(
     ensures damaged { result ≡ 3 → OfRead file.now resync (λ read. ChecksFile read marks.old marks.new report.new) }
     ensures undamaged { result ≡ 0 → report.new.damaged ≡ 0 }
     ensures some_damaged { result ≡ 3 → 0 < report.new.damaged }
-    ensures refused { result ≡ 2 → TellsFault file.now report.new.refusal report.new.detail }
+    ensures refused { result ≡ 2 → ReportsFault file.now report.new.refusal report.new.detail }
     ensures memory { result ≡ 1 → report.new.refusal ≡ 19 }
-    ensures room { result ≡ 4 → LacksMarkRoom file.now (length marks.old) }
-    ensures room_alone { result ≡ 4 → TellsNoRefusal report.new }
+    ensures space { result ≡ 4 → LacksMarkSpace file.now (length marks.old) }
+    ensures space_alone { result ≡ 4 → ReportsNoRefusal report.new }
     ensures long { result ≡ 8 → IsTooLongRead file.now resync }
-    ensures long_alone { result ≡ 8 → TellsNoRefusal report.new }
-    ensures unchecked { result ≢ 0 → result ≢ 3 → TellsNoPicture report.new }
+    ensures long_alone { result ≡ 8 → ReportsNoRefusal report.new }
+    ensures unchecked { result ≢ 0 → result ≢ 3 → ReportsNoPicture report.new }
     ensures marks { result ≢ 0 → result ≢ 3 → marks.new ≡ marks.old }
     ensures few { result ≢ 8 → result ≤ 4 }
 {
     match check(alloc, file, resync, marks) {
-        Ok(checked) => tell(checked, report),
-        Err(unchecked) => tell_why(unchecked, report),
+        Ok(checked) => report_decoded(checked, report),
+        Err(unchecked) => report_undone(unchecked, report),
     }
 }

@@ -9,9 +9,9 @@ ghost use Rattle.jr_picture.specs.DecodedScan.{DecodedScan};
 ghost use Rattle.jr_picture.specs.Samples.{samples_of};
 ghost use Rattle.jr_rows.specs.Bands.{ShowsMcus, samples_in};
 ghost use Rattle.jr_rows.specs.Groups.{units_in};
-ghost use Rattle.jr_rows.specs.MarkBytes.{HasMarkRoom, PutsBetween};
-ghost use Rattle.jr_rows.specs.Rows.{CountsRows, DecodesFirst, HasSampleRoom, first_line, line_count};
-ghost use Rattle.jri_canvas.specs.Layouts.{HavePlaces, StandOn, laid_line, laid_line_size, plain_line_size, sample_count};
+ghost use Rattle.jr_rows.specs.MarkBytes.{HasMarkSpace, StoresBetween};
+ghost use Rattle.jr_rows.specs.Rows.{CountsRows, DecodesFirst, HasSampleSpace, first_line, line_count};
+ghost use Rattle.jri_canvas.specs.Layouts.{HavePlaces, LieOn, laid_line, laid_line_size, plain_line_size, sample_count};
 ghost use Rattle.jri_memory.specs.Canvases.{DecodesCanvas, LacksCanvas, LacksLayoutOf, LaysScan};
 ghost use Rattle.jri_memory.specs.Resyncs.{IsTooLongRead, OfRead};
 
@@ -19,7 +19,7 @@ use crate::decode::DecodeError;
 use crate::file_scan::scan_of;
 use crate::laying::form_of;
 use crate::report::DecodeReport;
-use crate::room::{asked_for, lacks_room};
+use crate::space::{asked_for, lacks_space};
 use jr_base::Memory;
 use jr_head::{Head, Kind};
 use jr_picture::Counts;
@@ -48,15 +48,15 @@ fn lay_some(
     form: &CanvasLines,
     canvas: &mut [u8],
 )
-    requires room { HasSampleRoom head.now work.old }
+    requires space { HasSampleSpace head.now work.old }
     requires inside { y + count ≤ head.now.height }
     requires lines { length lines.old ≡ count * paint.line_size head.now }
     requires line { plain_line_size form.now ≡ paint.line_size head.now }
     requires some { 0 < plain_line_size form.now }
     requires stride { laid_line_size form.now ≤ form.now.stride }
     requires places { HavePlaces form.now 0 head.now.height (length canvas.old) }
-    ensures room { HasSampleRoom head.now work.new }
-    ensures stand { StandOn form.now y (y + count) (λ k. laid_line form.now (paint.line_of head.now (samples_in (record { head = head.now; groups = work.old.lines.groups })) k)) canvas.old canvas.new }
+    ensures space { HasSampleSpace head.now work.new }
+    ensures lie { LieOn form.now y (y + count) (λ k. laid_line form.now (paint.line_of head.now (samples_in (record { head = head.now; groups = work.old.lines.groups })) k)) canvas.old canvas.new }
 {
     work.paint_some(head, y, count, lines);
     lay_lines(lines, form, y, count as usize, canvas);
@@ -72,16 +72,16 @@ fn lay_row(
     canvas: &mut [u8],
 )
     requires row { row < mcus_down head.now }
-    requires room { HasSampleRoom head.now work.old }
+    requires space { HasSampleSpace head.now work.old }
     requires lines { 8 * vertical_max head.now * paint.line_size head.now ≤ length lines.old }
     requires line { plain_line_size form.now ≡ paint.line_size head.now }
     requires some { 0 < plain_line_size form.now }
     requires stride { laid_line_size form.now ≤ form.now.stride }
     requires places { HavePlaces form.now 0 head.now.height (length canvas.old) }
     ensures long { length lines.new ≡ length lines.old }
-    ensures room { HasSampleRoom head.now work.new }
-    ensures stand { (b : DecodedScan) → b.scan.head ≡ head.now → ShowsMcus b (row * mcus_across head.now) (units_in head.now work.old.lines.groups)
-        → StandOn form.now (first_line head.now row) (first_line head.now row + line_count head.now row) (λ k. laid_line form.now (paint.line_of head.now (samples_of b) k)) canvas.old canvas.new }
+    ensures space { HasSampleSpace head.now work.new }
+    ensures lie { (b : DecodedScan) → b.scan.head ≡ head.now → ShowsMcus b (row * mcus_across head.now) (units_in head.now work.old.lines.groups)
+        → LieOn form.now (first_line head.now row) (first_line head.now row + line_count head.now row) (λ k. laid_line form.now (paint.line_of head.now (samples_of b) k)) canvas.old canvas.new }
 {
     head.assert_invariant();
     let (y, count) = lines_of(head, row);
@@ -98,16 +98,16 @@ fn lay_rows(
     canvas: &mut [u8],
     marks: &mut [u8],
 ) -> Marked
-    requires room { HasSampleRoom scan.now.head work.old }
+    requires space { HasSampleSpace scan.now.head work.old }
     requires lines { 8 * vertical_max scan.now.head * paint.line_size scan.now.head ≤ length lines.old }
     requires line { plain_line_size form.now ≡ paint.line_size scan.now.head }
     requires some { 0 < plain_line_size form.now }
     requires stride { laid_line_size form.now ≤ form.now.stride }
     requires places { HavePlaces form.now 0 scan.now.head.height (length canvas.old) }
-    requires marks { HasMarkRoom scan.now marks.old }
-    ensures stand { (b : DecodedScan) → DecodesFirst scan.now (length scan.now.intervals) b → StandOn form.now 0 scan.now.head.height (λ k. laid_line form.now (paint.line_of scan.now.head (samples_of b) k)) canvas.old canvas.new }
+    requires marks { HasMarkSpace scan.now marks.old }
+    ensures lie { (b : DecodedScan) → DecodesFirst scan.now (length scan.now.intervals) b → LieOn form.now 0 scan.now.head.height (λ k. laid_line form.now (paint.line_of scan.now.head (samples_of b) k)) canvas.old canvas.new }
     ensures counts { CountsRows scan.now (length scan.now.intervals) result }
-    ensures puts { PutsBetween scan.now 0 (mcus_down scan.now.head) marks.old marks.new }
+    ensures stores { StoresBetween scan.now 0 (mcus_down scan.now.head) marks.old marks.new }
 {
     let head = scan.head();
     // By their contracts an image has an MCU, and a scan the number of intervals that its header says.
@@ -138,7 +138,7 @@ fn lay_scan(
     requires some { 0 < plain_line_size form.now }
     requires stride { laid_line_size form.now ≤ form.now.stride }
     requires places { HavePlaces form.now 0 scan.now.head.height (length canvas.old) }
-    requires marks { HasMarkRoom scan.now marks.old }
+    requires marks { HasMarkSpace scan.now marks.old }
     ensures laid { IfOk result (LaysScan scan.now form.now canvas.old canvas.new marks.old marks.new) }
     ensures canvas { IfErr result (λ _. canvas.new ≡ canvas.old) }
     ensures marks { IfErr result (λ _. marks.new ≡ marks.old) }
@@ -182,7 +182,7 @@ pub(crate) fn decode_on(
     ensures no_marks { result ≡ Ok None → marks.new ≡ marks.old }
     ensures refused { IfErr result (λ e. (f : Refusal) → e ≡ DecodeError.Refused f → f ≢ refusal.Memory → RefusalOf file.now f) }
     ensures layout { result ≡ Ok None → LacksLayoutOf file.now shape.stride shape.layout }
-    ensures room { result ≡ Err DecodeError.NoRoom → LacksCanvas file.now shape.stride shape.layout (length canvas.old) (length marks.old) }
+    ensures space { result ≡ Err DecodeError.BufferTooSmall → LacksCanvas file.now shape.stride shape.layout (length canvas.old) (length marks.old) }
     ensures long { result ≡ Err DecodeError.TooLong → IsTooLongRead file.now resync }
     ensures canvas { IfErr result (λ _. canvas.new ≡ canvas.old) }
     ensures marks { IfErr result (λ _. marks.new ≡ marks.old) }
@@ -194,10 +194,10 @@ pub(crate) fn decode_on(
     };
     let count = scan.intervals();
     if !have_places(&form, head.height() as usize, canvas.len()) {
-        return Err(DecodeError::NoRoom);
+        return Err(DecodeError::BufferTooSmall);
     }
-    if lacks_room(marks, count) {
-        return Err(DecodeError::NoRoom);
+    if lacks_space(marks, count) {
+        return Err(DecodeError::BufferTooSmall);
     }
     let asked = asked_for(marks, count);
     let Ok(counts) = lay_scan(alloc, &scan, &form, canvas, &mut marks[..asked]) else {

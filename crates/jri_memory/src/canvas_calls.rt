@@ -1,11 +1,11 @@
 //! The call that decodes onto a canvas.
 
 ghost use Rattle.std.specs.Prelude.{◌≡◌, ◌≢◌, ◌<◌, ◌≤◌, length};
-ghost use Rattle.jri_memory.specs.Calls.{TellsFault, TellsNoPicture, TellsNoRefusal};
+ghost use Rattle.jri_memory.specs.Calls.{ReportsFault, ReportsNoPicture, ReportsNoRefusal};
 ghost use Rattle.jri_memory.specs.Canvases.{DecodesCanvas, LacksCanvas, LacksLayoutOf};
 ghost use Rattle.jri_memory.specs.Resyncs.{IsTooLongRead, OfRead};
 
-use crate::answers::{tell, tell_why};
+use crate::answers::{report_decoded, report_undone};
 use crate::canvas::{CanvasShape, decode_on};
 use crate::report::DecodeReport;
 use crate::status::NO_LAYOUT;
@@ -28,26 +28,26 @@ pub fn decode_canvas(
     ensures damaged { result ≡ 3 → OfRead file.now resync (λ read. DecodesCanvas read shape.stride shape.layout canvas.old canvas.new marks.old marks.new report.new) }
     ensures undamaged { result ≡ 0 → report.new.damaged ≡ 0 }
     ensures some_damaged { result ≡ 3 → 0 < report.new.damaged }
-    ensures refused { result ≡ 2 → TellsFault file.now report.new.refusal report.new.detail }
+    ensures refused { result ≡ 2 → ReportsFault file.now report.new.refusal report.new.detail }
     ensures memory { result ≡ 1 → report.new.refusal ≡ 19 }
-    ensures room { result ≡ 4 → LacksCanvas file.now shape.stride shape.layout (length canvas.old) (length marks.old) }
-    ensures room_alone { result ≡ 4 → TellsNoRefusal report.new }
+    ensures space { result ≡ 4 → LacksCanvas file.now shape.stride shape.layout (length canvas.old) (length marks.old) }
+    ensures space_alone { result ≡ 4 → ReportsNoRefusal report.new }
     ensures layout { result ≡ 6 → LacksLayoutOf file.now shape.stride shape.layout }
-    ensures layout_alone { result ≡ 6 → TellsNoRefusal report.new }
+    ensures layout_alone { result ≡ 6 → ReportsNoRefusal report.new }
     ensures long { result ≡ 8 → IsTooLongRead file.now resync }
-    ensures long_alone { result ≡ 8 → TellsNoRefusal report.new }
-    ensures no_picture { result ≢ 0 → result ≢ 3 → TellsNoPicture report.new }
+    ensures long_alone { result ≡ 8 → ReportsNoRefusal report.new }
+    ensures no_picture { result ≢ 0 → result ≢ 3 → ReportsNoPicture report.new }
     ensures canvas { result ≢ 0 → result ≢ 3 → canvas.new ≡ canvas.old }
     ensures marks { result ≢ 0 → result ≢ 3 → marks.new ≡ marks.old }
     ensures few { result ≢ 8 → result ≤ 6 }
     ensures no_lines { result ≢ 5 }
 {
     match decode_on(alloc, file, resync, shape, canvas, marks) {
-        Ok(Some(decoded)) => tell(decoded, report),
+        Ok(Some(decoded)) => report_decoded(decoded, report),
         Ok(None) => {
             *report = DecodeReport::empty();
             NO_LAYOUT
         }
-        Err(undecoded) => tell_why(undecoded, report),
+        Err(undecoded) => report_undone(undecoded, report),
     }
 }

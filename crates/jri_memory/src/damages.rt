@@ -10,8 +10,8 @@ ghost use Rattle.jr_scan.specs.Mcus.{HasDecoding};
 ghost use Rattle.jr_scan.specs.ScanValue.{ScanValue, interval_of};
 ghost use Rattle.jr_segments.specs.declared.refusal.Refusal.TheVariants as refusal;
 ghost use Rattle.jr_head.specs.Heads.{RefusalOf};
-ghost use Rattle.jri_memory.specs.Calls.{TellsFault, detail_of};
-ghost use Rattle.jri_memory.specs.Damages.{AreDamages, ListsDamages, IsDamageEntry, TellsNoDamage};
+ghost use Rattle.jri_memory.specs.Calls.{ReportsFault, detail_of};
+ghost use Rattle.jri_memory.specs.Damages.{AreDamages, ListsDamages, IsDamageEntry, ReportsNoDamage};
 ghost use Rattle.jr_segments.specs.Refusal.{number_of};
 
 use crate::status::{DAMAGED, SOUND};
@@ -60,7 +60,7 @@ pub struct DamageReport {
 impl DamageReport {
     /// Returns the report of a refusal.
     fn refused(refusal: Refusal) -> DamageReport
-        ensures nothing { TellsNoDamage result }
+        ensures nothing { ReportsNoDamage result }
         ensures number { result.refusal ≡ number_of refusal }
         ensures detail { result.detail ≡ detail_of refusal }
     {
@@ -127,15 +127,15 @@ fn examine(
 }
 
 /// Writes what is damaged of interval i, if it is, after the first entries of a list, and returns their number then.
-fn put(damaged: Option<DamagedInterval>, damages: &mut [Damage], count: u32) -> u32
-    requires room { count < length damages.old }
+fn store(damaged: Option<DamagedInterval>, damages: &mut [Damage], count: u32) -> u32
+    requires space { count < length damages.old }
     requires few { count + 1 < 2 ^ 32 }
     ensures long { length damages.new ≡ length damages.old }
     ensures more { count ≤ result }
     ensures one { result ≤ count + 1 }
     ensures listed { (file : List ℕ) (s : ScanValue) (span : CodedSpan) (first i : ℕ) → IfNone damaged (HasDecoding (interval_of s i)) → IfSome damaged (λ d. IsDamageOf (interval_of s i) span d) → IsSegmentOf file s i span
         → AreDamages file s first i count damages.old → AreDamages file s first (i + 1) result damages.new }
-    ensures behind { drop result damages.new ≡ drop result damages.old }
+    ensures after { drop result damages.new ≡ drop result damages.old }
 {
     match damaged {
         Some(damaged) => {
@@ -157,7 +157,7 @@ fn list_one(
     requires there { before.next < intervals_of head.now }
     requires at { before.at ≤ length file.now }
     requires small { length file.now < 2 ^ 61 }
-    requires room { before.count < length damages.old }
+    requires space { before.count < length damages.old }
     requires few { before.count ≤ before.next }
     requires capacity { length file.now - before.at < vec_capacity buffer.old }
     ensures next { result.next ≡ before.next + 1 }
@@ -168,13 +168,13 @@ fn list_one(
     ensures one { result.count ≤ before.count + 1 }
     ensures listed { (s : ScanValue) (first : ℕ) → s.head ≡ head.now → IsNextAt file.now s before.next before.at → AreDamages file.now s first before.next before.count damages.old → AreDamages file.now s first (before.next + 1) result.count damages.new }
     ensures stops { (s : ScanValue) → s.head ≡ head.now → IsNextAt file.now s before.next before.at → IsNextAt file.now s (before.next + 1) result.at }
-    ensures behind { drop result.count damages.new ≡ drop result.count damages.old }
+    ensures after { drop result.count damages.new ≡ drop result.count damages.old }
     ensures capacity { vec_capacity buffer.old ≤ vec_capacity buffer.new }
 {
     let segment = segment_at(file, before.at, before.next, head.intervals());
     let damaged = examine(head, file, segment.bytes, before.next, buffer);
     Progress {
-        count: put(damaged, damages, before.count),
+        count: store(damaged, damages, before.count),
         next: before.next + 1,
         at: segment.next,
     }
@@ -197,9 +197,9 @@ fn list(
     ensures stops { (s : ScanValue) → s.head ≡ head.now → IsNextAt file.now s from.next from.at → IsNextAt file.now s result.next result.at }
     ensures within { result.next ≤ intervals_of head.now }
     ensures at { from.at ≤ result.at }
-    ensures room { result.next < intervals_of head.now → result.count ≡ length damages.old }
+    ensures space { result.next < intervals_of head.now → result.count ≡ length damages.old }
     ensures long { length damages.new ≡ length damages.old }
-    ensures behind { drop result.count damages.new ≡ drop result.count damages.old }
+    ensures after { drop result.count damages.new ≡ drop result.count damages.old }
 {
     let all = head.intervals();
     let mut progress = from;
@@ -258,9 +258,9 @@ pub fn list_damages(
     ensures some_listed { result ≡ 3 → ListsDamages file.now first first_at damages.old damages.new report.new }
     ensures none { result ≡ 0 → report.new.count ≡ 0 }
     ensures some { result ≡ 3 → 0 < report.new.count }
-    ensures refused { result ≡ 2 → TellsFault file.now report.new.refusal report.new.detail }
+    ensures refused { result ≡ 2 → ReportsFault file.now report.new.refusal report.new.detail }
     ensures memory { result ≡ 1 → report.new.refusal ≡ 19 }
-    ensures nothing { result ≢ 0 → result ≢ 3 → TellsNoDamage report.new }
+    ensures nothing { result ≢ 0 → result ≢ 3 → ReportsNoDamage report.new }
     ensures kept { result ≢ 0 → result ≢ 3 → damages.new ≡ damages.old }
     ensures few { result ≤ 3 }
 {

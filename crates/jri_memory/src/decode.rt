@@ -3,12 +3,12 @@
 ghost use Rattle.std.specs.Prelude.{◌≡◌, ◌≢◌, length, IfOk, IfErr};
 ghost use Rattle.jr_segments.specs.declared.refusal.Refusal.TheVariants as refusal;
 ghost use Rattle.jr_head.specs.Heads.{RefusalOf};
-ghost use Rattle.jri_memory.specs.Calls.{DecodesFile, LacksRoom};
+ghost use Rattle.jri_memory.specs.Calls.{DecodesFile, LacksSpace};
 ghost use Rattle.jri_memory.specs.Resyncs.{IsTooLongRead, OfRead};
 
 use crate::file_scan::scan_of;
 use crate::report::DecodeReport;
-use crate::room::{asked_for, bytes_of_picture, lacks_room};
+use crate::space::{asked_for, bytes_of_picture, lacks_space};
 use jr_rows::paint_scan;
 use jr_segments::Refusal;
 use std::alloc::Global;
@@ -19,7 +19,7 @@ pub(crate) enum DecodeError {
     /// The file is refused, or allocation failed.
     Refused(Refusal),
     /// A buffer is too small.
-    NoRoom,
+    BufferTooSmall,
     /// The resynchronised file would be longer than a file may be.
     TooLong,
 }
@@ -35,7 +35,7 @@ pub(crate) fn decode(
 ) -> Result<DecodeReport, DecodeError>
     ensures decoded { IfOk result (λ r. OfRead file.now resync (λ read. DecodesFile read pixels.old pixels.new marks.old marks.new r)) }
     ensures refused { IfErr result (λ e. (f : Refusal) → e ≡ DecodeError.Refused f → f ≢ refusal.Memory → RefusalOf file.now f) }
-    ensures room { result ≡ Err DecodeError.NoRoom → LacksRoom file.now (length pixels.old) (length marks.old) }
+    ensures space { result ≡ Err DecodeError.BufferTooSmall → LacksSpace file.now (length pixels.old) (length marks.old) }
     ensures long { result ≡ Err DecodeError.TooLong → IsTooLongRead file.now resync }
     ensures pixels { IfErr result (λ _. pixels.new ≡ pixels.old) }
     ensures marks { IfErr result (λ _. marks.new ≡ marks.old) }
@@ -43,8 +43,8 @@ pub(crate) fn decode(
     let scan = scan_of(alloc, file, resync)?;
     let size = bytes_of_picture(scan.head());
     let count = scan.intervals();
-    if pixels.len() < size || lacks_room(marks, count) {
-        return Err(DecodeError::NoRoom);
+    if pixels.len() < size || lacks_space(marks, count) {
+        return Err(DecodeError::BufferTooSmall);
     }
     let asked = asked_for(marks, count);
     let Ok(counts) = paint_scan(alloc, &scan, &mut pixels[..size], &mut marks[..asked]) else {

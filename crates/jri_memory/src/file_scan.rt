@@ -54,7 +54,7 @@ pub(crate) fn scan_of(alloc: Global, file: &[u8], resync: u32) -> Result<Scan, D
     ensures scan { IfOk result (λ scan. OfRead file.now resync (λ read. IsScanOfFile read scan)) }
     ensures refused { IfErr result (λ e. (f : Refusal) → e ≡ DecodeError.Refused f → f ≢ refusal.Memory → RefusalOf file.now f) }
     ensures long { result ≡ Err DecodeError.TooLong → IsTooLongRead file.now resync }
-    ensures room { result ≢ Err DecodeError.NoRoom }
+    ensures space { result ≢ Err DecodeError.BufferTooSmall }
 {
     let head = match read_head(alloc, file) {
         Ok(head) => head,

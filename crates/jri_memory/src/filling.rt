@@ -9,7 +9,7 @@ use jr_cut::Break;
 
 /// Writes bytes at the start of a buffer.
 pub(crate) fn write_over(bytes: &[u8], out: &mut [u8])
-    requires room { length bytes.now ≤ length out.old }
+    requires space { length bytes.now ≤ length out.old }
     ensures { out.new ≡ over bytes.now out.old }
 {
     out[..bytes.len()].copy_from_slice(bytes);

@@ -3,7 +3,7 @@
 ghost use Rattle.std.specs.Prelude.{◌≡◌, ◌≢◌, ◌<◌, ◌≤◌, None, length, IfSome, IfNone};
 ghost use Rattle.jr_segments.specs.declared.refusal.Refusal.TheVariants.{Memory};
 ghost use Rattle.jr_segments.specs.Frames.{frame_component_count, height, width};
-ghost use Rattle.jr_segments.specs.Segments.{behind_segment, is_known, segment_at};
+ghost use Rattle.jr_segments.specs.Segments.{after_segment, is_known, segment_at};
 ghost use Rattle.jri_memory.specs.Frames.{HasOneSize, HasSegment, LacksSize, is_any_frame};
 
 use byteorder::{BigEndian, ByteOrder};
@@ -37,7 +37,7 @@ fn first_segment(bytes: &[u8]) -> Option<AnySegment<'_>>
     ensures there { IfSome result (λ _. HasSegment bytes.now) }
     ensures code { IfSome result (λ s. s.code ≡ (segment_at bytes.now).code) }
     ensures payload { IfSome result (λ s. s.payload.now ≡ (segment_at bytes.now).payload) }
-    ensures rest { IfSome result (λ s. s.rest.now ≡ behind_segment bytes.now) }
+    ensures rest { IfSome result (λ s. s.rest.now ≡ after_segment bytes.now) }
     ensures none { IfNone result (HasSegment bytes.now → ⊥) }
 {
     let fill = fill_count(bytes);

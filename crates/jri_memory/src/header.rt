@@ -5,11 +5,11 @@ ghost use Rattle.jr_head.specs.HeadValue.{kind_number};
 ghost use Rattle.jr_head.specs.Geometry.{components_of, horizontal_max, horizontal_of, mcus_across, mcus_down, mcus_of, vertical_max, vertical_of};
 ghost use Rattle.jr_segments.specs.Refusal.{number_of};
 ghost use Rattle.jr_scan.specs.ScanValue.{intervals_of};
-ghost use Rattle.jri_memory.specs.Calls.{TellsNoHeader, TellsNoSize, detail_of, of_three, picture_size};
+ghost use Rattle.jri_memory.specs.Calls.{ReportsNoHeader, ReportsNoSize, detail_of, of_three, picture_size};
 
 use crate::frame_size::FrameSize;
 use crate::report::detail;
-use crate::room::bytes_of_picture;
+use crate::space::bytes_of_picture;
 use jr_head::{Head, Kind};
 use jr_segments::Refusal;
 
@@ -89,8 +89,8 @@ fn vertical_or_0(head: &Head, c: u32) -> u32
 impl Header {
     /// Returns the header whose numbers are all 0.
     pub const fn empty() -> Header
-        ensures no_header { TellsNoHeader result }
-        ensures no_size { TellsNoSize result }
+        ensures no_header { ReportsNoHeader result }
+        ensures no_size { ReportsNoSize result }
         ensures no_fault { result.refusal ≡ 0 }
         ensures no_detail { result.detail ≡ 0 }
     {
@@ -117,8 +117,8 @@ impl Header {
 
     /// Returns a refusal, without a size.
     fn unsized_refusal(refusal: Refusal) -> Header
-        ensures no_header { TellsNoHeader result }
-        ensures no_size { TellsNoSize result }
+        ensures no_header { ReportsNoHeader result }
+        ensures no_size { ReportsNoSize result }
         ensures number { result.refusal ≡ number_of refusal }
         ensures detail { result.detail ≡ detail_of refusal }
     {
@@ -131,9 +131,9 @@ impl Header {
 
     /// Returns a refusal, and the size in the file's frame header.
     pub(crate) fn refused(refusal: Refusal, size: Option<FrameSize>) -> Header
-        ensures no_header { TellsNoHeader result }
+        ensures no_header { ReportsNoHeader result }
         ensures size { IfSome size (λ s. (result.width ≡ s.width) × (result.height ≡ s.height) × (result.components ≡ s.components)) }
-        ensures no_size { IfNone size (TellsNoSize result) }
+        ensures no_size { IfNone size (ReportsNoSize result) }
         ensures number { result.refusal ≡ number_of refusal }
         ensures detail { result.detail ≡ detail_of refusal }
     {

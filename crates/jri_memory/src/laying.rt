@@ -2,7 +2,7 @@
 
 ghost use Rattle.std.specs.Prelude.{◌≡◌, ◌≢◌, ℕ, ◌*◌, ◌<◌, ◌≤◌, IfSome, None, length};
 ghost use Rattle.jri_canvas.specs.Layouts.{sample_count};
-ghost use Rattle.jri_memory.specs.Canvases.{HasForm, LacksLayout, LacksLinesToLay, LacksRoomToLay, LaysOut};
+ghost use Rattle.jri_memory.specs.Canvases.{HasForm, LacksLayout, LacksLinesToLay, LacksSpaceToLay, LaysOut};
 
 use crate::status::{BUFFER_TOO_SMALL, NO_LAYOUT, OK};
 use jri_canvas::{CanvasLines, Layout, Pixels, have_places, lay_lines};
@@ -63,7 +63,7 @@ pub fn lay_out(
     layout: u32,
 ) -> u32
     ensures done { result ≡ 0 → LaysOut lines.now width components stride layout canvas.old canvas.new }
-    ensures room { result ≡ 4 → LacksRoomToLay lines.now width components stride layout (length canvas.old) }
+    ensures space { result ≡ 4 → LacksSpaceToLay lines.now width components stride layout (length canvas.old) }
     ensures layout { result ≡ 6 → LacksLinesToLay lines.now width components stride layout }
     ensures canvas { result ≢ 0 → canvas.new ≡ canvas.old }
     ensures few { result ≢ 0 → result ≢ 4 → result ≡ 6 }

@@ -23,8 +23,8 @@ mod place_calls;
 mod places;
 mod report;
 mod resync;
-mod room;
 mod rows_report;
+mod space;
 pub mod status;
 mod text;
 

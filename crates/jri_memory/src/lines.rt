@@ -3,7 +3,7 @@
 ghost use Rattle.std.specs.Prelude.{◌≡◌, ◌≢◌, ◌<◌, ◌≤◌, ◌+◌, length, IfOk, IfErr, IfSome, None, true, false};
 ghost use Rattle.jr_segments.specs.declared.refusal.Refusal.TheVariants as refusal;
 ghost use Rattle.jr_head.specs.Heads.{RefusalOf};
-ghost use Rattle.jri_memory.specs.Calls.{DecodesLines, HasTheseLines, LacksLines, LacksRoomForLines};
+ghost use Rattle.jri_memory.specs.Calls.{DecodesLines, HasTheseLines, LacksLines, LacksSpaceForLines};
 ghost use Rattle.jri_memory.specs.Resyncs.{IsTooLongRead, OfRead};
 
 use crate::decode::DecodeError;
@@ -39,7 +39,7 @@ pub(crate) fn decode_some(
     ensures none { result ≡ Ok None → pixels.new ≡ pixels.old }
     ensures refused { IfErr result (λ e. (f : Refusal) → e ≡ DecodeError.Refused f → f ≢ refusal.Memory → RefusalOf file.now f) }
     ensures lines { result ≡ Ok None → LacksLines file.now first count }
-    ensures room { result ≡ Err DecodeError.NoRoom → LacksRoomForLines file.now count (length pixels.old) }
+    ensures space { result ≡ Err DecodeError.BufferTooSmall → LacksSpaceForLines file.now count (length pixels.old) }
     ensures long { result ≡ Err DecodeError.TooLong → IsTooLongRead file.now resync }
     ensures pixels { IfErr result (λ _. pixels.new ≡ pixels.old) }
 {
@@ -50,7 +50,7 @@ pub(crate) fn decode_some(
     }
     let size = count as usize * bytes_of_line(head);
     if pixels.len() < size {
-        return Err(DecodeError::NoRoom);
+        return Err(DecodeError::BufferTooSmall);
     }
     let Ok(marked) = paint_scan_lines(alloc, &scan, first, count, &mut pixels[..size]) else {
         return Err(DecodeError::Refused(Refusal::Memory));

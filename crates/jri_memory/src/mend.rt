@@ -7,7 +7,7 @@ ghost use Rattle.jr_mend.specs.declared.choice.TheConstants.{MAX_COPIES};
 ghost use Rattle.jr_segments.specs.declared.refusal.Refusal.TheVariants as refusal;
 ghost use Rattle.jri_memory.specs.Calls.{over};
 ghost use Rattle.jri_memory.specs.Filling.{listed_over};
-ghost use Rattle.jri_memory.specs.Mends.{AreCopiesOf, HasOtherHeader, IsMendFailure, IsMendOf, IsTooLongMend, LackCopies, LacksMendRoom, MendsFiles, TellsCopyFault, TellsMend, TellsNoMend, choice_entry, files_of};
+ghost use Rattle.jri_memory.specs.Mends.{AreCopiesOf, HasOtherHeader, IsMendFailure, IsMendOf, IsTooLongMend, LackCopies, LacksMendSpace, MendsFiles, ReportsCopyFault, ReportsMend, ReportsNoMend, choice_entry, files_of};
 
 use crate::filling::write_over;
 use crate::mend_report::{ChoiceEntry, MendReport, list_choices};
@@ -113,19 +113,19 @@ fn mended_of(alloc: Global, files: &[u8], sizes: &[usize]) -> Result<Mended, Men
 }
 
 /// Writes a mended file and its choices, and returns the status. If the file does not fit nothing is written.
-fn put_mended(
+fn write_mended(
     mended: &Mended,
     out: &mut [u8],
     choices: &mut [ChoiceEntry],
     report: &mut MendReport,
 ) -> u32
     requires { length mended.now.choices.items < 2 ^ 32 }
-    ensures reported { TellsMend mended.now.choices.items mended.now.file.items report.new }
+    ensures reported { ReportsMend mended.now.choices.items mended.now.file.items report.new }
     ensures written { result ≢ 4 → out.new ≡ over mended.now.file.items out.old }
     ensures listed { result ≢ 4 → choices.new ≡ listed_over (map choice_entry mended.now.choices.items) choices.old }
     ensures undamaged { result ≡ 0 → report.new.damaged ≡ 0 }
     ensures damaged { result ≡ 3 → 0 < report.new.damaged }
-    ensures room { result ≡ 4 → length out.old < report.new.size }
+    ensures space { result ≡ 4 → length out.old < report.new.size }
     ensures out { result ≡ 4 → out.new ≡ out.old }
     ensures choices { result ≡ 4 → choices.new ≡ choices.old }
     ensures few { result ≢ 0 → result ≢ 3 → result ≡ 4 }
@@ -140,17 +140,17 @@ fn put_mended(
 }
 
 /// Reports why copies are not mended, and returns the status.
-fn tell_mend_failure(failure: MendFailure, report: &mut MendReport) -> u32
+fn report_mend_failure(failure: MendFailure, report: &mut MendReport) -> u32
     ensures undone { result ≢ 0 }
     ensures undamaged { result ≢ 3 }
     ensures fits { result ≢ 4 }
-    ensures refused { result ≡ 2 → (sizes bytes : List ℕ) → IsMendFailure sizes bytes failure → TellsCopyFault (files_of sizes bytes) report.new }
+    ensures refused { result ≡ 2 → (sizes bytes : List ℕ) → IsMendFailure sizes bytes failure → ReportsCopyFault (files_of sizes bytes) report.new }
     ensures memory { result ≡ 1 → report.new.refusal ≡ 19 }
     ensures long { result ≡ 8 → (sizes bytes : List ℕ) → IsMendFailure sizes bytes failure → IsTooLongMend (files_of sizes bytes) }
     ensures copies { result ≡ 9 → (sizes bytes : List ℕ) → IsMendFailure sizes bytes failure → LackCopies sizes bytes }
     ensures header { result ≡ 10 → (sizes bytes : List ℕ) → IsMendFailure sizes bytes failure → HasOtherHeader (files_of sizes bytes) report.new.copy }
     ensures no_refusal { 8 ≤ result → report.new.refusal ≡ 0 }
-    ensures nothing { TellsNoMend report.new }
+    ensures nothing { ReportsNoMend report.new }
     ensures few { 4 < result → (8 ≤ result) × (result ≤ 10) }
 {
     match failure {
@@ -194,20 +194,20 @@ pub fn mend_files(
     ensures damaged { result ≡ 3 → MendsFiles (files_of sizes.now files.now) out.old out.new choices.old choices.new report.new }
     ensures undamaged { result ≡ 0 → report.new.damaged ≡ 0 }
     ensures some_damaged { result ≡ 3 → 0 < report.new.damaged }
-    ensures refused { result ≡ 2 → TellsCopyFault (files_of sizes.now files.now) report.new }
+    ensures refused { result ≡ 2 → ReportsCopyFault (files_of sizes.now files.now) report.new }
     ensures memory { result ≡ 1 → report.new.refusal ≡ 19 }
-    ensures room { result ≡ 4 → LacksMendRoom (files_of sizes.now files.now) (length out.old) report.new }
+    ensures space { result ≡ 4 → LacksMendSpace (files_of sizes.now files.now) (length out.old) report.new }
     ensures long { result ≡ 8 → IsTooLongMend (files_of sizes.now files.now) }
     ensures copies { result ≡ 9 → LackCopies sizes.now files.now }
     ensures header { result ≡ 10 → HasOtherHeader (files_of sizes.now files.now) report.new.copy }
     ensures no_refusal { 8 ≤ result → report.new.refusal ≡ 0 }
-    ensures nothing { result ≢ 0 → result ≢ 3 → result ≢ 4 → TellsNoMend report.new }
+    ensures nothing { result ≢ 0 → result ≢ 3 → result ≢ 4 → ReportsNoMend report.new }
     ensures out { result ≢ 0 → result ≢ 3 → out.new ≡ out.old }
     ensures choices { result ≢ 0 → result ≢ 3 → choices.new ≡ choices.old }
     ensures few { 4 < result → (8 ≤ result) × (result ≤ 10) }
 {
     match mended_of(alloc, files, sizes) {
-        Ok(mended) => put_mended(&mended, out, choices, report),
-        Err(failure) => tell_mend_failure(failure, report),
+        Ok(mended) => write_mended(&mended, out, choices, report),
+        Err(failure) => report_mend_failure(failure, report),
     }
 }

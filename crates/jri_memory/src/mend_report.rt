@@ -5,7 +5,7 @@ ghost use Rattle.jr_mend.specs.declared.choice.Choice.{Choice};
 ghost use Rattle.jr_segments.specs.Refusal.{number_of};
 ghost use Rattle.jri_memory.specs.Calls.{detail_of};
 ghost use Rattle.jri_memory.specs.Filling.{listed_over};
-ghost use Rattle.jri_memory.specs.Mends.{TellsMend, TellsNoMend, choice_entry, is_damaged_choice};
+ghost use Rattle.jri_memory.specs.Mends.{ReportsMend, ReportsNoMend, choice_entry, is_damaged_choice};
 
 use crate::detail;
 use jr_mend::{Choice, Mended};
@@ -88,7 +88,7 @@ pub(crate) fn list_choices(chosen: &[Choice], choices: &mut [ChoiceEntry])
 impl MendReport {
     /// Returns the report whose numbers are all 0.
     pub(crate) const fn empty() -> MendReport
-        ensures nothing { TellsNoMend result }
+        ensures nothing { ReportsNoMend result }
         ensures no_refusal { result.refusal ≡ 0 }
         ensures no_detail { result.detail ≡ 0 }
     {
@@ -104,7 +104,7 @@ impl MendReport {
 
     /// Returns the report of a refused copy.
     pub(crate) fn refused(copy: u32, refusal: Refusal) -> MendReport
-        ensures nothing { TellsNoMend result }
+        ensures nothing { ReportsNoMend result }
         ensures copy { result.copy ≡ copy }
         ensures number { result.refusal ≡ number_of refusal }
         ensures detail { result.detail ≡ detail_of refusal }
@@ -119,7 +119,7 @@ impl MendReport {
 
     /// Returns the report of a copy with another header than the first.
     pub(crate) fn other_header(copy: u32) -> MendReport
-        ensures nothing { TellsNoMend result }
+        ensures nothing { ReportsNoMend result }
         ensures copy { result.copy ≡ copy }
         ensures no_refusal { result.refusal ≡ 0 }
     {
@@ -132,7 +132,7 @@ impl MendReport {
     /// Returns the report of a mended file.
     pub(crate) fn of(mended: &Mended) -> MendReport
         requires { length mended.now.choices.items < 2 ^ 32 }
-        ensures { TellsMend mended.now.choices.items mended.now.file.items result }
+        ensures { ReportsMend mended.now.choices.items mended.now.file.items result }
     {
         MendReport {
             intervals: mended.choices.len() as u32,

@@ -4,7 +4,7 @@ ghost use Rattle.std.specs.Prelude.{◌≡◌, ◌≢◌, ◌≤◌, ◌⊎◌, 
 ghost use Rattle.jr_segments.specs.declared.refusal.Refusal.TheVariants.{Memory};
 ghost use Rattle.jr_arrival.specs.Settled.{WantsMore};
 ghost use Rattle.jr_arrival.specs.Parts.{part_of};
-ghost use Rattle.jri_memory.specs.Rows.{GivesRows, IsRefusedPlace, LacksRoomForRow, LacksRows, LiesInside, LiesOutside, SkipsRows, TellsPartialFault, TellsNoRows, TellsNothing, are_all, file_part};
+ghost use Rattle.jri_memory.specs.Rows.{ReturnsRows, IsRefusedPlace, LacksSpaceForRow, LacksRows, LiesInside, LiesOutside, SkipsRows, ReportsPartialFault, ReportsNoRows, ReportsNothing, are_all, file_part};
 
 use crate::answers::status_of;
 use crate::places::{
@@ -16,7 +16,7 @@ use jr_arrival::{FileBytes, RowPlace};
 use std::alloc::Global;
 
 /// Reports why a position is not moved, and returns the status.
-fn tell_why(unmoved: PlaceError, report: &mut RowsReport) -> u32
+fn report_undone(unmoved: PlaceError, report: &mut RowsReport) -> u32
     ensures undone { result ≢ 0 }
     ensures undamaged { result ≢ 3 }
     ensures few { result ≢ 11 → result ≤ 5 }
@@ -24,16 +24,16 @@ fn tell_why(unmoved: PlaceError, report: &mut RowsReport) -> u32
     ensures memory { result ≡ 1 → report.new.refusal ≡ 19 }
     ensures by_memory { result ≡ 1 → unmoved ≡ PlaceError.Refused Memory }
     ensures each_memory { unmoved ≡ PlaceError.Refused Memory → result ≡ 1 }
-    ensures room { result ≡ 4 → unmoved ≡ PlaceError.NoRoom }
-    ensures each_room { unmoved ≡ PlaceError.NoRoom → result ≡ 4 }
-    ensures room_alone { result ≡ 4 → TellsNothing report.new }
+    ensures space { result ≡ 4 → unmoved ≡ PlaceError.BufferTooSmall }
+    ensures each_space { unmoved ≡ PlaceError.BufferTooSmall → result ≡ 4 }
+    ensures space_alone { result ≡ 4 → ReportsNothing report.new }
     ensures rows { result ≡ 5 → unmoved ≡ PlaceError.NoRows }
     ensures each_rows { unmoved ≡ PlaceError.NoRows → result ≡ 5 }
-    ensures rows_alone { result ≡ 5 → TellsNothing report.new }
+    ensures rows_alone { result ≡ 5 → ReportsNothing report.new }
     ensures outside { result ≡ 11 → unmoved ≡ PlaceError.NotInWindow }
     ensures each_outside { unmoved ≡ PlaceError.NotInWindow → result ≡ 11 }
-    ensures outside_alone { result ≡ 11 → TellsNothing report.new }
-    ensures no_rows { TellsNoRows report.new }
+    ensures outside_alone { result ≡ 11 → ReportsNothing report.new }
+    ensures no_rows { ReportsNoRows report.new }
 {
     match unmoved {
         PlaceError::Refused(refusal) => {
@@ -44,7 +44,7 @@ fn tell_why(unmoved: PlaceError, report: &mut RowsReport) -> u32
             *report = RowsReport::empty();
             NO_LINES
         }
-        PlaceError::NoRoom => {
+        PlaceError::BufferTooSmall => {
             *report = RowsReport::empty();
             BUFFER_TOO_SMALL
         }
@@ -68,16 +68,16 @@ pub fn decode_file_rows(
     pixels: &mut [u8],
     report: &mut RowsReport,
 ) -> u32
-    ensures given { result ≡ 0 → GivesRows file.now (file_part file.now more) rows place.old place.new pixels.old pixels.new report.new }
-    ensures refused { result ≡ 2 → TellsPartialFault file.now (are_all more) report.new }
+    ensures given { result ≡ 0 → ReturnsRows file.now (file_part file.now more) rows place.old place.new pixels.old pixels.new report.new }
+    ensures refused { result ≡ 2 → ReportsPartialFault file.now (are_all more) report.new }
     ensures memory { result ≡ 1 → report.new.refusal ≡ 19 }
-    ensures room { result ≡ 4 → LacksRoomForRow file.now place.old rows (length pixels.old) }
-    ensures each_room { LacksRoomForRow file.now place.old rows (length pixels.old) → result ≢ 1 → result ≡ 4 }
-    ensures room_alone { result ≡ 4 → TellsNothing report.new }
+    ensures space { result ≡ 4 → LacksSpaceForRow file.now place.old rows (length pixels.old) }
+    ensures each_space { LacksSpaceForRow file.now place.old rows (length pixels.old) → result ≢ 1 → result ≡ 4 }
+    ensures space_alone { result ≡ 4 → ReportsNothing report.new }
     ensures rows { result ≡ 5 → LacksRows file.now place.old rows }
     ensures each_rows { LacksRows file.now place.old rows → result ≢ 1 → result ≡ 5 }
-    ensures rows_alone { result ≡ 5 → TellsNothing report.new }
-    ensures no_rows { result ≢ 0 → TellsNoRows report.new }
+    ensures rows_alone { result ≡ 5 → ReportsNothing report.new }
+    ensures no_rows { result ≢ 0 → ReportsNoRows report.new }
     ensures pixels { result ≢ 0 → pixels.new ≡ pixels.old }
     ensures place { result ≢ 0 → place.new ≡ place.old }
     ensures undamaged { result ≢ 3 }
@@ -96,7 +96,7 @@ pub fn decode_file_rows(
             *report = decoded;
             OK
         }
-        Err(unmoved) => tell_why(unmoved, report),
+        Err(unmoved) => report_undone(unmoved, report),
     }
 }
 
@@ -113,13 +113,13 @@ pub fn skip_file_rows(
     report: &mut RowsReport,
 ) -> u32
     ensures skipped { result ≡ 0 → SkipsRows file.now (file_part file.now more) rows place.old place.new report.new }
-    ensures refused { result ≡ 2 → TellsPartialFault file.now (are_all more) report.new }
+    ensures refused { result ≡ 2 → ReportsPartialFault file.now (are_all more) report.new }
     ensures memory { result ≡ 1 → report.new.refusal ≡ 19 }
     ensures rows { result ≡ 5 → LacksRows file.now place.old rows }
     ensures each_rows { LacksRows file.now place.old rows → result ≢ 1 → result ≡ 5 }
-    ensures rows_alone { result ≡ 5 → TellsNothing report.new }
-    ensures no_room { result ≢ 4 }
-    ensures no_rows { result ≢ 0 → TellsNoRows report.new }
+    ensures rows_alone { result ≡ 5 → ReportsNothing report.new }
+    ensures no_space { result ≢ 4 }
+    ensures no_rows { result ≢ 0 → ReportsNoRows report.new }
     ensures place { result ≢ 0 → place.new ≡ place.old }
     ensures undamaged { result ≢ 3 }
     ensures few { result ≤ 5 }
@@ -137,7 +137,7 @@ pub fn skip_file_rows(
             *report = skipped;
             OK
         }
-        Err(unmoved) => tell_why(unmoved, report),
+        Err(unmoved) => report_undone(unmoved, report),
     }
 }
 
@@ -152,20 +152,20 @@ pub fn decode_window_rows(
     pixels: &mut [u8],
     report: &mut RowsReport,
 ) -> u32
-    ensures given { result ≡ 0 → GivesRows header.now (part_of window.entry) rows place.old place.new pixels.old pixels.new report.new }
-    ensures refused { result ≡ 2 → TellsPartialFault header.now window.entry.are_all report.new }
+    ensures given { result ≡ 0 → ReturnsRows header.now (part_of window.entry) rows place.old place.new pixels.old pixels.new report.new }
+    ensures refused { result ≡ 2 → ReportsPartialFault header.now window.entry.are_all report.new }
     ensures memory { result ≡ 1 → report.new.refusal ≡ 19 }
-    ensures room { result ≡ 4 → LacksRoomForRow header.now place.old rows (length pixels.old) }
-    ensures each_room { LacksRoomForRow header.now place.old rows (length pixels.old) → result ≢ 1 → result ≢ 11 → result ≡ 4 }
-    ensures room_alone { result ≡ 4 → TellsNothing report.new }
+    ensures space { result ≡ 4 → LacksSpaceForRow header.now place.old rows (length pixels.old) }
+    ensures each_space { LacksSpaceForRow header.now place.old rows (length pixels.old) → result ≢ 1 → result ≢ 11 → result ≡ 4 }
+    ensures space_alone { result ≡ 4 → ReportsNothing report.new }
     ensures rows { result ≡ 5 → LacksRows header.now place.old rows }
     ensures each_rows { LacksRows header.now place.old rows → result ≢ 1 → result ≡ 5 }
-    ensures rows_alone { result ≡ 5 → TellsNothing report.new }
+    ensures rows_alone { result ≡ 5 → ReportsNothing report.new }
     ensures inside { result ≡ 0 → WantsMore header.now ⊎ LiesInside header.now (part_of window.entry) place.old rows }
     ensures outside { result ≡ 11 → LiesOutside header.now (part_of window.entry) place.old rows }
     ensures each_outside { LiesOutside header.now (part_of window.entry) place.old rows → result ≢ 1 → result ≡ 11 }
-    ensures outside_alone { result ≡ 11 → TellsNothing report.new }
-    ensures no_rows { result ≢ 0 → TellsNoRows report.new }
+    ensures outside_alone { result ≡ 11 → ReportsNothing report.new }
+    ensures no_rows { result ≢ 0 → ReportsNoRows report.new }
     ensures pixels { result ≢ 0 → pixels.new ≡ pixels.old }
     ensures place { result ≢ 0 → place.new ≡ place.old }
     ensures undamaged { result ≢ 3 }
@@ -177,7 +177,7 @@ pub fn decode_window_rows(
             *report = decoded;
             OK
         }
-        Err(unmoved) => tell_why(unmoved, report),
+        Err(unmoved) => report_undone(unmoved, report),
     }
 }
 
@@ -192,17 +192,17 @@ pub fn skip_window_rows(
     report: &mut RowsReport,
 ) -> u32
     ensures skipped { result ≡ 0 → SkipsRows header.now (part_of window.entry) rows place.old place.new report.new }
-    ensures refused { result ≡ 2 → TellsPartialFault header.now window.entry.are_all report.new }
+    ensures refused { result ≡ 2 → ReportsPartialFault header.now window.entry.are_all report.new }
     ensures memory { result ≡ 1 → report.new.refusal ≡ 19 }
     ensures rows { result ≡ 5 → LacksRows header.now place.old rows }
     ensures each_rows { LacksRows header.now place.old rows → result ≢ 1 → result ≡ 5 }
-    ensures rows_alone { result ≡ 5 → TellsNothing report.new }
+    ensures rows_alone { result ≡ 5 → ReportsNothing report.new }
     ensures inside { result ≡ 0 → WantsMore header.now ⊎ LiesInside header.now (part_of window.entry) place.old rows }
     ensures outside { result ≡ 11 → LiesOutside header.now (part_of window.entry) place.old rows }
     ensures each_outside { LiesOutside header.now (part_of window.entry) place.old rows → result ≢ 1 → result ≡ 11 }
-    ensures outside_alone { result ≡ 11 → TellsNothing report.new }
-    ensures no_room { result ≢ 4 }
-    ensures no_rows { result ≢ 0 → TellsNoRows report.new }
+    ensures outside_alone { result ≡ 11 → ReportsNothing report.new }
+    ensures no_space { result ≢ 4 }
+    ensures no_rows { result ≢ 0 → ReportsNoRows report.new }
     ensures place { result ≢ 0 → place.new ≡ place.old }
     ensures undamaged { result ≢ 3 }
     ensures few { result ≢ 11 → result ≤ 5 }
@@ -213,6 +213,6 @@ pub fn skip_window_rows(
             *report = skipped;
             OK
         }
-        Err(unmoved) => tell_why(unmoved, report),
+        Err(unmoved) => report_undone(unmoved, report),
     }
 }

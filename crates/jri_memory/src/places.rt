@@ -5,11 +5,11 @@ ghost use Rattle.jr_segments.specs.declared.refusal.Refusal.TheVariants.{Memory}
 ghost use Rattle.jr_head.specs.Heads.{HeadOf};
 ghost use Rattle.jr_arrival.specs.Parts.{part_of};
 ghost use Rattle.jr_arrival.specs.Settled.{WantsMore};
-ghost use Rattle.jri_memory.specs.Rows.{GivesRows, HasRowAt, IsInPart, IsPartialFault, IsWhy, LiesInside, SkipsRows};
+ghost use Rattle.jri_memory.specs.Rows.{ReturnsRows, HasRowAt, IsInPart, IsPartialFault, IsWhy, LiesInside, SkipsRows};
 
 use crate::file_head::head_of;
 use crate::rows_report::RowsReport;
-use jr_arrival::{FileBytes, RowPlace, decode_rows, rows_with_room, skip_rows, stands_at};
+use jr_arrival::{FileBytes, RowPlace, decode_rows, is_position, rows_with_space, skip_rows};
 use jr_head::Head;
 use jr_segments::Refusal;
 use std::alloc::Global;
@@ -22,7 +22,7 @@ pub(crate) enum PlaceError {
     /// The image has no row of MCUs there, or none was asked for.
     NoRows,
     /// The pixels are too small for the next row's lines.
-    NoRoom,
+    BufferTooSmall,
     /// The position is not in the window.
     NotInWindow,
 }
@@ -39,7 +39,7 @@ fn has_row_at(head: &Head, place: &RowPlace, rows: u32) -> bool
     ensures there { result ≡ true → HasRowAt head.now place.now rows }
     ensures not_there { result ≡ false → HasRowAt head.now place.now rows → ⊥ }
 {
-    0 < rows && place.row < head.mcus_down() && stands_at(head, place)
+    0 < rows && place.row < head.mcus_down() && is_position(head, place)
 }
 
 /// Returns whether a position of an image is at a byte of a window, or after its last one.
@@ -76,7 +76,7 @@ fn decode_there(
     pixels: &mut [u8],
 ) -> Result<RowsReport, PlaceError>
     requires { HeadOf source.header.now head.now }
-    ensures given { IfOk result (λ r. GivesRows source.entry.header.now (part_of source.entry.window) rows place.old place.new pixels.old pixels.new r) }
+    ensures given { IfOk result (λ r. ReturnsRows source.entry.header.now (part_of source.entry.window) rows place.old place.new pixels.old pixels.new r) }
     ensures why { IfErr result (IsWhy source.entry.header.now (part_of source.entry.window) place.old rows (length pixels.old)) }
     ensures inside { result ≢ Err PlaceError.NotInWindow }
     ensures place { IfErr result (λ _. place.new ≡ place.old) }
@@ -85,8 +85,8 @@ fn decode_there(
     if !has_row_at(head, place, rows) {
         return Err(PlaceError::NoRows);
     }
-    if rows_with_room(head, place.row, pixels.len()) == 0 {
-        return Err(PlaceError::NoRoom);
+    if rows_with_space(head, place.row, pixels.len()) == 0 {
+        return Err(PlaceError::BufferTooSmall);
     }
     let Ok(next) = decode_rows(alloc, head, source.window, place, rows, pixels) else {
         return Err(PlaceError::Refused(Refusal::Memory));
@@ -104,7 +104,7 @@ pub(crate) fn decode_from(
     rows: u32,
     pixels: &mut [u8],
 ) -> Result<RowsReport, PlaceError>
-    ensures given { IfOk result (λ r. GivesRows source.entry.header.now (part_of source.entry.window) rows place.old place.new pixels.old pixels.new r) }
+    ensures given { IfOk result (λ r. ReturnsRows source.entry.header.now (part_of source.entry.window) rows place.old place.new pixels.old pixels.new r) }
     ensures why { IfErr result (IsWhy source.entry.header.now (part_of source.entry.window) place.old rows (length pixels.old)) }
     ensures inside { result ≢ Err PlaceError.NotInWindow }
     ensures place { IfErr result (λ _. place.new ≡ place.old) }
@@ -126,10 +126,10 @@ pub(crate) fn decode_in_window(
     rows: u32,
     pixels: &mut [u8],
 ) -> Result<RowsReport, PlaceError>
-    ensures given { IfOk result (λ r. GivesRows source.entry.header.now (part_of source.entry.window) rows place.old place.new pixels.old pixels.new r) }
+    ensures given { IfOk result (λ r. ReturnsRows source.entry.header.now (part_of source.entry.window) rows place.old place.new pixels.old pixels.new r) }
     ensures why { IfErr result (IsWhy source.entry.header.now (part_of source.entry.window) place.old rows (length pixels.old)) }
     ensures inside { OnOk result (WantsMore source.entry.header.now ⊎ LiesInside source.entry.header.now (part_of source.entry.window) place.old rows) }
-    ensures room { result ≡ Err PlaceError.NoRoom → LiesInside source.entry.header.now (part_of source.entry.window) place.old rows }
+    ensures space { result ≡ Err PlaceError.BufferTooSmall → LiesInside source.entry.header.now (part_of source.entry.window) place.old rows }
     ensures place { IfErr result (λ _. place.new ≡ place.old) }
     ensures pixels { IfErr result (λ _. pixels.new ≡ pixels.old) }
 {
@@ -158,8 +158,8 @@ fn skip_there(
 ) -> Result<RowsReport, PlaceError>
     requires { HeadOf source.header.now head.now }
     ensures skipped { IfOk result (λ r. SkipsRows source.entry.header.now (part_of source.entry.window) rows place.old place.new r) }
-    ensures why { IfErr result (λ e. (room : ℕ) → IsWhy source.entry.header.now (part_of source.entry.window) place.old rows room e) }
-    ensures other { result ≢ Err PlaceError.NoRoom }
+    ensures why { IfErr result (λ e. (space : ℕ) → IsWhy source.entry.header.now (part_of source.entry.window) place.old rows space e) }
+    ensures other { result ≢ Err PlaceError.BufferTooSmall }
     ensures inside { result ≢ Err PlaceError.NotInWindow }
     ensures place { IfErr result (λ _. place.new ≡ place.old) }
 {
@@ -182,8 +182,8 @@ pub(crate) fn skip_from(
     rows: u32,
 ) -> Result<RowsReport, PlaceError>
     ensures skipped { IfOk result (λ r. SkipsRows source.entry.header.now (part_of source.entry.window) rows place.old place.new r) }
-    ensures why { IfErr result (λ e. (room : ℕ) → IsWhy source.entry.header.now (part_of source.entry.window) place.old rows room e) }
-    ensures other { result ≢ Err PlaceError.NoRoom }
+    ensures why { IfErr result (λ e. (space : ℕ) → IsWhy source.entry.header.now (part_of source.entry.window) place.old rows space e) }
+    ensures other { result ≢ Err PlaceError.BufferTooSmall }
     ensures inside { result ≢ Err PlaceError.NotInWindow }
     ensures place { IfErr result (λ _. place.new ≡ place.old) }
 {
@@ -203,8 +203,8 @@ pub(crate) fn skip_in_window(
     rows: u32,
 ) -> Result<RowsReport, PlaceError>
     ensures skipped { IfOk result (λ r. SkipsRows source.entry.header.now (part_of source.entry.window) rows place.old place.new r) }
-    ensures why { IfErr result (λ e. (room : ℕ) → IsWhy source.entry.header.now (part_of source.entry.window) place.old rows room e) }
-    ensures other { result ≢ Err PlaceError.NoRoom }
+    ensures why { IfErr result (λ e. (space : ℕ) → IsWhy source.entry.header.now (part_of source.entry.window) place.old rows space e) }
+    ensures other { result ≢ Err PlaceError.BufferTooSmall }
     ensures inside { OnOk result (WantsMore source.entry.header.now ⊎ LiesInside source.entry.header.now (part_of source.entry.window) place.old rows) }
     ensures place { IfErr result (λ _. place.new ≡ place.old) }
 {

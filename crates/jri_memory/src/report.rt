@@ -2,7 +2,7 @@
 
 ghost use Rattle.std.specs.Prelude.{◌≡◌, length};
 ghost use Rattle.jr_segments.specs.Refusal.{number_of};
-ghost use Rattle.jri_memory.specs.Calls.{TellsScanEnd, TellsNoPicture, TellsNoRefusal, detail_of};
+ghost use Rattle.jri_memory.specs.Calls.{ReportsScanEnd, ReportsNoPicture, ReportsNoRefusal, detail_of};
 
 use jr_cut::ScanEnd;
 use jr_picture::Counts;
@@ -52,8 +52,8 @@ pub fn detail(refusal: Refusal) -> u64
 impl DecodeReport {
     /// Returns the report whose numbers are all 0.
     pub const fn empty() -> DecodeReport
-        ensures no_picture { TellsNoPicture result }
-        ensures no_fault { TellsNoRefusal result }
+        ensures no_picture { ReportsNoPicture result }
+        ensures no_fault { ReportsNoRefusal result }
     {
         DecodeReport {
             intervals: 0,
@@ -71,7 +71,7 @@ impl DecodeReport {
 
     /// Returns the report of a refusal.
     pub(crate) fn refused(refusal: Refusal) -> DecodeReport
-        ensures no_picture { TellsNoPicture result }
+        ensures no_picture { ReportsNoPicture result }
         ensures number { result.refusal ≡ number_of refusal }
         ensures detail { result.detail ≡ detail_of refusal }
     {
@@ -84,8 +84,8 @@ impl DecodeReport {
 
     /// Returns a report of what ended a scan.
     pub(crate) fn ended(end: ScanEnd) -> DecodeReport
-        ensures end { TellsScanEnd end result }
-        ensures no_fault { TellsNoRefusal result }
+        ensures end { ReportsScanEnd end result }
+        ensures no_fault { ReportsNoRefusal result }
     {
         let mut report = DecodeReport::empty();
         (report.ended, report.found, report.due, report.at) = match end {
@@ -108,8 +108,8 @@ impl DecodeReport {
         ensures sound { result.sound ≡ counts.sound }
         ensures damaged { result.damaged ≡ counts.damaged }
         ensures blank { result.blank ≡ counts.blank }
-        ensures end { TellsScanEnd scan.now.ended result }
-        ensures no_fault { TellsNoRefusal result }
+        ensures end { ReportsScanEnd scan.now.ended result }
+        ensures no_fault { ReportsNoRefusal result }
     {
         DecodeReport {
             intervals: scan.intervals(),

@@ -3,9 +3,9 @@
 ghost use Rattle.std.specs.Prelude.{◌≡◌, ◌≢◌, ◌<◌, ◌≤◌, ℕ, List, length, IfOk, IfErr};
 ghost use Rattle.jr_cut.specs.declared.breaks.Break.{Break};
 ghost use Rattle.jr_segments.specs.Refusal.{number_of};
-ghost use Rattle.jri_memory.specs.Calls.{TellsFault, detail_of, over};
+ghost use Rattle.jri_memory.specs.Calls.{ReportsFault, detail_of, over};
 ghost use Rattle.jri_memory.specs.Filling.{listed_over};
-ghost use Rattle.jri_memory.specs.Resyncs.{IsResyncError, IsResyncOfFile, IsTooLongFile, LacksResyncRoom, ResyncsFile, TellsNoResync, TellsResync};
+ghost use Rattle.jri_memory.specs.Resyncs.{IsResyncError, IsResyncOfFile, IsTooLongFile, LacksResyncSpace, ResyncsFile, ReportsNoResync, ReportsResync};
 
 use crate::filling::{list_breaks, write_over};
 use crate::report::DecodeReport;
@@ -51,7 +51,7 @@ pub(crate) enum ResyncError {
 impl ResyncReport {
     /// Returns the report whose numbers are all 0.
     const fn empty() -> ResyncReport
-        ensures nothing { TellsNoResync result }
+        ensures nothing { ReportsNoResync result }
         ensures no_refusal { result.refusal ≡ 0 }
         ensures no_detail { result.detail ≡ 0 }
     {
@@ -69,7 +69,7 @@ impl ResyncReport {
 
     /// Returns the report of a refusal.
     fn refused(refusal: Refusal) -> ResyncReport
-        ensures nothing { TellsNoResync result }
+        ensures nothing { ReportsNoResync result }
         ensures number { result.refusal ≡ number_of refusal }
         ensures detail { result.detail ≡ detail_of refusal }
     {
@@ -82,7 +82,7 @@ impl ResyncReport {
 
     /// Returns the report of a resynchronised file.
     fn of(resynced: &Resynced) -> ResyncReport
-        ensures { TellsResync resynced.now result }
+        ensures { ReportsResync resynced.now result }
     {
         let end = DecodeReport::ended(resynced.ended);
         ResyncReport {
@@ -115,16 +115,16 @@ fn resync_of_file(alloc: Global, file: &[u8]) -> Result<Resynced, ResyncError>
 }
 
 /// Writes a resynchronised file and its breaks, and returns the status. If the file does not fit nothing is written.
-fn put_resynced(
+fn write_resynced(
     resynced: &Resynced,
     out: &mut [u8],
     breaks: &mut [Break],
     report: &mut ResyncReport,
 ) -> u32
-    ensures reported { TellsResync resynced.now report.new }
+    ensures reported { ReportsResync resynced.now report.new }
     ensures written { result ≡ 0 → out.new ≡ over resynced.now.file.items out.old }
     ensures listed { result ≡ 0 → breaks.new ≡ listed_over resynced.now.breaks.items breaks.old }
-    ensures room { result ≡ 4 → length out.old < report.new.size }
+    ensures space { result ≡ 4 → length out.old < report.new.size }
     ensures out { result ≢ 0 → out.new ≡ out.old }
     ensures breaks { result ≢ 0 → breaks.new ≡ breaks.old }
     ensures few { result ≢ 0 → result ≡ 4 }
@@ -139,14 +139,14 @@ fn put_resynced(
 }
 
 /// Reports why a file is not resynchronised, and returns the status.
-fn tell_resync_error(error: ResyncError, report: &mut ResyncReport) -> u32
+fn report_resync_error(error: ResyncError, report: &mut ResyncReport) -> u32
     ensures undone { result ≢ 0 }
     ensures fits { result ≢ 4 }
-    ensures refused { result ≡ 2 → (file : List ℕ) → IsResyncError file error → TellsFault file report.new.refusal report.new.detail }
+    ensures refused { result ≡ 2 → (file : List ℕ) → IsResyncError file error → ReportsFault file report.new.refusal report.new.detail }
     ensures memory { result ≡ 1 → report.new.refusal ≡ 19 }
     ensures long { result ≡ 8 → (file : List ℕ) → IsResyncError file error → IsTooLongFile file }
     ensures long_alone { result ≡ 8 → report.new.refusal ≡ 0 }
-    ensures nothing { TellsNoResync report.new }
+    ensures nothing { ReportsNoResync report.new }
     ensures few { result ≢ 1 → result ≢ 2 → result ≡ 8 }
 {
     match error {
@@ -172,18 +172,18 @@ pub fn resynchronise_file(
     report: &mut ResyncReport,
 ) -> u32
     ensures done { result ≡ 0 → ResyncsFile file.now out.old out.new breaks.old breaks.new report.new }
-    ensures refused { result ≡ 2 → TellsFault file.now report.new.refusal report.new.detail }
+    ensures refused { result ≡ 2 → ReportsFault file.now report.new.refusal report.new.detail }
     ensures memory { result ≡ 1 → report.new.refusal ≡ 19 }
-    ensures room { result ≡ 4 → LacksResyncRoom file.now (length out.old) report.new }
+    ensures space { result ≡ 4 → LacksResyncSpace file.now (length out.old) report.new }
     ensures long { result ≡ 8 → IsTooLongFile file.now }
     ensures long_alone { result ≡ 8 → report.new.refusal ≡ 0 }
-    ensures nothing { result ≢ 0 → result ≢ 4 → TellsNoResync report.new }
+    ensures nothing { result ≢ 0 → result ≢ 4 → ReportsNoResync report.new }
     ensures out { result ≢ 0 → out.new ≡ out.old }
     ensures breaks { result ≢ 0 → breaks.new ≡ breaks.old }
     ensures few { result ≢ 0 → result ≢ 1 → result ≢ 2 → result ≢ 4 → result ≡ 8 }
 {
     match resync_of_file(alloc, file) {
-        Ok(resynced) => put_resynced(&resynced, out, breaks, report),
-        Err(error) => tell_resync_error(error, report),
+        Ok(resynced) => write_resynced(&resynced, out, breaks, report),
+        Err(error) => report_resync_error(error, report),
     }
 }

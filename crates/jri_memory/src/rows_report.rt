@@ -4,7 +4,7 @@ ghost use Rattle.std.specs.Prelude.{◌≡◌, ◌+◌, ◌≤◌};
 ghost use Rattle.jr_segments.specs.Refusal.{number_of};
 ghost use Rattle.jr_arrival.specs.Places.{lines_above, lines_between};
 ghost use Rattle.jri_memory.specs.Calls.{detail_of};
-ghost use Rattle.jri_memory.specs.Rows.{TellsNoRows, TellsNothing};
+ghost use Rattle.jri_memory.specs.Rows.{ReportsNoRows, ReportsNothing};
 
 use crate::report::detail;
 use jr_arrival::{lines_before, lines_between};
@@ -30,7 +30,7 @@ pub struct RowsReport {
 impl RowsReport {
     /// Returns the report whose numbers are all 0.
     pub const fn empty() -> RowsReport
-        ensures { TellsNothing result }
+        ensures { ReportsNothing result }
     {
         RowsReport {
             rows: 0,
@@ -43,7 +43,7 @@ impl RowsReport {
 
     /// Returns the report of a refusal.
     pub(crate) fn refused(refusal: Refusal) -> RowsReport
-        ensures no_rows { TellsNoRows result }
+        ensures no_rows { ReportsNoRows result }
         ensures number { result.refusal ≡ number_of refusal }
         ensures detail { result.detail ≡ detail_of refusal }
     {

@@ -11,10 +11,10 @@ use jr_segments::Refusal;
 use std::io::{Cursor, Write};
 
 /// Maximum length in bytes of the text of a refusal.
-const ROOM: usize = 64;
+const SPACE: usize = 64;
 
 /// Maximum length in bytes of a text of another kind.
-const LONG_ROOM: usize = 96;
+const LONG_SPACE: usize = 96;
 
 /// Returns the refusal of this number and detail.
 fn refusal_of(number: u32, detail: u64) -> Option<Refusal>
@@ -58,16 +58,16 @@ pub fn refusal_text(number: u32, detail: u64, text: &mut [u8]) -> usize
     let Some(refusal) = refusal_of(number, detail) else {
         return 0;
     };
-    let mut line = Cursor::new([0; ROOM]);
+    let mut line = Cursor::new([0; SPACE]);
     let _ = write!(line, "{refusal}");
     // no contract of `write!` says that it writes anything
-    let length = (line.position() as usize).clamp(1, ROOM).min(text.len());
+    let length = (line.position() as usize).clamp(1, SPACE).min(text.len());
     text[..length].copy_from_slice(&line.get_ref()[..length]);
     length
 }
 
 /// Copies what is written on a line into `text`, as much as fits, and returns its length in bytes.
-fn put_line(line: &Cursor<[u8; LONG_ROOM]>, text: &mut [u8]) -> usize
+fn write_line(line: &Cursor<[u8; LONG_SPACE]>, text: &mut [u8]) -> usize
     ensures some { 0 < length text.old → 0 < result }
     ensures few { result ≤ length text.new }
     ensures most { result ≤ 96 }
@@ -75,7 +75,7 @@ fn put_line(line: &Cursor<[u8; LONG_ROOM]>, text: &mut [u8]) -> usize
 {
     // no contract of `write!` says that it writes anything
     let length = (line.position() as usize)
-        .clamp(1, LONG_ROOM)
+        .clamp(1, LONG_SPACE)
         .min(text.len());
     text[..length].copy_from_slice(&line.get_ref()[..length]);
     length
@@ -104,9 +104,9 @@ pub fn end_text(report: &DecodeReport, text: &mut [u8]) -> usize
         5 => ScanEnd::EndOfFile,
         _ => return 0,
     };
-    let mut line = Cursor::new([0; LONG_ROOM]);
+    let mut line = Cursor::new([0; LONG_SPACE]);
     let _ = write!(line, "scan ended at {ended}");
-    put_line(&line, text)
+    write_line(&line, text)
 }
 
 /// Writes the name and the version of the build into `text`, as much as fits, with no 0 after it, and returns its
@@ -117,8 +117,8 @@ pub fn build_text(text: &mut [u8]) -> usize
     ensures most { result ≤ 96 }
     ensures kept { drop result text.new ≡ drop result text.old }
 {
-    let mut line = Cursor::new([0; LONG_ROOM]);
+    let mut line = Cursor::new([0; LONG_SPACE]);
     let version = VERSION.trim_end();
     let _ = write!(line, "jri {version}");
-    put_line(&line, text)
+    write_line(&line, text)
 }

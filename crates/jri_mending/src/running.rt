@@ -27,7 +27,7 @@ pub(crate) const FAILED: u8 = 4;
 pub(crate) const WRONG: u8 = 2;
 
 /// The text for arguments that are not text.
-const UNTOLD: &str = "an argument is not valid UTF-8\n";
+const UNREPORTED: &str = "an argument is not valid UTF-8\n";
 
 /// The text for a file that would go to a terminal.
 const ONTO_TERMINAL: &str = "refusing to write the file to a terminal; use -o FILE\n";
@@ -60,7 +60,7 @@ fn requested<D: Devices>(
     let words = match words {
         Ok(words) => words,
         Err(error) if error.kind() == ErrorKind::OutOfMemory => return Err(Unasked::Memory),
-        Err(_) => return Err(wrong(alloc, UNTOLD)),
+        Err(_) => return Err(wrong(alloc, UNREPORTED)),
     };
     let asked = asked(alloc, &words)?;
     match &asked.target {

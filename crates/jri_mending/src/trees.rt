@@ -3,7 +3,7 @@
 ghost use Rattle.std.specs.Prelude.{◌≡◌, IfOk, length};
 
 use crate::reading::CopyError;
-use jri_machine::{FolderWalk, NamedFile, ReadError};
+use jri_machine::{DirectoryWalk, NamedFile, ReadError};
 use jri_words::Devices;
 use std::alloc::{AllocError, Global};
 use std::cmp::Ordering;
@@ -14,7 +14,7 @@ use std::mem::replace;
 pub(crate) struct Tree {
     /// The size of its name with a slash at its end, in bytes.
     root: usize,
-    walk: FolderWalk,
+    walk: DirectoryWalk,
     next: Option<NamedFile>,
 }
 
@@ -64,7 +64,7 @@ impl Tree {
     /// Starts the search of a directory.
     fn of<D: Devices>(alloc: Global, devices: &D, name: &str) -> Result<Tree, AllocError> {
         let list = |name: &str| devices.entries(name);
-        let mut walk = FolderWalk::of(alloc);
+        let mut walk = DirectoryWalk::of(alloc);
         let next = match walk.start(&list, name.as_bytes().to_vec(alloc)?)? {
             Some(file) => Some(file),
             None => walk.next(&list)?,

@@ -87,7 +87,7 @@ fn is_unread<R: Threads + Wait + Sync + AllocGlobal>(rt: &R, input: Device<'_>) 
 
 /// The smallest file has 143 bytes, so call 144 reports its end.
 #[test]
-fn tells_an_input_that_fails_at_one_call(rt: HostRuntime) -> Result<(), Fail> {
+fn reports_an_input_that_fails_at_one_call(rt: HostRuntime) -> Result<(), Fail> {
     let bytes = file(rt.alloc(), "G 63 E")?;
     for kind in [ErrorKind::Other, ErrorKind::Interrupted] {
         for failing in 1..=144 {
@@ -104,7 +104,7 @@ fn tells_an_input_that_fails_at_one_call(rt: HostRuntime) -> Result<(), Fail> {
 
 /// A larger file is not read at once, and its call 2 or 3 fails.
 #[test]
-fn tells_a_large_input_that_fails(rt: HostRuntime) -> Result<(), Fail> {
+fn reports_a_large_input_that_fails(rt: HostRuntime) -> Result<(), Fail> {
     let bytes = file(rt.alloc(), "G 63 70000*FF E")?;
     for (count, failing) in [(65_536, 2), (65_537, 3), (70_000, 3)] {
         let mut input = Device::new(rt.alloc(), front(bytes.as_slice(), count), 65_536);
@@ -223,7 +223,7 @@ const LARGER: [Output; 4] = [
 ];
 
 #[test]
-fn tells_an_output_that_fails_at_one_call(rt: HostRuntime) -> Result<(), Fail> {
+fn reports_an_output_that_fails_at_one_call(rt: HostRuntime) -> Result<(), Fail> {
     for outputs in [SMALL.as_slice(), LARGER.as_slice()] {
         for output in outputs {
             if !is_written(&rt, output)? {
@@ -298,7 +298,7 @@ impl Write for Barred {
 }
 
 /// Returns whether exactly these lines are written, each by one call.
-fn is_told<O: Write + Drop>(
+fn is_reported<O: Write + Drop>(
     alloc: Global,
     out: O,
     outcome: Result<Report, Fault>,
@@ -360,23 +360,23 @@ const COUNTS: &str = "intervals 4294967295 sound 1234567890 damaged 9 blank 0\n|
 
 /// Each line by one call, the longest among them; and the line of an output that cannot be flushed.
 #[test]
-fn tells_each_line_at_once(rt: HostRuntime) -> Result<(), Fail> {
+fn reports_each_line_at_once(rt: HostRuntime) -> Result<(), Fail> {
     let alloc = rt.alloc();
     for (ended, line) in &ENDS {
         let lines = format!(in alloc; "{COUNTS}{line}")?;
-        if !is_told(alloc, Vec::new(alloc), Ok(report(*ended)), lines.as_str()) {
+        if !is_reported(alloc, Vec::new(alloc), Ok(report(*ended)), lines.as_str()) {
             return Err(Fail::from(*line));
         }
     }
     for (fault, line) in &FAULTS {
-        if !is_told(alloc, Vec::new(alloc), Err(*fault), line) {
+        if !is_reported(alloc, Vec::new(alloc), Err(*fault), line) {
             return Err(Fail::from(*line));
         }
     }
     let bytes = Vec::new(alloc);
     let outcome = Ok(report(ScanEnd::EndOfImage));
     assert!(rt;
-        is_told(
+        is_reported(
             alloc,
             Barred { bytes },
             outcome,

@@ -126,7 +126,7 @@ const PASSING: [(&str, Option<u32>, u32); 11] = [
 ];
 
 #[test]
-fn tells_a_gate_each_of_the_first_intervals_once(rt: HostRuntime) -> Result<(), Fail> {
+fn reports_a_gate_each_of_the_first_intervals_once(rt: HostRuntime) -> Result<(), Fail> {
     for (words, first, passed) in &PASSING {
         let scan = scan(rt.alloc(), words)?;
         let calls = calls_of_run(&rt, words, true, *first)?;
@@ -159,7 +159,7 @@ fn makes_pieces_of_small_pictures_alone(rt: HostRuntime) -> Result<(), Fail> {
 
 /// An interval that all workers share, strip by strip, passes once, and has one piece.
 #[test]
-fn tells_a_gate_a_long_interval_once(rt: HostRuntime) -> Result<(), Fail> {
+fn reports_a_gate_a_long_interval_once(rt: HostRuntime) -> Result<(), Fail> {
     for workers in [1, 2, 4] {
         let calls = Calls::new();
         let scan = scan(rt.alloc(), LONG)?;

@@ -52,7 +52,7 @@ fn mcu_of(first: u8) -> [u8; 94] {
 }
 
 /// Appends an MCU, after a restart marker if it is the first of another interval. Returns `false` if there is no memory for it.
-fn put_mcu(bytes: &mut Vec<u8>, mcu: u32, first: u8) -> bool {
+fn store_mcu(bytes: &mut Vec<u8>, mcu: u32, first: u8) -> bool {
     if mcu > 0 && mcu % RESTART == 0 {
         let marker = 0xD0 + ((mcu / RESTART).wrapping_sub(1) % 8) as u8;
         if bytes.extend_from_slice(&[0xFF, marker]).is_err() {
@@ -70,7 +70,7 @@ fn long_file(alloc: Global, damaged: Option<u32>) -> Result<Vec<u8>, Fail> {
         if damaged == Some(mcu) {
             first = NO_CODE;
         }
-        if !put_mcu(&mut bytes, mcu, first) {
+        if !store_mcu(&mut bytes, mcu, first) {
             return Err(Fail::from("out of memory"));
         }
     }
@@ -189,7 +189,7 @@ fn has_taken_over<R: Threads + Wait + Clock + Sync + AllocGlobal>(
     requires some { 1 ≤ workers }
     requires few { workers ≤ MAX_WORKERS }
 {
-    for _ in 0..MOST_RUNS {
+    for _ in 0..MAX_RUNS {
         let run = run_by(rt, bytes, workers, MILLIS)?;
         if !run.is_same(alone) {
             return Err(Fail::from("another image"));
@@ -216,7 +216,7 @@ fn time_to_read<R: Threads + Wait + Clock + Sync + AllocGlobal>(
 /// The time for which a gate holds an interval, in milliseconds.
 const MILLIS: u64 = 5;
 
-const MOST_RUNS: u32 = 40;
+const MAX_RUNS: u32 = 40;
 
 /// With two workers each row is read in turn, so that the rows between two intervals take the time to read them. With more a
 /// held interval lets the others read ahead, and then the rows are skipped in a part of that time. If no three threads

@@ -42,18 +42,18 @@ module _ (are_devices : List ℕ → Type 0) (existing : Existing) (name : List 
   ended part a b c (Ok report) made p q = inr (part, follow a b c (Created part ∷ []) (Synced part ∷ placed existing part name ∷ []) made p)
   ended part a b c (Err f) made p q = inr (inr (part, b, made, q))
 
-damage_tells : (b : Bool) → is_picture_status (if b then 0 else 3) ≡ true
-damage_tells true = refl
-damage_tells false = refl
+damage_reports : (b : Bool) → is_picture_status (if b then 0 else 3) ≡ true
+damage_reports true = refl
+damage_reports false = refl
 
 -- the exit status says whether an image was written
-pub status_tells : (r : Result Report Fault) (n : ℕ) → IfOk r (λ report. n ≡ report_status report false) → IfErr r (λ f. n ≡ fault_status f) → is_picture_status n ≡ is_ok r
-status_tells (Ok report) n p q = rw p (damage_tells (report.damaged == 0))
-status_tells (Err fault.Read) n p q = rw q refl
-status_tells (Err (fault.Refused f)) n p q = rw q refl
-status_tells (Err fault.Memory) n p q = rw q refl
-status_tells (Err fault.Write) n p q = rw q refl
-status_tells (Err fault.NoFile) n p q = rw q refl
+pub status_reports : (r : Result Report Fault) (n : ℕ) → IfOk r (λ report. n ≡ report_status report false) → IfErr r (λ f. n ≡ fault_status f) → is_picture_status n ≡ is_ok r
+status_reports (Ok report) n p q = rw p (damage_reports (report.damaged == 0))
+status_reports (Err fault.Read) n p q = rw q refl
+status_reports (Err (fault.Refused f)) n p q = rw q refl
+status_reports (Err fault.Memory) n p q = rw q refl
+status_reports (Err fault.Write) n p q = rw q refl
+status_reports (Err fault.NoFile) n p q = rw q refl
 
 -- the files after a run that opens no device
 pub without_devices : (are_devices : List ℕ → Type 0) (existing : Existing) (name : List ℕ) (a b : Option (List Step)) (is_written : Bool)

@@ -7,7 +7,7 @@ use std::io::{Cursor, Error, Result as IoResult, Write};
 
 /// Size in bytes of the longest line, rounded up: text of 61 letters, a number of 20 digits, a name of 4,095 bytes, a reason of
 /// 256 and the line's end.
-const LINE_ROOM: usize = 4608;
+const LINE_SPACE: usize = 4608;
 
 /// The context of a line, written after its text: nothing, or a name and the system's reason.
 #[derive(Clone, Copy)]
@@ -37,10 +37,10 @@ pub(crate) fn write_line<E: Write, T: Display + Drop>(
     text: T,
     context: LineContext<'_>,
 ) -> IoResult<()> {
-    let mut line = Cursor::new([0; LINE_ROOM]);
+    let mut line = Cursor::new([0; LINE_SPACE]);
     // a longer name is cut
     let _ = write!(line, "{text}{context}");
-    let length = (line.position() as usize).min(LINE_ROOM - 1);
+    let length = (line.position() as usize).min(LINE_SPACE - 1);
     let mut bytes = line.into_inner();
     bytes[length] = b'\n';
     errors.write_all(&bytes[..=length])

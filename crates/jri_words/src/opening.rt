@@ -15,7 +15,7 @@ use std::alloc::Global;
 use std::io::{Error, ErrorKind, Result as IoResult, Write};
 
 /// The text for arguments that are not text.
-const UNTOLD: &str = "an argument is not valid UTF-8; use: jri < FILE\n";
+const UNREPORTED: &str = "an argument is not valid UTF-8; use: jri < FILE\n";
 
 /// The text if standard input is a terminal.
 const WAITING: &str = "waiting for a JPEG file on standard input\n";
@@ -54,7 +54,7 @@ fn unread(alloc: Global, error: &Error) -> Unasked
     if error.kind() == ErrorKind::OutOfMemory {
         return Unasked::Memory;
     }
-    wrong(alloc, UNTOLD)
+    wrong(alloc, UNREPORTED)
 }
 
 /// Returns whether djpeg's option is among the arguments, before `--`.

@@ -9,7 +9,7 @@ use std::alloc::Global;
 use std::io::Write;
 
 /// The number of MCUs that fit into a speculative read.
-const MOST_MCUS: u32 = 4096;
+const MAX_MCUS: u32 = 4096;
 
 /// The use of speculative reads if a reader reads all intervals of a file with them, one after the other.
 #[derive(Clone, Copy)]
@@ -71,7 +71,7 @@ fn count_interval(alloc: Global, scan: &Scan, number: u32, counts: &mut GuessCou
     let windows = windows_of(scan, number);
     let bits = 8 * scan.interval_ref(number).bytes().len() as u64;
     let mut reader = McuReader::over(scan.interval_ref(number));
-    let mut guess = Guess::open(alloc, &scan.interval_ref(number), MOST_MCUS, false).ok()?;
+    let mut guess = Guess::open(alloc, &scan.interval_ref(number), MAX_MCUS, false).ok()?;
     pass_by(&mut reader, &guess, window_start(bits, 1, windows), counts);
     for k in 1..windows {
         let from = window_start(bits, k, windows);
@@ -102,7 +102,7 @@ pub(crate) fn guess_counts(alloc: Global, scan: &Scan) -> Option<GuessCounts> {
 }
 
 /// A line of these counts.
-pub(crate) fn tell_guesses<W: Write>(out: &mut W, counts: &GuessCounts) {
+pub(crate) fn report_guesses<W: Write>(out: &mut W, counts: &GuessCounts) {
     let GuessCounts {
         guesses,
         in_step,

@@ -26,7 +26,7 @@ mod times;
 mod writing;
 
 use caller::{Caller, scan_of};
-use guesses::{guess_counts, tell_guesses};
+use guesses::{guess_counts, report_guesses};
 use jr_scan::Scan;
 use std::io::Write;
 use std::process::ExitCode;
@@ -37,7 +37,7 @@ use std::{env, fs};
 use times::least_times;
 
 /// Reports whether a call is right; `None` if it reports that allocation fails.
-fn tell<W: Write>(out: &mut W, name: &str, outcome: Option<bool>) {
+fn report_outcome<W: Write>(out: &mut W, name: &str, outcome: Option<bool>) {
     let text = match outcome {
         Some(true) => "right",
         Some(false) => "wrong",
@@ -47,36 +47,40 @@ fn tell<W: Write>(out: &mut W, name: &str, outcome: Option<bool>) {
 }
 
 /// Makes each call on an interval or a scan, and reports what came of it.
-fn tell_of_scan<W: Write>(out: &mut W, caller: &mut Caller<'_>) {
-    tell(out, "Interval::read", caller.read(0));
-    tell(out, "Interval::read, damaged", caller.read(1));
-    tell(out, "Piece::make", caller.make_piece(0));
-    tell(out, "Piece::make, damaged", caller.make_piece(1));
-    tell(out, "StripReader::next", caller.read_strip());
-    tell(out, "CodedStrip::decode", caller.decode_strip());
-    tell(out, "Scan::cut", caller.cut());
-    tell(out, "Scan::cut_in_place", caller.cut_in_place());
+fn report_of_scan<W: Write>(out: &mut W, caller: &mut Caller<'_>) {
+    report_outcome(out, "Interval::read", caller.read(0));
+    report_outcome(out, "Interval::read, damaged", caller.read(1));
+    report_outcome(out, "Piece::make", caller.make_piece(0));
+    report_outcome(out, "Piece::make, damaged", caller.make_piece(1));
+    report_outcome(out, "StripReader::next", caller.read_strip());
+    report_outcome(out, "CodedStrip::decode", caller.decode_strip());
+    report_outcome(out, "Scan::cut", caller.cut());
+    report_outcome(out, "Scan::cut_in_place", caller.cut_in_place());
 }
 
 /// Makes each call on a board or on cells, and reports what came of it.
-fn tell_of_cells<W: Write>(out: &mut W, caller: &mut Caller<'_>) {
-    tell(out, "Board::new", caller.open_board());
-    tell(out, "Desk::open", caller.open_desk());
-    tell(out, "Cells::open", caller.open_cells());
-    tell(out, "Cells::sight", caller.open_sight());
-    tell(out, "Cells::hang", caller.hang());
-    tell(out, "StripCells::open", caller.open_strip_cells());
-    tell(out, "StripCells::sight", caller.open_strip_sight());
-    tell(out, "StripCells::hang", caller.hang_strip());
+fn report_of_cells<W: Write>(out: &mut W, caller: &mut Caller<'_>) {
+    report_outcome(out, "Board::new", caller.open_board());
+    report_outcome(out, "Desk::open", caller.open_desk());
+    report_outcome(out, "Cells::open", caller.open_cells());
+    report_outcome(out, "Cells::sight", caller.open_sight());
+    report_outcome(out, "Cells::hang", caller.hang());
+    report_outcome(out, "StripCells::open", caller.open_strip_cells());
+    report_outcome(out, "StripCells::sight", caller.open_strip_sight());
+    report_outcome(out, "StripCells::hang", caller.hang_strip());
 }
 
 /// Makes each call that decodes the file, and reports what came of it.
-fn tell_of_file<R: Threads + Wait + Sync, W: Write>(rt: &R, out: &mut W, caller: &mut Caller<'_>) {
-    tell(out, "Decoding::open", caller.open_decoding());
-    tell(out, "Decoding::finish", caller.finish_decoding());
-    tell(out, "write_scan", caller.write());
-    tell(out, "write_scan_by", caller.write_by(rt));
-    tell(out, "paint_scan_lines", caller.paint_lines());
+fn report_of_file<R: Threads + Wait + Sync, W: Write>(
+    rt: &R,
+    out: &mut W,
+    caller: &mut Caller<'_>,
+) {
+    report_outcome(out, "Decoding::open", caller.open_decoding());
+    report_outcome(out, "Decoding::finish", caller.finish_decoding());
+    report_outcome(out, "write_scan", caller.write());
+    report_outcome(out, "write_scan_by", caller.write_by(rt));
+    report_outcome(out, "paint_scan_lines", caller.paint_lines());
 }
 
 /// What is done with the arguments after one that names it.
@@ -105,27 +109,27 @@ fn scan_at(rt: &HostRuntime, name: &str) -> Option<Arc<Scan>> {
 }
 
 /// Reports the times of a file's decoding. `None` if there is no such file, or memory or a thread is refused.
-fn tell_times_of<R: Threads + Wait + Clock + Sync>(
+fn report_times_of<R: Threads + Wait + Clock + Sync>(
     rt: &HostRuntime,
     threads: &R,
     name: &str,
 ) -> Option<()> {
     let scan = scan_at(rt, name)?;
     let times = least_times(threads, rt.alloc(), &scan)?;
-    times::tell(&mut rt.stdout(), &times);
+    times::report_outcome(&mut rt.stdout(), &times);
     Some(())
 }
 
 /// Reports the use of speculative reads of a file. `None` if there is no such file, or allocation fails.
-fn tell_guesses_of(rt: &HostRuntime, name: &str) -> Option<()> {
+fn report_guesses_of(rt: &HostRuntime, name: &str) -> Option<()> {
     let scan = scan_at(rt, name)?;
     let counts = guess_counts(rt.alloc(), &scan)?;
-    tell_guesses(&mut rt.stdout(), &counts);
+    report_guesses(&mut rt.stdout(), &counts);
     Some(())
 }
 
 /// Makes each call on a file, and reports what came of them. `None` if there is no such file.
-fn tell_calls_on<R: Threads + Wait + Sync>(
+fn report_calls_on<R: Threads + Wait + Sync>(
     rt: &HostRuntime,
     threads: &R,
     name: &str,
@@ -133,9 +137,9 @@ fn tell_calls_on<R: Threads + Wait + Sync>(
     let file = fs::read(rt, name).ok()?;
     let mut caller = Caller::of(rt.alloc(), file.as_slice(), rt.stderr())?;
     let mut out = rt.stdout();
-    tell_of_scan(&mut out, &mut caller);
-    tell_of_cells(&mut out, &mut caller);
-    tell_of_file(threads, &mut out, &mut caller);
+    report_of_scan(&mut out, &mut caller);
+    report_of_cells(&mut out, &mut caller);
+    report_of_file(threads, &mut out, &mut caller);
     Some(())
 }
 
@@ -147,9 +151,9 @@ fn run<R: Threads + Wait + Clock + Sync>(
     word: &str,
 ) -> u8 {
     let done = match task {
-        Task::Times => tell_times_of(rt, threads, word),
-        Task::Guesses => tell_guesses_of(rt, word),
-        Task::Calls => tell_calls_on(rt, threads, word),
+        Task::Times => report_times_of(rt, threads, word),
+        Task::Guesses => report_guesses_of(rt, word),
+        Task::Calls => report_calls_on(rt, threads, word),
         Task::PartialFile => return partial_file::show_input(rt, word),
     };
     if done.is_some() { 0 } else { 1 }

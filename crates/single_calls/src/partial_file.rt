@@ -6,7 +6,7 @@ ghost use Rattle.std.specs.Prelude.{◌≤◌};
 use jr_arrival::{Finished, PartialFile};
 use jr_base::Memory;
 use jr_head::Head;
-use jr_paint::{HEADER_ROOM, put_header};
+use jr_paint::{HEADER_SPACE, write_header};
 use jr_picture::Counts;
 use jr_rows::{paint_scan_lines, shape_of};
 use jr_scan::Scan;
@@ -19,7 +19,7 @@ use std::mem::replace;
 const MAX_PART: usize = 1 << 30;
 
 /// More lines than an image has.
-const MOST_LINES: u32 = 65_536;
+const MAX_LINES: u32 = 65_536;
 
 /// The reason why there is no image, or no whole one.
 #[derive(Clone, Copy)]
@@ -54,16 +54,16 @@ impl From<Refusal> for Failure {
 }
 
 /// Returns the size of that number of lines in bytes, and no more than fit.
-fn bytes_of(head: &Head, lines: u32, room: usize) -> usize
-    ensures { result ≤ room }
+fn bytes_of(head: &Head, lines: u32, space: usize) -> usize
+    ensures { result ≤ space }
 {
     (lines as usize)
         .saturating_mul(shape_of(head).line)
-        .min(room)
+        .min(space)
 }
 
 /// Allocates `pixels` for the lines of a row of MCUs and for the header, and writes the header.
-fn write_header<W: Write>(
+fn write_file_header<W: Write>(
     alloc: Global,
     head: &Head,
     pixels: &mut Vec<u8>,
@@ -71,8 +71,8 @@ fn write_header<W: Write>(
 ) -> Result<(), Failure> {
     let shape = shape_of(head);
     let lines = (shape.deep as usize).saturating_mul(shape.line);
-    drop(replace(pixels, vec![in alloc; 0; lines.max(HEADER_ROOM)]?));
-    let filled = put_header(head, pixels.as_mut_slice());
+    drop(replace(pixels, vec![in alloc; 0; lines.max(HEADER_SPACE)]?));
+    let filled = write_header(head, pixels.as_mut_slice());
     Ok(out.write_all(&pixels[..filled])?)
 }
 
@@ -85,7 +85,7 @@ fn begin<W: Write>(
 ) -> Result<(), Failure> {
     partial_file.begin(alloc)?;
     match partial_file.head() {
-        Some(head) if pixels.is_empty() => write_header(alloc, head, pixels, out),
+        Some(head) if pixels.is_empty() => write_file_header(alloc, head, pixels, out),
         _ => Ok(()),
     }
 }
@@ -118,7 +118,7 @@ fn write_settled<W: Write>(
     if pixels.is_empty() {
         return Ok(());
     }
-    for _ in 0..MOST_LINES {
+    for _ in 0..MAX_LINES {
         if !write_next(alloc, partial_file, pixels, out)? {
             break;
         }
@@ -169,7 +169,7 @@ fn write_missing<W: Write>(
     out: &mut W,
 ) -> Result<(), Failure> {
     if pixels.is_empty() {
-        write_header(alloc, scan.head(), pixels, out)?;
+        write_file_header(alloc, scan.head(), pixels, out)?;
     }
     let rest = rest_of(alloc, scan, lines)?;
     Ok(out.write_all(rest.as_slice())?)
@@ -212,7 +212,7 @@ fn report<E: Write>(errors: &mut E, counts: &Counts) -> u8 {
 }
 
 /// Reports why there is no image, or no whole one, and returns the exit status.
-fn tell<E: Write>(errors: &mut E, failure: Failure) -> u8 {
+fn report_outcome<E: Write>(errors: &mut E, failure: Failure) -> u8 {
     let _ = match failure {
         Failure::Stream => writeln!(errors, "a stream failed"),
         Failure::Refused(Refusal::Memory) => writeln!(errors, "out of memory"),
@@ -235,6 +235,6 @@ pub(crate) fn show_input(rt: &HostRuntime, word: &str) -> u8 {
     };
     match show(rt.alloc(), part, &mut rt.stdin(), &mut out) {
         Ok(counts) => report(&mut errors, &counts),
-        Err(failure) => tell(&mut errors, failure),
+        Err(failure) => report_outcome(&mut errors, failure),
     }
 }

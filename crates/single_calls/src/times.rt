@@ -66,7 +66,7 @@ pub(crate) fn least_times<R: Threads + Wait + Clock + Sync>(
 }
 
 /// A line for each number of workers.
-pub(crate) fn tell<W: Write>(out: &mut W, times: &[u128; NUMBERS]) {
+pub(crate) fn report_outcome<W: Write>(out: &mut W, times: &[u128; NUMBERS]) {
     for k in 0..NUMBERS {
         let _ = writeln!(out, "{} {}", WORKERS[k], times[k]);
     }

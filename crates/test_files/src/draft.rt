@@ -83,7 +83,7 @@ impl Draft {
     }
 
     /// Appends the bytes that pairs of hexadecimal digits write.
-    pub(crate) fn put_hex(&mut self, digits: &str) {
+    pub(crate) fn write_hex(&mut self, digits: &str) {
         for pair in digits.as_bytes().as_chunks::<2>().0 {
             let high = self.digit(pair[0]);
             let low = self.digit(pair[1]);
@@ -92,12 +92,12 @@ impl Draft {
     }
 
     /// Appends pairs of digits, or a number of times a pair.
-    pub(crate) fn put_digits(&mut self, word: &str) {
+    pub(crate) fn write_digits(&mut self, word: &str) {
         match word.split_once('*') {
-            None => self.put_hex(word),
+            None => self.write_hex(word),
             Some((times, digits)) => {
                 for _ in 0..self.number(times, 10) {
-                    self.put_hex(digits);
+                    self.write_hex(digits);
                 }
             }
         }

@@ -108,19 +108,19 @@ fn text_of<'a>(table: &[(&'a str, &'a str)], word: &str) -> Option<&'a str> {
 }
 
 /// Appends digits, and for each bar among them the next argument.
-fn put_form(draft: &mut Draft, digits: &str, arguments: &str) {
+fn write_form(draft: &mut Draft, digits: &str, arguments: &str) {
     let mut values = arguments.split(':');
     for word in digits.split_whitespace() {
         if word == "|" {
-            draft.put_hex(values.next().unwrap_or(""));
+            draft.write_hex(values.next().unwrap_or(""));
         } else {
-            draft.put_digits(word);
+            draft.write_digits(word);
         }
     }
 }
 
 /// Writes the given number of data units; those of each interval begin with other ones.
-fn put_units(draft: &mut Draft, number: u32, units: u32) {
+fn store_units(draft: &mut Draft, number: u32, units: u32) {
     let first = number.wrapping_mul(3);
     for k in 0..units.wrapping_mul(3).div_ceil(2) {
         draft.push(UNITS[first.wrapping_add(k) as usize % UNITS.len()]);
@@ -129,7 +129,7 @@ fn put_units(draft: &mut Draft, number: u32, units: u32) {
 
 /// Appends the intervals of a scan, as `0005:000C:0006`: the maximum number of MCUs of each, the number of all MCUs,
 /// and the number of data units of each. Each interval has whole bytes.
-fn put_scan(draft: &mut Draft, arguments: &str) {
+fn write_scan(draft: &mut Draft, arguments: &str) {
     let Some((each, rest)) = arguments.split_once(':') else {
         return draft.reject();
     };
@@ -143,7 +143,7 @@ fn put_scan(draft: &mut Draft, arguments: &str) {
         if number > 0 {
             draft.append(&[0xFF, 0xD0 + (number.wrapping_sub(1) % 8) as u8]);
         }
-        put_units(draft, number, each.min(left).wrapping_mul(units));
+        store_units(draft, number, each.min(left).wrapping_mul(units));
         left = left.saturating_sub(each);
     }
 }
@@ -159,36 +159,36 @@ fn change(draft: &mut Draft, arguments: &str) {
 }
 
 /// Appends a part with arguments, or changes the bytes before it.
-fn put_named(draft: &mut Draft, name: &str, arguments: &str) {
+fn write_named(draft: &mut Draft, name: &str, arguments: &str) {
     match name {
         "cut" => {
             let length = draft.number(arguments, 10);
             draft.truncate(length);
         }
         "at" => change(draft, arguments),
-        "M" => put_scan(draft, arguments),
+        "M" => write_scan(draft, arguments),
         _ => match text_of(&FORMS, name) {
-            Some(digits) => put_form(draft, digits, arguments),
+            Some(digits) => write_form(draft, digits, arguments),
             None => draft.reject(),
         },
     }
 }
 
 /// Appends a part, or digits.
-fn put_part(draft: &mut Draft, word: &str) {
+fn write_part(draft: &mut Draft, word: &str) {
     match word.split_once(':') {
-        Some((name, arguments)) => put_named(draft, name, arguments),
+        Some((name, arguments)) => write_named(draft, name, arguments),
         None => match text_of(&PARTS, word) {
-            Some(digits) => put_form(draft, digits, ""),
-            None => draft.put_digits(word),
+            Some(digits) => write_form(draft, digits, ""),
+            None => draft.write_digits(word),
         },
     }
 }
 
 /// Appends the bytes of a text; groups of parts are not among its words.
-fn put_parts(draft: &mut Draft, words: &str) {
+fn write_parts(draft: &mut Draft, words: &str) {
     for word in words.split_whitespace() {
-        put_part(draft, word);
+        write_part(draft, word);
     }
 }
 
@@ -197,8 +197,8 @@ pub fn file(alloc: Global, words: &str) -> Result<Vec<u8>, NotationError> {
     let mut draft = Draft::new(alloc);
     for word in words.split_whitespace() {
         match text_of(&GROUPS, word) {
-            Some(parts) => put_parts(&mut draft, parts),
-            None => put_part(&mut draft, word),
+            Some(parts) => write_parts(&mut draft, parts),
+            None => write_part(&mut draft, word),
         }
     }
     draft.finish()

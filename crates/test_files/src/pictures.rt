@@ -9,7 +9,7 @@ use crate::error::NotationError;
 use std::alloc::{AllocError, Global};
 
 /// Appends the bytes of a pixel, as `229,77,128`.
-fn put_pixel(draft: &mut Draft, pixel: &str) {
+fn write_pixel(draft: &mut Draft, pixel: &str) {
     for sample in pixel.split(',') {
         let value = draft.number(sample, 10);
         draft.push((value % 256) as u8);
@@ -17,31 +17,31 @@ fn put_pixel(draft: &mut Draft, pixel: &str) {
 }
 
 /// Appends a number of times the bytes of a pixel, as `16*229,77,128`.
-fn put_run(draft: &mut Draft, word: &str) {
+fn write_run(draft: &mut Draft, word: &str) {
     match word.split_once('*') {
         Some((times, pixel)) => {
             for _ in 0..draft.number(times, 10) {
-                put_pixel(draft, pixel);
+                write_pixel(draft, pixel);
             }
         }
         None => draft.reject(),
     }
 }
 
-fn put_line(draft: &mut Draft, line: &str) {
+fn write_line(draft: &mut Draft, line: &str) {
     for word in line.split_whitespace() {
-        put_run(draft, word);
+        write_run(draft, word);
     }
 }
 
 /// Writes a line, as often as `8x` before it says, otherwise the given number of times.
-fn put_lines(draft: &mut Draft, line: &str, times: u32) {
+fn write_lines(draft: &mut Draft, line: &str, times: u32) {
     let (times, line) = match line.split_once('x') {
         Some((digits, line)) => (draft.number(digits.trim(), 10), line),
         None => (times, line),
     };
     for _ in 0..times {
-        put_line(draft, line);
+        write_line(draft, line);
     }
 }
 
@@ -51,7 +51,7 @@ pub fn header(alloc: Global, magic: &str, width: u32, height: u32) -> Result<Str
 }
 
 /// Appends the first lines of an image, as `P5 16 8`, and returns the number of its lines.
-fn put_header(draft: &mut Draft, size: &str) -> u32 {
+fn write_header(draft: &mut Draft, size: &str) -> u32 {
     let Some((magic, size)) = size.split_once(' ') else {
         draft.reject();
         return 0;
@@ -71,10 +71,10 @@ pub fn picture(alloc: Global, words: &str) -> Result<Vec<u8>, NotationError> {
         return Err(NotationError::Malformed);
     };
     let mut draft = Draft::new(alloc);
-    let height = put_header(&mut draft, size);
+    let height = write_header(&mut draft, size);
     let times = if lines.contains('/') { 1 } else { height };
     for line in lines.split('/') {
-        put_lines(&mut draft, line, times);
+        write_lines(&mut draft, line, times);
     }
     draft.finish()
 }

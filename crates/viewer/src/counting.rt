@@ -12,11 +12,11 @@ pub struct Counter<'a, E> {
     pub all: u32,
     pub seen: u32,
     pub damaged: u32,
-    pub told: u32,
+    pub reported: u32,
 }
 
 /// Reports how many can be seen, and how many of them are damaged.
-pub fn tell_of<W: Write>(seen: u32, damaged: u32, out: &mut W) {
+pub fn report_of<W: Write>(seen: u32, damaged: u32, out: &mut W) {
     let plural = if seen == 1 { "" } else { "s" };
     let _ = writeln!(
         out,
@@ -26,8 +26,8 @@ pub fn tell_of<W: Write>(seen: u32, damaged: u32, out: &mut W) {
 
 impl<E> Counter<'_, E> {
     /// Reports how many can be seen.
-    pub fn tell<W: Write>(&self, out: &mut W) {
-        tell_of(self.seen, self.damaged, out);
+    pub fn report<W: Write>(&self, out: &mut W) {
+        report_of(self.seen, self.damaged, out);
     }
 }
 
@@ -41,8 +41,8 @@ impl<E: Write> Screen for Counter<'_, E> {
 
     fn is_done(&mut self) -> bool {
         let (seen, all) = (self.seen, self.all);
-        if self.told < seen {
-            self.told = seen;
+        if self.reported < seen {
+            self.reported = seen;
             let _ = writeln!(self.errors, "{seen} of {all} intervals");
         }
         seen == all

@@ -76,11 +76,11 @@ fn show_counts<R: Threads + Wait + Clock + Sync, W: Write, E: Write>(
         all: scan.intervals(),
         seen: 0,
         damaged: 0,
-        told: 0,
+        reported: 0,
     };
     match watch(rt, alloc, scan, WORKERS, &OpenGate, &mut counter) {
         Ok(_decoding) => {
-            counter.tell(out);
+            counter.report(out);
             Ok(())
         }
         Err(refused) => Err(refused),
@@ -122,7 +122,7 @@ fn show_word<R: Threads + Wait + Clock + Sync, W: Write, E: Write>(
     if word == "-" {
         return match partial_image::show(rt.alloc(), &mut rt.stdin(), has_frames, out) {
             Ok(()) => Ok(()),
-            Err(failure) => Err(failure.tell(errors)),
+            Err(failure) => Err(failure.report(errors)),
         };
     }
     match scan_of(rt, word, errors) {

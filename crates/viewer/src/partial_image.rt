@@ -1,9 +1,9 @@
 //! Shows an image while its file arrives on standard input.
 
-use crate::counting::tell_of;
+use crate::counting::report_of;
 use jr_base::Memory;
 use jr_head::{Head, Refusal};
-use jr_paint::{HEADER_ROOM, Tally, put_header};
+use jr_paint::{HEADER_SPACE, Tally, write_header};
 use jr_view::{FinishedView, PartialView};
 use std::alloc::{AllocError, Global};
 use std::io::{Error, Read, Write};
@@ -48,7 +48,7 @@ impl From<Refusal> for Failure {
 
 impl Failure {
     /// Reports the reason, and returns the exit status.
-    pub fn tell<E: Write>(self, errors: &mut E) -> u8 {
+    pub fn report<E: Write>(self, errors: &mut E) -> u8 {
         match self {
             Failure::Stream => {
                 let _ = writeln!(errors, "cannot read the file");
@@ -68,8 +68,8 @@ fn write_lines<W: Write>(head: &Head, lines: &[u8], out: &mut Tally<W>) {
     if out.failed() {
         return;
     }
-    let mut header = [0; HEADER_ROOM];
-    let end = put_header(head, &mut header);
+    let mut header = [0; HEADER_SPACE];
+    let end = write_header(head, &mut header);
     let _ = out.write_all(&header[..end]);
     let _ = out.write_all(lines);
     let _ = out.flush();
@@ -128,7 +128,7 @@ fn show_finished<W: Write>(
         write_lines(scan.head(), &pixels, out);
     } else {
         let (sound, damaged) = (counts.sound, counts.damaged);
-        tell_of(sound.saturating_add(damaged), damaged, out);
+        report_of(sound.saturating_add(damaged), damaged, out);
     }
     Ok(())
 }

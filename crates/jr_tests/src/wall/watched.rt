@@ -68,7 +68,7 @@ impl Counts {
 
 /// A view of what is reported to it.
 #[derive(Drop)]
-struct Told<'a> {
+struct Reports<'a> {
     view: View,
     counts: &'a Counts,
     pieces: u32,
@@ -78,7 +78,7 @@ struct Told<'a> {
     is_lazy: bool,
 }
 
-impl Told<'_> {
+impl Reports<'_> {
     /// Returns whether each piece was reported, with all that was awaited, and it was asked at least twice.
     fn is_right(&self, pieces: u32, awaited: &Awaited) -> bool {
         let asked = Counts::of(&self.counts.asked);
@@ -91,7 +91,7 @@ impl Told<'_> {
     }
 }
 
-impl<'a> Screen for Told<'a> {
+impl<'a> Screen for Reports<'a> {
     fn show_strip(&mut self, strip: &Strip) {
         self.view.show_strip(strip);
         self.is_late = self.is_late || self.pieces > 0;
@@ -144,7 +144,7 @@ impl<'a> Gate for Held<'a> {
 }
 
 /// Watches a file, and returns whether each piece was reported to the screen, it shows all, and it was asked at least twice.
-fn is_told<R: Threads + Wait + Clock + Sync + AllocGlobal>(
+fn is_reported<R: Threads + Wait + Clock + Sync + AllocGlobal>(
     rt: &R,
     words: &str,
     is_lazy: bool,
@@ -156,18 +156,25 @@ fn is_told<R: Threads + Wait + Clock + Sync + AllocGlobal>(
         counts: &counts,
         awaited: *awaited,
     };
-    let mut told = Told {
+    let mut reported = Reports {
         view: View::of(rt.alloc(), &scan)?,
         counts: &counts,
         pieces: 0,
         is_late: false,
         is_lazy,
     };
-    let decoding = watch(rt, rt.alloc(), Arc::try_clone(&scan)?, 2, &gate, &mut told)?;
+    let decoding = watch(
+        rt,
+        rt.alloc(),
+        Arc::try_clone(&scan)?,
+        2,
+        &gate,
+        &mut reported,
+    )?;
     Ok(
         decoding.finish().is_ok_and(|board| board.blank() == 0)
-            && told.is_right(scan.intervals(), awaited)
-            && shows_all(rt.alloc(), &told.view, &scan),
+            && reported.is_right(scan.intervals(), awaited)
+            && shows_all(rt.alloc(), &reported.view, &scan),
     )
 }
 
@@ -203,11 +210,11 @@ const FILES: [(&str, bool, Awaited); 9] = [
 ];
 
 #[test]
-fn tells_of_each_piece_and_of_what_is_there_while_workers_are_held(
+fn reports_of_each_piece_and_of_what_is_there_while_workers_are_held(
     rt: HostRuntime,
 ) -> Result<(), Fail> {
     for (words, is_lazy, awaited) in &FILES {
-        if !is_told(&rt, words, *is_lazy, awaited)? {
+        if !is_reported(&rt, words, *is_lazy, awaited)? {
             return Err(Fail::from(*words));
         }
     }

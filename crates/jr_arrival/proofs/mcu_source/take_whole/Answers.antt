@@ -1,5 +1,5 @@
 use Rattle.std.proofs.Common.{◌≡◌, ◌+◌, ◌-◌, ℕ, Option, Some, inl, inr, refl, sym, ap, subst, ◌∙◌, length, arith, rules}
-use Rattle.jr_head.specs.Geometry.{IsLawful}
+use Rattle.jr_head.specs.Geometry.{IsValid}
 use Rattle.jr_scan.specs.declared.place.Place.{Place}
 use Rattle.jr_scan.specs.declared.place.RunEnd.TheVariants.{AllRead}
 use Rattle.jr_scan.specs.Run.{HasNoMcu, IsRun, RunOf, run_from, CanReadFrom}
@@ -43,7 +43,7 @@ returns-clause-taken g c =
     let same = c.place-next.ensures.value in
     let run : IsRun (run_from i p n) taken.blocks q AllRead = subst (λ (x : Place). IsRun (run_from i p n) taken.blocks x AllRead) (sym same) (passed_place r.result u i i p left n taken.blocks refl r.ensures.run r.ensures.mcu e.run e.mcu taken.read) in
     let can : CanReadFrom i q = subst (λ (o : RunOf). CanReadFrom o.interval q) own (c.place-next.ensures.within, c.place-next.ensures.in_range) in
-    let lawful : IsLawful i.head = subst (λ (o : RunOf). IsLawful o.interval.head) own c.place-next.ensures.lawful in
+    let valid : IsValid i.head = subst (λ (o : RunOf). IsValid o.interval.head) own c.place-next.ensures.valid in
     let d : Cursor = record { number = k.number; mcu = k.mcu + n; place = Some q } in
     let whole : TakesWhole h i p g.K.McuSink.keeps c.args.done n k d (g.K.McuSink.groups c.args.sink.now) (g.K.McuSink.groups c.take-whole.new.self) = record {
       to = q;
@@ -56,13 +56,13 @@ returns-clause-taken g c =
       adds = taken.adds;
       none = λ z.
           let three : length p.predictions ≡ 3 = search rules in
-          let back : q ≡ p = nothing_read i p q taken.blocks lawful three (subst (λ (m : ℕ). IsRun (run_from i p m) taken.blocks q AllRead) z run) in
+          let back : q ≡ p = nothing_read i p q taken.blocks valid three (subst (λ (m : ℕ). IsRun (run_from i p m) taken.blocks q AllRead) z run) in
           let stuck : HasNoMcu i p = elim (e.none z) [
             | inl full ↦ absurd (omega (arith, full, most, e.mcu, r.ensures.mcu, z, c.mcus_in.ensures.value, c.requires.some))
             | inr last ↦ subst (HasNoMcu i) (sym same ∙ back) (subst (λ (o : RunOf). HasNoMcu o.interval u.place) own last)
           ] in
           (unmoved k (k.mcu + n) (Some q) (omega (arith, z)) (ap Some back ∙ sym c.requires.place), stuck);
-      lawful = subst IsLawful c.requires.head lawful;
+      valid = subst IsValid c.requires.head valid;
       units = omega (arith, c.order-some.ensures.some, c.order-some.ensures.count);
     } in
     search (rules, whole)

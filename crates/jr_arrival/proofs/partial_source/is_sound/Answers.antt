@@ -2,7 +2,7 @@ use Rattle.std.proofs.Common.{Option, sym, subst, ◌∙◌}
 use Rattle.jr_scan.specs.declared.place.Place.{Place}
 use Rattle.jr_scan.specs.IntervalValue.{IntervalValue}
 use Rattle.jr_scan.specs.ScanValue.{interval_of}
-use Rattle.jr_scan.specs.Mcus.{TellsSound}
+use Rattle.jr_scan.specs.Mcus.{ReportsSound}
 use Rattle.jr_scan.specs.Cursors.{IsPlaceAfter}
 use Rattle.jr_arrival.specs.PartialRows.{ReadsTo}
 use Rattle.jr_arrival.proofs.Readings.{none_sound, reads_there}
@@ -22,4 +22,4 @@ skip-requires-clause-at c =
     subst (λ (i : IntervalValue). IsPlaceAfter i r.mcu r.place) (sym (c.fork.ensures ∙ c.interval_ref-interval.ensures)) here
 
 pub returns : goal.returns
-returns c = subst (TellsSound c.is_sound.result) c.interval_ref-interval.ensures c.is_sound.ensures
+returns c = subst (ReportsSound c.is_sound.result) c.interval_ref-interval.ensures c.is_sound.ensures

@@ -7,13 +7,13 @@ pub mcus-init : goal.mcus-init
 mcus-init g c =
     let v = g.S.McuSource.value c.args.source.now in
     let h = c.args.head.now in
-    record { walks = walks_by h v v g.K.McuSink.keeps c.args.done (g.K.McuSink.groups c.args.sink.now) (nowhere h v c.requires.at) c.requires.within; room = c.requires.room }
+    record { walks = walks_by h v v g.K.McuSink.keeps c.args.done (g.K.McuSink.groups c.args.sink.now) (nowhere h v c.requires.at) c.requires.within; space = c.requires.space }
 
 pub walk_some-some-requires-clause-at : goal.walk_some-some-requires-clause-at
 walk_some-some-requires-clause-at g c = c.mcus.invariant.walks.steps.at
 
-pub walk_some-some-requires-clause-room : goal.walk_some-some-requires-clause-room
-walk_some-some-requires-clause-room g c = c.mcus.invariant.room
+pub walk_some-some-requires-clause-space : goal.walk_some-some-requires-clause-space
+walk_some-some-requires-clause-space g c = c.mcus.invariant.space
 
 pub walk_some-some-requires-clause-within : goal.walk_some-some-requires-clause-within
 walk_some-some-requires-clause-within g c = omega (arith, c.mcus-test.true, c.shape_of-across.ensures.across)
@@ -30,5 +30,5 @@ mcus-preserved g c =
     let e = c.walk_some-some.ensures in
     record {
       walks = walks_after c.args.head.now (value c.args.source.now) (value c.mcus.source) (value c.walk_some-some.new.source) g.K.McuSink.keeps c.args.done c.mcus.walked c.walk_some-some.result (groups c.args.sink.now) (groups c.mcus.sink) (groups c.walk_some-some.new.sink) c.mcus.invariant.walks e.walks;
-      room = e.room;
+      space = e.space;
     }

@@ -35,12 +35,12 @@ rows-preserved c =
     let within : to ≤ length old = search (rules, arith, c.span_of_row-from.ensures.within) in
     let long : length pix ≡ to - from = search (rules, arith, c.paint_row.auto.pixels, order, within) in
     let before : drop from old ≡ drop from c.args.pixels.now = ap (λ (k : ℕ). drop k old) from_is ∙ keep.kept ∙ ap (λ (k : ℕ). drop k c.args.pixels.now) (sym from_is) in
-    let behind : drop to (put_mid from (to - from) old pix) ≡ drop to c.args.pixels.now =
+    let after : drop to (put_mid from (to - from) old pix) ≡ drop to c.args.pixels.now =
     drop-put_mid from (to - from) old pix to (omega (arith, order)) (omega (arith, order, within)) long ∙ kept_more old c.args.pixels.now from to order before in
     let all : c.walk_row.result ≡ mcus_across h = omega (arith, walk.walks.few, c.if-walk_row-across.false, c.shape_of-across.ensures.across) in
     record {
       come = comes_on h c.args.file p c.rows.next c.rows.source come inside c.walk_row.new.source c.row_place-next.new.self c.walk_row.result new walk.walks.steps all (placed.steps h walk.walks.steps.at) next placed.interval placed.mcu (placed.place h);
-      room = c.paint_row.ensures.room;
+      space = c.paint_row.ensures.space;
       few = omega (arith, next, c.rows-test.true);
       long = search (rules, arith, keep.long, long, order, within);
       lines = λ whole t marks f may is shows.
@@ -57,7 +57,7 @@ rows-preserved c =
           ∙ take-put_mid from (to - from) old pix to (omega (arith, long, order)) (omega (arith, order, within))
           ∙ ap (λ (k : ℕ). take k old ++ pix) from_is
           ∙ ap (λ (z : List ℕ). z ++ pix) before ∙ ap (λ (z : List ℕ). next_lines_of h f y n ++ z) painted ∙ sym (next_lines_more h f y n m) ∙ ap (next_lines_of h f y) sum;
-      kept = ap (λ (k : ℕ). drop k (put_mid from (to - from) old pix)) (sym to_is) ∙ behind ∙ ap (λ (k : ℕ). drop k c.args.pixels.now) to_is;
+      kept = ap (λ (k : ℕ). drop k (put_mid from (to - from) old pix)) (sym to_is) ∙ after ∙ ap (λ (k : ℕ). drop k c.args.pixels.now) to_is;
     }
 
 pub returns-then-walk_row-across-clause-place : goal.returns-then-walk_row-across-clause-place
@@ -77,18 +77,18 @@ returns-then-walk_row-across-clause-all c all =
     let walk = c.walk_row.ensures in
     let waits = walk.waits (omega (arith, c.if-walk_row-across.true, c.shape_of-across.ensures.across)) in
     let wrong : true ≡ false = sym (ap (λ (f : FileBytes). f.are_all) (walk.walks.steps.part ∙ c.rows.invariant.come.file) ∙ all) ∙ waits.goes_on in
-    absurd (let told : true ≡ false = wrong in cc)
+    absurd (let stated : true ≡ false = wrong in cc)
 
-pub span_of_row-from-requires-clause-room : goal.span_of_row-from-requires-clause-room
-span_of_row-from-requires-clause-room c = omega (arith, c.end_of_rows-end.ensures.fits (c.rows.next.row + 1) (omega (arith, c.rows-test.true)), c.rows.invariant.long)
+pub span_of_row-from-requires-clause-space : goal.span_of_row-from-requires-clause-space
+span_of_row-from-requires-clause-space c = omega (arith, c.end_of_rows-end.ensures.fits (c.rows.next.row + 1) (omega (arith, c.rows-test.true)), c.rows.invariant.long)
 
 pub rows-init : goal.rows-init
 rows-init c =
     let h = c.args.head.now in
     let e = c.in_ok-source.ensures in
     record {
-      come = comes_first c.args.head.now c.args.file c.args.place.now c.in_ok-source.source c.requires.stands e.at e.file e.before e.right;
-      room = c.in_ok-samples.ensures;
+      come = comes_first c.args.head.now c.args.file c.args.place.now c.in_ok-source.source c.requires.lies e.at e.file e.before e.right;
+      space = c.in_ok-samples.ensures;
       few = omega (arith, c.end_of_rows-end.ensures.value);
       long = refl;
       lines = λ whole t marks f may is shows. no_lines h f (lines_above h c.args.place.now.row) (lines_between h c.args.place.now.row c.args.place.now.row) c.args.pixels.now (omega arith);

@@ -1,6 +1,6 @@
 use Rattle.std.proofs.Common.{◌≡◌, ◌-◌, ◌*◌, ◌≤◌, length, take, drop}
 use Rattle.jr_paint.specs.Lines.{line_size}
-use Rattle.jr_rows.specs.Rows.{HasSampleRoom}
+use Rattle.jr_rows.specs.Rows.{HasSampleSpace}
 use Rattle.jr_arrival.specs.Places.{lines_above, lines_between}
 use Rattle.jr_arrival.specs.Shown.{AreLines}
 use Rattle.jr_arrival.specs.Parts.{part_of}
@@ -12,7 +12,7 @@ invariant-rows l =
     let h = l.head in
     let bytes = lines_between h l.place.row l.next.row * line_size h in record {
       come : HasCome h l.file l.place l.next l.source;
-      room : HasSampleRoom h l.samples;
+      space : HasSampleSpace h l.samples;
       few : l.next.row ≤ l.end;
       long : length l.pixels ≡ length l.initial.pixels;
       lines : AreLines (part_of l.file) h l.place (lines_above h l.place.row) (lines_between h l.place.row l.next.row) (take bytes l.pixels);

@@ -9,8 +9,8 @@ pub rows-init : goal.rows-init
 rows-init c =
     let e = c.in_ok-source.ensures in
     record {
-      come = comes_first c.args.head.now c.args.file c.args.place.now c.in_ok-source.source c.requires.stands e.at e.file e.before e.right;
-      room = c.shape_of-shape.ensures.across;
+      come = comes_first c.args.head.now c.args.file c.args.place.now c.in_ok-source.source c.requires.lies e.at e.file e.before e.right;
+      space = c.shape_of-shape.ensures.across;
       few = omega arith;
     }
 
@@ -20,16 +20,16 @@ rows-preserved c =
     let walk = c.walk_row.ensures in
     let next = c.row_place-next.ensures in
     let most : c.min-most.result ≤ c.shape_of-shape.result.down - c.args.place.now.row = search (rules, arith) in
-    let inside : c.rows.next.row < mcus_down h = omega (arith, c.rows-test.true, most, c.shape_of-shape.ensures.down, c.requires.stands.row) in
+    let inside : c.rows.next.row < mcus_down h = omega (arith, c.rows-test.true, most, c.shape_of-shape.ensures.down, c.requires.lies.row) in
     let all : c.walk_row.result ≡ mcus_across h = omega (arith, walk.walks.few, c.if-walk_row-shape.false, c.shape_of-shape.ensures.across) in
     record {
       come = comes_on h c.args.file c.args.place.now c.rows.next c.rows.source c.rows.invariant.come inside c.walk_row.new.source c.row_place-next.new.self c.walk_row.result c.row_place-next.result walk.walks.steps all (next.steps h walk.walks.steps.at) next.row next.interval next.mcu (next.place h);
-      room = walk.room;
+      space = walk.space;
       few = omega (arith, next.row, c.rows-test.true);
     }
 
-pub walk_row-requires-clause-room : goal.walk_row-requires-clause-room
-walk_row-requires-clause-room c = c.rows.invariant.room
+pub walk_row-requires-clause-space : goal.walk_row-requires-clause-space
+walk_row-requires-clause-space c = c.rows.invariant.space
 
 pub returns-then-walk_row-shape-clause-place : goal.returns-then-walk_row-shape-clause-place
 returns-then-walk_row-shape-clause-place c whole t may is = (c.rows.invariant.come.place whole t may is).1
@@ -42,7 +42,7 @@ returns-then-walk_row-shape-clause-all c all =
     let walk = c.walk_row.ensures in
     let waits = walk.waits (omega (arith, c.if-walk_row-shape.true, c.shape_of-shape.ensures.across)) in
     let wrong : true ≡ false = sym (ap (λ (f : FileBytes). f.are_all) (walk.walks.steps.part ∙ c.rows.invariant.come.file) ∙ all) ∙ waits.goes_on in
-    absurd (let told : true ≡ false = wrong in cc)
+    absurd (let stated : true ≡ false = wrong in cc)
 
 pub returns-then-walk_row-shape-clause-most : goal.returns-then-walk_row-shape-clause-most
 returns-then-walk_row-shape-clause-most c lt =
@@ -50,7 +50,7 @@ returns-then-walk_row-shape-clause-most c lt =
     let walk = c.walk_row.ensures in
     let few : c.walk_row.result < mcus_across h = omega (arith, c.if-walk_row-shape.true, c.shape_of-shape.ensures.across) in
     let most : c.min-most.result ≤ c.shape_of-shape.result.down - c.args.place.now.row = search (rules, arith) in
-    let inside : c.rows.next.row < mcus_down h = omega (arith, c.rows-test.true, most, c.shape_of-shape.ensures.down, c.requires.stands.row) in
+    let inside : c.rows.next.row < mcus_down h = omega (arith, c.rows-test.true, most, c.shape_of-shape.ensures.down, c.requires.lies.row) in
     leaves_at h c.args.file c.args.place.now c.rows.next c.rows.source c.rows.invariant.come inside c.walk_row.new.source c.walk_row.result walk.walks.steps few (walk.waits (omega (arith, few)))
 
 pub returns-clause-most : goal.returns-clause-most

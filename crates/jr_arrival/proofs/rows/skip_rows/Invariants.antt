@@ -6,7 +6,7 @@ use Rattle.jr_arrival.proofs.rows.skip_rows.Given as goal
 abbrev pub invariant-rows : goal.invariant-rows
 invariant-rows l = record {
   come : HasCome l.head l.file l.place l.next l.source;
-  room : l.skipped.across ≡ mcus_across l.head;
+  space : l.skipped.across ≡ mcus_across l.head;
   few : l.next.row ≤ l.place.row + l.most;
 }
 

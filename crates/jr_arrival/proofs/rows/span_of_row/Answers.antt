@@ -13,5 +13,5 @@ returns-clause-count c =
     let line = c.shape_of-line.result.line in
     let next = next_row h c.assert_invariant.ensures.components.down first row c.requires.order c.requires.row in
     let before : c.lines_between.result ≡ lines_between h first row = c.lines_between.ensures.value in
-    let behind : c.lines_between-2.result ≡ c.lines_between.result + line_count h row = c.lines_between-2.ensures.value ∙ next ∙ ap (λ (k : ℕ). k + line_count h row) (sym before) in
-    ap (λ (k : ℕ). k * line) behind ∙ add-mul c.lines_between.result (line_count h row) line ∙ ap (λ (k : ℕ). c.lines_between.result * line + line_count h row * k) c.shape_of-line.ensures.line
+    let after : c.lines_between-2.result ≡ c.lines_between.result + line_count h row = c.lines_between-2.ensures.value ∙ next ∙ ap (λ (k : ℕ). k + line_count h row) (sym before) in
+    ap (λ (k : ℕ). k * line) after ∙ add-mul c.lines_between.result (line_count h row) line ∙ ap (λ (k : ℕ). c.lines_between.result * line + line_count h row * k) c.shape_of-line.ensures.line

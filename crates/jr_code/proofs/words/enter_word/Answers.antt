@@ -18,6 +18,6 @@ returns-clause-outside c = λ byte other.
     (λ before. c.loop-byte.invariant.before byte before)
     (λ from. ⊎_elim
     (λ to. absurd (other (begins (8 - c.args.long) byte c.args.code (omega (arith, from)) (omega (arith, to)))))
-    (λ behind. c.loop-byte.invariant.behind byte (omega (arith, behind)))
+    (λ after. c.loop-byte.invariant.after byte (omega (arith, after)))
     (cases_lt byte (c.args.code * (256 / 2 ^ c.args.long) + 256 / 2 ^ c.args.long)))
     (cases_lt byte (c.args.code * (256 / 2 ^ c.args.long)))

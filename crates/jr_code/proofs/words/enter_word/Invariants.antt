@@ -7,5 +7,5 @@ invariant-loop-byte l = record {
   all : length l.entries ≡ 256;
   inside : (b : ℕ) → b < l.byte → l.first ≤ b → slice_index_or l.entries b None ≡ Some (l.symbol, l.long);
   before : (b : ℕ) → b < l.first → slice_index_or l.entries b None ≡ slice_index_or l.fn.entries b None;
-  behind : (b : ℕ) → l.byte ≤ b → slice_index_or l.entries b None ≡ slice_index_or l.fn.entries b None;
+  after : (b : ℕ) → l.byte ≤ b → slice_index_or l.entries b None ≡ slice_index_or l.fn.entries b None;
 }

@@ -3,7 +3,7 @@ use Rattle.std.proofs.lemmas.List.{length-take-le}
 use Rattle.jr_head.specs.HeadValue.{HeadValue}
 use Rattle.jr_head.specs.Geometry.{mcus_down}
 use Rattle.jr_scan.specs.ScanValue.{ScanValue}
-use Rattle.jr_rows.specs.Rows.{HasSampleRoom, PaintsRowLines, line_count}
+use Rattle.jr_rows.specs.Rows.{HasSampleSpace, PaintsRowLines, line_count}
 use Rattle.jr_rows.proofs.PaintedRows.{shows}
 use Rattle.jr_crew.proofs.RowBuffers.{first_lines, lines_fit}
 use Rattle.jr_crew.proofs.row_buffer.decode_first.Goals as goal
@@ -57,12 +57,12 @@ paint_row-requires-clause-row c =
     let head = c.head-head.ensures.value ∙ ap (λ (s : ScanValue). s.head) c.scan.ensures in
     subst (λ (h : HeadValue). c.row-row.result < mcus_down h) (sym head) (subst (λ (k : ℕ). k < mcus_down c.args.part.now.scan.head) (sym c.row-row.ensures) c.requires.row)
 
-pub paint_row-requires-clause-room : goal.paint_row-requires-clause-room
-paint_row-requires-clause-room c =
+pub paint_row-requires-clause-space : goal.paint_row-requires-clause-space
+paint_row-requires-clause-space c =
     let head = c.head-head.ensures.value ∙ ap (λ (s : ScanValue). s.head) c.scan.ensures in
-    subst (λ (h : HeadValue). HasSampleRoom h c.decode-marked.new.work) (sym head) c.decode-marked.ensures.room
+    subst (λ (h : HeadValue). HasSampleSpace h c.decode-marked.new.work) (sym head) c.decode-marked.ensures.space
 
-pub returns-clause-room : goal.returns-clause-room
-returns-clause-room c =
+pub returns-clause-space : goal.returns-clause-space
+returns-clause-space c =
     let head = c.head-head.ensures.value ∙ ap (λ (s : ScanValue). s.head) c.scan.ensures in
-    subst (λ (h : HeadValue). HasSampleRoom h c.paint_row.new.self) head c.paint_row.ensures.room
+    subst (λ (h : HeadValue). HasSampleSpace h c.paint_row.new.self) head c.paint_row.ensures.space

@@ -2,7 +2,7 @@ use Rattle.std.proofs.Common.{rules, refl, subst, ◌≡◌, ℕ, List, Option, 
 use Rattle.std.specs.Option.{IfSome}
 use Rattle.jr_base.specs.declared.tally.Tally.{Tally}
 use Rattle.jr_base.specs.declared.writing.WriteFault.{WriteFault}
-use Rattle.jr_head.specs.Geometry.{IsLawful}
+use Rattle.jr_head.specs.Geometry.{IsValid}
 use Rattle.jr_scan.specs.ScanValue.{ScanValue}
 use Rattle.jr_scan.specs.FirstIntervalsValue.{FirstIntervalsValue}
 use Rattle.jr_piece.proofs.EachOutcome.{outcome}
@@ -23,19 +23,19 @@ returns-in-Some-Ok-clause-painted g c =
     let t = c.args.part.scan in
     let n = c.args.part.limit in
     let sent : Result Marked WriteFault = Ok c.in-Some-Ok.marked in
-    let lawful : IsLawful t.head = search (rules, c.head.ensures.lawful) in
+    let valid : IsValid t.head = search (rules, c.head.ensures.valid) in
     let crew : c.of.result ≡ c.args.part = search rules in
     let is : c.run_beside-sent.result.0 ≡ Some sent = search rules in
     let by = sent_by g.W.Write.contents c.of.result c.args.part c.args.out.now c.run_beside-sent.result.1.now _ c.run_beside-sent.result.0 sent c.run_beside-sent.ensures.0 is crew (search rules) in
     let counts : HasCounts t n c.counts_of.result = subst (λ (k : ℕ). HasCounts t k c.counts_of.result) c.limit-limit.ensures.value (subst (λ (s : ScanValue). HasCounts s c.limit-limit.result c.counts_of.result) c.scan-scan.ensures c.counts_of.ensures) in
-    painted_picture g.W.Write.contents _ _ sent outcome t lawful n c.limit-limit.ensures.few by.sent _ refl c.counts_of.result counts
+    painted_picture g.W.Write.contents _ _ sent outcome t valid n c.limit-limit.ensures.few by.sent _ refl c.counts_of.result counts
 
 pub returns-in-Some-Err-clause-begun : goal.returns-in-Some-Err-clause-begun
 returns-in-Some-Err-clause-begun g c failed =
     let t = c.args.part.scan in
     let sent : Result Marked WriteFault = Err c.in-Some-Err.field-0-0 in
-    let lawful : IsLawful t.head = search (rules, c.head.ensures.lawful) in
+    let valid : IsValid t.head = search (rules, c.head.ensures.valid) in
     let crew : c.of.result ≡ c.args.part = search rules in
     let is : c.run_beside-sent.result.0 ≡ Some sent = search rules in
     let by = sent_by g.W.Write.contents c.of.result c.args.part c.args.out.now c.run_beside-sent.result.1.now _ c.run_beside-sent.result.0 sent c.run_beside-sent.ensures.0 is crew (search rules) in
-    begun_picture g.W.Write.contents _ _ sent outcome t lawful c.args.part.limit c.limit-limit.ensures.few by.sent _ refl
+    begun_picture g.W.Write.contents _ _ sent outcome t valid c.args.part.limit c.limit-limit.ensures.few by.sent _ refl

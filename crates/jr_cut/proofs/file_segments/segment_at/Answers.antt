@@ -11,12 +11,12 @@ returns-clause-bytes c n datas ended e begins =
     let file = c.args.file.now in
     let at = c.args.at in
     let len = c.segment_length.result in
-    let told = c.segment_length.ensures in
+    let stated = c.segment_length.ensures in
     let rest = rest_is file at in
-    let fits : at + len ≤ length file = omega (arith, told.within, ap length rest, length-drop at file, c.requires.there) in
-    let raw = subst (λ (l : List ℕ). IsRaw (take len l) told.data.0) rest told.data.1 in
-    let stop = subst IsStop (drop-drop len at file) (subst (λ (l : List ℕ). IsStop (drop len l)) rest told.stop) in
-    is_segment file n datas ended c.args.k at len told.data.0 fits raw stop begins
+    let fits : at + len ≤ length file = omega (arith, stated.within, ap length rest, length-drop at file, c.requires.there) in
+    let raw = subst (λ (l : List ℕ). IsRaw (take len l) stated.data.0) rest stated.data.1 in
+    let stop = subst IsStop (drop-drop len at file) (subst (λ (l : List ℕ). IsStop (drop len l)) rest stated.stop) in
+    is_segment file n datas ended c.args.k at len stated.data.0 fits raw stop begins
 
 pub returns-clause-next : goal.returns-clause-next
 returns-clause-next c n datas ended e begins =
@@ -24,11 +24,11 @@ returns-clause-next c n datas ended e begins =
     let at = c.args.at in
     let k = c.args.k in
     let len = c.segment_length.result in
-    let told = c.segment_length.ensures in
+    let stated = c.segment_length.ensures in
     let rest = rest_is file at in
-    let fits : at + len ≤ length file = omega (arith, told.within, ap length rest, length-drop at file, c.requires.there) in
-    let raw = subst (λ (l : List ℕ). IsRaw (take len l) told.data.0) rest told.data.1 in
-    let stop = subst IsStop (drop-drop len at file) (subst (λ (l : List ℕ). IsStop (drop len l)) rest told.stop) in
+    let fits : at + len ≤ length file = omega (arith, stated.within, ap length rest, length-drop at file, c.requires.there) in
+    let raw = subst (λ (l : List ℕ). IsRaw (take len l) stated.data.0) rest stated.data.1 in
+    let stop = subst IsStop (drop-drop len at file) (subst (λ (l : List ℕ). IsStop (drop len l)) rest stated.stop) in
     let next = c.next_at.result in
     let starts = subst (λ (m : ℕ). GoesOnAfter file m k (at + len) next ⊎ EndsAfter file m k (at + len) next) (sym e) c.next_at.ensures.next in
-    next_is file n datas ended k at len told.data.0 fits raw stop next starts begins
+    next_is file n datas ended k at len stated.data.0 fits raw stop next starts begins

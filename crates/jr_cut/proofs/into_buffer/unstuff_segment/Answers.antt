@@ -21,5 +21,5 @@ returns-clause-data c =
     let spare = drop (length new) c.lengthen.new.buffer.items in
     let long : c.lengthen.new.buffer.len ≡ length new = search (rules, arith, u.ensures.long, c.deref_mut.ensures.len) in
     let same : take c.lengthen.new.buffer.len (new ++ spare) ≡ new = ap (λ (k : ℕ). take k (new ++ spare)) long ∙ take-append_seam new spare in
-    let told = all_read raw c.requires.spells.0 (take u.result.found new) u.result.read c.requires.spells.1 u.ensures.spells stop in
-    subst (λ (l : List ℕ). IsRaw raw (take u.result.found l)) (sym same) told
+    let stated = all_read raw c.requires.spells.0 (take u.result.found new) u.result.read c.requires.spells.1 u.ensures.spells stop in
+    subst (λ (l : List ℕ). IsRaw raw (take u.result.found l)) (sym same) stated

@@ -8,6 +8,6 @@ returns-clause-some c n front few within is fits =
     let u = c.unstuff_into-read in
     let found = take u.result.found u.new.buffer in
     let long : length found ≡ u.result.found = length-take-le u.result.found u.new.buffer (omega (arith, u.ensures.fits, u.ensures.long)) in
-    let less : u.result.found < length c.args.room.now = search (rules, arith, c.if-found-room.false, u.ensures.fits, u.ensures.long) in
+    let less : u.result.found < length c.args.space.now = search (rules, arith, c.if-found-space.false, u.ensures.fits, u.ensures.long) in
     let end : n ≤ c.min-end.result = search (rules, arith) in
     omega (arith, long, some_found raw found front c.min-end.result u.result.read n end is u.ensures.spells (u.ensures.stop less))

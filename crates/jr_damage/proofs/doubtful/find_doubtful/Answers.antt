@@ -3,7 +3,7 @@ use Rattle.std.specs.Prelude.{ℤ}
 use Rattle.std.proofs.lemmas.List.{append-nil, take_all}
 use Rattle.std.proofs.Math.Seq.{take-append_seam}
 use Rattle.jr_head.specs.HeadValue.{HeadValue}
-use Rattle.jr_head.specs.Geometry.{IsLawful, order_of}
+use Rattle.jr_head.specs.Geometry.{IsValid, order_of}
 use Rattle.jr_scan.specs.declared.place.Place.{Place}
 use Rattle.jr_scan.specs.McuReader.{HasRead, HasEnded, per_mcu}
 use Rattle.jr_scan.specs.Run.{RunOf}
@@ -25,15 +25,15 @@ returns-then-read-eq0-clause-none c =
     let long : length c.read.new.blocks ≡ length c.order-per_mcu.result.now = search (rules, arith, c.loop-number.invariant.0, c.order-per_mcu.ensures.few) in
     let one : (c.read.result + 1) * per_mcu r ≡ per_mcu r = ap (λ (k : ℕ). (k + 1) * per_mcu r) c.if-read-eq0.true ∙ omega arith in
     let ended : HasEnded new = c.read.ensures.ended (omega (arith, one, per, long)) in
-    let lawful : IsLawful new.run.interval.head = subst (λ (o : RunOf). IsLawful o.interval.head) (sym c.read.ensures.run) c.place-from.ensures.lawful in
-    sought_all i new c.loop-number.number lawful (record { run = c.read.ensures.run ∙ s.run; mcu = mcu; zs = s.zs; read = same; none = s.none }) ended
+    let valid : IsValid new.run.interval.head = subst (λ (o : RunOf). IsValid o.interval.head) (sym c.read.ensures.run) c.place-from.ensures.valid in
+    sought_all i new c.loop-number.number valid (record { run = c.read.ensures.run ∙ s.run; mcu = mcu; zs = s.zs; read = same; none = s.none }) ended
 
 pub returns-clause-none : goal.returns-clause-none
 returns-clause-none c =
     let s = c.loop-number.invariant.1 in
-    let lawful : IsLawful c.args.interval.head = subst IsLawful c.head-head.ensures.value c.head-head.ensures.lawful in
+    let valid : IsValid c.args.interval.head = subst IsValid c.head-head.ensures.value c.head-head.ensures.valid in
     let all : c.loop-number.reader.mcu ≡ c.loop-number.reader.run.mcus = search (rules, arith, s.mcu, s.run, s.read.few, c.loop-number-test.false, c.mcus-mcus.ensures) in
-    sought_all c.args.interval c.loop-number.reader c.loop-number.number (subst (λ (o : RunOf). IsLawful o.interval.head) (sym s.run) lawful) s (inl all)
+    sought_all c.args.interval c.loop-number.reader c.loop-number.number (subst (λ (o : RunOf). IsValid o.interval.head) (sym s.run) valid) s (inl all)
 
 pub returns-then-is_doubtful_mcu-clause-some : goal.returns-then-is_doubtful_mcu-clause-some
 returns-then-is_doubtful_mcu-clause-some c =
@@ -48,13 +48,13 @@ returns-then-is_doubtful_mcu-clause-some c =
     let some : 0 < c.read.result = search (rules, arith, c.if-read-eq0.false) in
     let one : c.read.result ≡ 1 = one_taken c.read.result (per_mcu r) some (omega (arith, per, c.order-per_mcu.ensures.some)) (omega (arith, c.read.ensures.fits, per, long)) in
     let all : c.read.result * per_mcu r ≡ length ys = ap (λ (k : ℕ). k * per_mcu r) one ∙ omega (arith, per, long) in
-    let told = subst (λ (k : ℕ). HasRead new (s.zs ++ take k ys)) all (c.read.ensures.read s.zs s.read) in
-    let read = subst (λ (x : List (List ℤ)). HasRead new (s.zs ++ x)) (take_all (length ys) ys (omega arith)) told in
+    let stated = subst (λ (k : ℕ). HasRead new (s.zs ++ take k ys)) all (c.read.ensures.read s.zs s.read) in
+    let read = subst (λ (x : List (List ℤ)). HasRead new (s.zs ++ x)) (take_all (length ys) ys (omega arith)) stated in
     let mcu : new.mcu ≡ r.mcu + 1 = omega (arith, c.read.ensures.mcus, one) in
     let units : length ys ≡ length (order_of i.head) = omega (arith, long, ap (λ (o : List ℕ). length o) (c.order-per_mcu.ensures.value ∙ ap order_of c.head-head.ensures.value)) in
     let front : take len (ys ++ drop len c.loop-number.units) ≡ ys = ap (λ (k : ℕ). take k (ys ++ drop len c.loop-number.units)) (sym long) ∙ take-append_seam ys (drop len c.loop-number.units) in
-    let told_is : IsTrue c.is_doubtful_mcu.result = search (rules, c.if-is_doubtful_mcu.true) in
-    let is_new = subst (λ (x : List (List ℤ)). IsDoubtfulMcu c.head-head.result.now x) front (c.is_doubtful_mcu.ensures.0 told_is) in
+    let stated_is : IsTrue c.is_doubtful_mcu.result = search (rules, c.if-is_doubtful_mcu.true) in
+    let is_new = subst (λ (x : List (List ℤ)). IsDoubtfulMcu c.head-head.result.now x) front (c.is_doubtful_mcu.ensures.0 stated_is) in
     let is = subst (λ (h : HeadValue). IsDoubtfulMcu h ys) c.head-head.ensures.value is_new in
     let found = found_first i r new c.loop-number.number ys s c.read.ensures.run mcu units read is in
     let from : r.place.bit ≡ c.place-from.result.bit = ap (λ (p : Place). p.bit) (sym c.place-from.ensures.value) in
@@ -75,14 +75,14 @@ loop-number-preserved c =
     let some : 0 < c.read.result = search (rules, arith, c.if-read-eq0.false) in
     let one : c.read.result ≡ 1 = one_taken c.read.result (per_mcu r) some (omega (arith, per, c.order-per_mcu.ensures.some)) (omega (arith, c.read.ensures.fits, per, long)) in
     let all : c.read.result * per_mcu r ≡ length ys = ap (λ (k : ℕ). k * per_mcu r) one ∙ omega (arith, per, long) in
-    let told = subst (λ (k : ℕ). HasRead new (s.zs ++ take k ys)) all (c.read.ensures.read s.zs s.read) in
-    let read = subst (λ (x : List (List ℤ)). HasRead new (s.zs ++ x)) (take_all (length ys) ys (omega arith)) told in
+    let stated = subst (λ (k : ℕ). HasRead new (s.zs ++ take k ys)) all (c.read.ensures.read s.zs s.read) in
+    let read = subst (λ (x : List (List ℤ)). HasRead new (s.zs ++ x)) (take_all (length ys) ys (omega arith)) stated in
     let mcu : new.mcu ≡ r.mcu + 1 = omega (arith, c.read.ensures.mcus, one) in
     let units : length ys ≡ length (order_of i.head) = omega (arith, long, ap (λ (o : List ℕ). length o) (c.order-per_mcu.ensures.value ∙ ap order_of c.head-head.ensures.value)) in
     let front : take len (ys ++ drop len c.loop-number.units) ≡ ys = ap (λ (k : ℕ). take k (ys ++ drop len c.loop-number.units)) (sym long) ∙ take-append_seam ys (drop len c.loop-number.units) in
     let last : IsDoubtfulMcu i.head ys → ⊥ = λ is.
     let is_head = subst (λ (h : HeadValue). IsDoubtfulMcu h ys) (sym c.head-head.ensures.value) is in
-    let told_is : IsTrue c.is_doubtful_mcu.result = c.is_doubtful_mcu.ensures.1 (subst (λ (x : List (List ℤ)). IsDoubtfulMcu c.head-head.result.now x) (sym front) is_head) in
-    search (rules, told_is, c.if-is_doubtful_mcu.false) in
+    let stated_is : IsTrue c.is_doubtful_mcu.result = c.is_doubtful_mcu.ensures.1 (subst (λ (x : List (List ℤ)). IsDoubtfulMcu c.head-head.result.now x) (sym front) is_head) in
+    search (rules, stated_is, c.if-is_doubtful_mcu.false) in
     let ten : length (ys ++ drop len c.loop-number.units) ≡ 10 = omega (arith, length-append ys (drop len c.loop-number.units), length-drop len c.loop-number.units, long, c.loop-number.invariant.0, c.order-per_mcu.ensures.few) in
     (ten, sought_more i r new c.loop-number.number ys s c.read.ensures.run mcu units read last)

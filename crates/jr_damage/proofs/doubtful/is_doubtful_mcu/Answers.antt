@@ -17,8 +17,8 @@ loop-u-preserved c = λ j lt is. elim (cases_lt j c.loop-u.u) [
       let count : length c.order-order.result.now ≡ length c.args.units.now = omega (arith, c.requires, ap (λ (l : List ℕ). length l) c.order-order.ensures.value) in
       let block : block_of c.args.units.now c.loop-u.u ≡ c.index-units-u.result = sym (get_or_read_under c.args.units.now c.loop-u.u (length c.order-order.result.now) c.index-units-u.result [] c.index-units-u.is c.loop-u-test.true count) in
       let known = subst (λ (z : List ℤ). HasDoubtful c.quantisers.result.now z) block steps in
-      let told : IsTrue c.has_doubtful.result = c.has_doubtful.ensures.1 known in
-      absurd (search (rules, told, c.if-has_doubtful.false))
+      let stated : IsTrue c.has_doubtful.result = c.has_doubtful.ensures.1 known in
+      absurd (search (rules, stated, c.if-has_doubtful.false))
 ]
 
 pub returns : goal.returns

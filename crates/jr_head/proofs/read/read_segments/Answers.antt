@@ -112,8 +112,8 @@ overflow_sub-scan_at c =
     let f : Framed c.is_some.result c.segments.rest.now = framed_is c.is_some.result _ c.segments.rest.now inv.are_bytes ok.obeys in
     rw ok.rest (omega (arith, f.shorter, inv.within))
 
-pub of-head-requires-clause-behind : goal.of-head-requires-clause-behind
-of-head-requires-clause-behind c = omega (arith, c.segments.invariant.small)
+pub of-head-requires-clause-after : goal.of-head-requires-clause-after
+of-head-requires-clause-after c = omega (arith, c.segments.invariant.small)
 
 pub segments-smaller : goal.segments-smaller
 segments-smaller c =

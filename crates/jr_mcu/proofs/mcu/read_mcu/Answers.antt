@@ -10,25 +10,25 @@ use Rattle.jr_mcu.specs.Block.{IsInDcRange}
 use Rattle.jr_mcu.specs.Step.{TakesBlock, HasNoBlock}
 use Rattle.jr_mcu.specs.Mcus.{component}
 use Rattle.jr_mcu.proofs.Predicted.{kept_fits}
-use Rattle.jr_mcu.proofs.InMcu.{few_components, component_in, last_in_range, mcu_taken, missing, one_more, predicted_behind, front_kept}
+use Rattle.jr_mcu.proofs.InMcu.{few_components, component_in, last_in_range, mcu_taken, missing, one_more, predicted_after, front_kept}
 use Rattle.jr_mcu.proofs.mcu.read_mcu.Goals as goal
 
 -- what is known of the next block, before it is read
 record Next (h : HeadValue) (order : List ℕ) (c k : ℕ) : Type 0 where
   pub at : c ≡ component h k
   pub three : c < 3
-  pub room : k < length (order_of h)
+  pub space : k < length (order_of h)
 
 next : (h : HeadValue) (order : List ℕ) (k : ℕ) → order ≡ order_of h → k < length order → get_or order k 0 < components_of h → components_of h ≡ component_count h.kind → Next h order (get_or order k 0) k
 next h order k is lt within count =
-    let room : k < length (order_of h) = omega (arith, lt, ap (λ (o : List ℕ). length o) is) in
-    record { at = ap (λ (o : List ℕ). get_or o k 0) is ∙ sym (component_in h k room); three = few_components h h.kind (components_of h) (get_or order k 0) count within; room = room }
+    let space : k < length (order_of h) = omega (arith, lt, ap (λ (o : List ℕ). length o) is) in
+    record { at = ap (λ (o : List ℕ). get_or o k 0) is ∙ sym (component_in h k space); three = few_components h h.kind (components_of h) (get_or order k 0) count within; space = space }
 
 pub loop-k-init : goal.loop-k-init
 loop-k-init g c =
     let start = c.args.start in
     let none : start + 0 ≡ start = omega arith in
-    record { room = refl; taken = ([], refl, search rules, λ _. ap (λ (n : ℕ). take n c.args.blocks.now) none ∙ sym (append-nil (take start c.args.blocks.now))) }
+    record { space = refl; taken = ([], refl, search rules, λ _. ap (λ (n : ℕ). take n c.args.blocks.now) none ∙ sym (append-nil (take start c.args.blocks.now))) }
 
 pub take-requires-clause-in_range : goal.take-requires-clause-in_range
 take-requires-clause-in_range g c =
@@ -36,7 +36,7 @@ take-requires-clause-in_range g c =
     let order = c.order-order.result.now in
     let k = c.loop-k.k in
     let d = get_or order k 0 in
-    let n = next h order k c.order-order.ensures.value (search rules) (c.order-order.ensures.within k 0 (search rules)) c.requires.lawful.components.count in
+    let n = next h order k c.order-order.ensures.value (search rules) (c.order-order.ensures.within k 0 (search rules)) c.requires.valid.components.count in
     let s = c.loop-k.invariant.taken.2 in
     let p = get_or c.loop-k.last d (pos 0) in
     subst IsInDcRange (sym (to_z-of_z w32 p (kept_fits p (s.in_range d n.three)))) (s.in_range d n.three)
@@ -45,7 +45,7 @@ pub bounds-last-c-in-loop-k : goal.bounds-last-c-in-loop-k
 bounds-last-c-in-loop-k g c =
     let h = c.args.head.now in
     let order = c.order-order.result.now in
-    let n = next h order c.loop-k.k c.order-order.ensures.value (search rules) (c.order-order.ensures.within c.loop-k.k 0 (search rules)) c.requires.lawful.components.count in
+    let n = next h order c.loop-k.k c.order-order.ensures.value (search rules) (c.order-order.ensures.within c.loop-k.k 0 (search rules)) c.requires.valid.components.count in
     omega (arith, n.three, c.loop-k.invariant.taken.2.three)
 
 pub returns-in_default-clause-none : goal.returns-in_default-clause-none
@@ -54,7 +54,7 @@ returns-in_default-clause-none g c =
     let order = c.order-order.result.now in
     let k = c.loop-k.k in
     let d = get_or order k 0 in
-    let n = next h order k c.order-order.ensures.value (search rules) (c.order-order.ensures.within k 0 (search rules)) c.requires.lawful.components.count in
+    let n = next h order k c.order-order.ensures.value (search rules) (c.order-order.ensures.within k 0 (search rules)) c.requires.valid.components.count in
     let s = c.loop-k.invariant.taken in
     let p = get_or c.loop-k.last d (pos 0) in
     let same = to_z-of_z w32 p (kept_fits p (s.2.in_range d n.three)) in
@@ -63,7 +63,7 @@ returns-in_default-clause-none g c =
     let none0 = subst (λ (q : ℤ). HasNoBlock c.dc_book-dc.result.now c.ac_book-ac.result.now q c.loop-k.left) same (search (rules, c.in_default.ensures.none)) in
     let none1 = subst (λ (t : Table). HasNoBlock t c.ac_book-ac.result.now p c.loop-k.left) dc none0 in
     let none2 = subst (λ (t : Table). HasNoBlock (dc_of h d) t p c.loop-k.left) ac none1 in
-    missing one_word h c.args.predictions.now c.loop-k.last c.args.bits.now c.loop-k.left s.0 d k s.1 n.at n.three n.room none2 s.2
+    missing one_word h c.args.predictions.now c.loop-k.last c.args.bits.now c.loop-k.left s.0 d k s.1 n.at n.three n.space none2 s.2
 
 pub loop-k-preserved : goal.loop-k-preserved
 loop-k-preserved g c =
@@ -72,7 +72,7 @@ loop-k-preserved g c =
     let order = c.order-order.result.now in
     let k = c.loop-k.k in
     let d = get_or order k 0 in
-    let n = next h order k c.order-order.ensures.value (search rules) (c.order-order.ensures.within k 0 (search rules)) c.requires.lawful.components.count in
+    let n = next h order k c.order-order.ensures.value (search rules) (c.order-order.ensures.within k 0 (search rules)) c.requires.valid.components.count in
     let s = c.loop-k.invariant.taken in
     let first = c.in-Some.first in
     let new = c.take.new.bits in
@@ -89,7 +89,7 @@ loop-k-preserved g c =
     let wrote = ap (set c.loop-k.last d) (to_z-of_z w32 first fits) in
     let more = one_more h c.args.predictions.now c.loop-k.last (set c.loop-k.last d (to_z w32 (of_z w32 first))) c.args.bits.now c.loop-k.left new s.0 z d k first s.1 n.at n.three t2 t.2 wrote s.2 in
     record {
-      room = search (rules, c.loop-k.invariant.room);
+      space = search (rules, c.loop-k.invariant.space);
       taken = (
         s.0 ++ z ∷ [],
         omega (arith, s.1, length-append s.0 (z ∷ [])),
@@ -97,7 +97,7 @@ loop-k-preserved g c =
         λ keeps.
             let at = start + k in
             let next : start + (k + 1) ≡ at + 1 = omega arith in
-            let long : at < length c.loop-k.blocks = omega (arith, n.room, c.loop-k.invariant.room, c.requires.room keeps) in
+            let long : at < length c.loop-k.blocks = omega (arith, n.space, c.loop-k.invariant.space, c.requires.space keeps) in
             ap (λ (bs : List (List ℤ)). take (start + (k + 1)) bs) (t.3 keeps) ∙ ap (λ (m : ℕ). take m (set c.loop-k.blocks at z)) next ∙ take_more_set c.loop-k.blocks at z long
             ∙ ap (λ (zs : List (List ℤ)). zs ++ z ∷ []) (s.3 keeps) ∙ append_assoc (take start c.args.blocks.now) s.0 (z ∷ []),
       );
@@ -113,16 +113,16 @@ returns-clause-some g c =
     let all : c.loop-k.k ≡ length (order_of h) = omega (arith, c.loop-k-test.false, c.loop-k.auto.k-end, ap (λ (o : List ℕ). length o) c.order-order.ensures.value) in (
       s.0,
       mcu_taken h c.args.predictions.now c.loop-k.last c.args.bits.now c.loop-k.left s.0 (omega (arith, all, s.1)) s.2,
-      predicted_behind h c.args.predictions.now c.loop-k.last c.args.bits.now c.loop-k.left s.0 s.2,
+      predicted_after h c.args.predictions.now c.loop-k.last c.args.bits.now c.loop-k.left s.0 s.2,
       λ keeps. ap (λ (n : ℕ). take (c.args.start + n) c.loop-k.blocks) (sym all) ∙ s.3 keeps,
     )
 
 pub returns-clause-front : goal.returns-clause-front
 returns-clause-front g c = λ keeps.
     let s = c.loop-k.invariant.taken in
-    front_kept c.args.start (c.args.start + c.loop-k.k) c.loop-k.blocks c.args.blocks.now s.0 (omega arith) (omega (arith, c.requires.room keeps)) (s.3 keeps)
+    front_kept c.args.start (c.args.start + c.loop-k.k) c.loop-k.blocks c.args.blocks.now s.0 (omega arith) (omega (arith, c.requires.space keeps)) (s.3 keeps)
 
 pub returns-in_default-clause-front : goal.returns-in_default-clause-front
 returns-in_default-clause-front g c = λ keeps.
     let s = c.loop-k.invariant.taken in
-    front_kept c.args.start (c.args.start + c.loop-k.k) c.take.new.blocks c.args.blocks.now s.0 (omega arith) (omega (arith, c.requires.room keeps)) (c.take.ensures.front keeps ∙ s.3 keeps)
+    front_kept c.args.start (c.args.start + c.loop-k.k) c.take.new.blocks c.args.blocks.now s.0 (omega arith) (omega (arith, c.requires.space keeps)) (c.take.ensures.front keeps ∙ s.3 keeps)

@@ -4,6 +4,6 @@ use Rattle.jr_mcu.proofs.mcu.read_mcu.Given as goal
 
 abbrev pub invariant-loop-k : goal.invariant-loop-k
 invariant-loop-k g l = record {
-  room : length l.blocks ≡ length l.fn.blocks;
+  space : length l.blocks ≡ length l.fn.blocks;
   taken : (zs : List (List ℤ)) × (l.k ≡ length zs) × InMcu l.head l.fn.predictions l.fn.bits l.left l.last zs × (IsTrue g.S.BlockSink.keeps → take (l.start + l.k) l.blocks ≡ take l.start l.fn.blocks ++ zs);
 }

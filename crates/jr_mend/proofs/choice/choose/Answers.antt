@@ -33,8 +33,8 @@ loop-number-init c =
 pub loop-number-preserved : goal.loop-number-preserved
 loop-number-preserved c =
     let copies = c.args.copies.now in
-    let told = c.with_copy-choice.ensures in
-    (told.choice, space_stays copies _ _ told.chosen c.loop-number.invariant.1, space_stays copies _ _ told.next c.loop-number.invariant.2)
+    let stated = c.with_copy-choice.ensures in
+    (stated.choice, space_stays copies _ _ stated.chosen c.loop-number.invariant.1, space_stays copies _ _ stated.next c.loop-number.invariant.2)
 
 pub returns-clause-choice : goal.returns-clause-choice
 returns-clause-choice c =

@@ -9,6 +9,6 @@ interval-requires-clause-bytes c = ap (λ (l : List ℕ). take c.unstuff-found.r
 
 pub returns-clause-choice : goal.returns-clause-choice
 returns-clause-choice c =
-    let told = c.damaged_front.ensures in
-    let one = one_choice c.interval.result c.damaged_front.result told.sound told.damaged told.front in
+    let stated = c.damaged_front.ensures in
+    let one = one_choice c.interval.result c.damaged_front.result stated.sound stated.damaged stated.front in
     subst (λ (v : IntervalValue). IsChoice (v ∷ []) (record { copy = 0; front = c.damaged_front.result; differs = false })) c.interval.ensures one

@@ -61,9 +61,9 @@ returns-clause-choice c =
     let versions = versions_of (take number copies) i in
     let chosen = chosen_is copies i number c.args.before.copy before.chosen before.is.split c.index-copies-copy.result c.index-copies-copy.is in
     let is = subst (λ (v : IntervalValue). IsChoiceOf versions v c.args.before) (sym (c.interval.ensures ∙ chosen)) before.is in
-    let told = c.with_version.ensures versions is (versions_long copies i number c.requires.number) in
+    let stated = c.with_version.ensures versions is (versions_long copies i number c.requires.number) in
     let are = ap (λ (v : IntervalValue). versions ++ v ∷ []) c.interval-2.ensures ∙ sym (versions_more copies i number next c.requires.number c.index-copies-last.is) in
-    subst (λ (l : List IntervalValue). IsChoice l c.with_version.result) are told
+    subst (λ (l : List IntervalValue). IsChoice l c.with_version.result) are stated
 
 pub unstuff-found-requires-clause-spelled : goal.unstuff-found-requires-clause-spelled
 unstuff-found-requires-clause-spelled c =

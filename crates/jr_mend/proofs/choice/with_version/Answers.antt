@@ -10,7 +10,7 @@ returns-in-None-None c = λ vs is long.
 pub returns-in-None-None-2 : goal.returns-in-None-None-2
 returns-in-None-None-2 c = λ vs is long.
     stays_other vs c.args.chosen c.args.next c.args.before is c.in-None-None.is-0 c.in-None-None.ensures.sound (λ e.
-    let told = c.has_same_data-is_same.ensures.1 (c.bytes.ensures.bytes ∙ e ∙ sym c.bytes-2.ensures.bytes) in
+    let stated = c.has_same_data-is_same.ensures.1 (c.bytes.ensures.bytes ∙ e ∙ sym c.bytes-2.ensures.bytes) in
     let not = c.if-is_same.false in
     cc)
 

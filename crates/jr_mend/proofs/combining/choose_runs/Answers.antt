@@ -9,18 +9,18 @@ loop-preserved c =
     let inv = c.loop.invariant in
     let runs = c.loop.runs.items in
     let run = c.settle.result in
-    let told = c.settle.ensures in
+    let stated = c.settle.ensures in
     let found = c.in-Some.found in
     let scan_at = c.args.head.now.scan_at in
     let from = c.in-Some.ensures.from in
-    let between = between_more scan_at c.loop.at found.end runs run inv.4 (omega (arith, from, told.start)) (omega (arith, c.in-Some.ensures.some, told.start, told.end)) (omega (arith, told.end)) in
+    let between = between_more scan_at c.loop.at found.end runs run inv.4 (omega (arith, from, stated.start)) (omega (arith, c.in-Some.ensures.some, stated.start, stated.end)) (omega (arith, stated.end)) in
     let items = c.in_ok-push.ensures.items in (
-      omega (arith, told.long, inv.0),
+      omega (arith, stated.long, inv.0),
       omega (arith, c.in-Some.ensures.within),
       c.advanced-position.ensures.in_range,
-      omega (arith, told.long, c.best_version.ensures.capacity),
+      omega (arith, stated.long, c.best_version.ensures.capacity),
       subst (AreBetween scan_at found.end) (sym items) between,
-      subst (λ (l : List ByteRun). AreBytesByRuns c.args.copies.now l c.settle.new.file) (sym items) (told.bytes scan_at c.loop.at runs inv.4 from inv.5),
+      subst (λ (l : List ByteRun). AreBytesByRuns c.args.copies.now l c.settle.new.file) (sym items) (stated.bytes scan_at c.loop.at runs inv.4 from inv.5),
     )
 
 pub returns-clause-runs : goal.returns-clause-runs

@@ -13,12 +13,12 @@ returns-clause-combined c =
     let rest = drop (length new) c.in-Ok.file.items in
     let long : c.in-Ok.file.len ≡ length new = search (rules, arith, c.choose_runs.auto.file) in
     let kept : take c.in-Ok.file.len (new ++ rest) ≡ new = ap (λ (n : ℕ). take n (new ++ rest)) long ∙ take-append_seam new rest in
-    let told = c.in-Ok-choose_runs.ensures in
+    let stated = c.in-Ok-choose_runs.ensures in
     subst (λ (l : List ℕ). IsCombined copies runs l) (sym kept)
     (record {
       first = first;
       is_first = c.index-copies-0.is;
       long = omega (arith, long, c.in-Ok.ensures.len, ap length c.file-2.ensures);
-      order = subst (λ (n : ℕ). AreBetween first.scan.head.scan_at n runs) (sym told.long) (subst (λ (h : HeadValue). AreBetween h.scan_at (length c.deref_mut.result.now) runs) c.head.ensures.value told.runs);
-      bytes = told.bytes;
+      order = subst (λ (n : ℕ). AreBetween first.scan.head.scan_at n runs) (sym stated.long) (subst (λ (h : HeadValue). AreBetween h.scan_at (length c.deref_mut.result.now) runs) c.head.ensures.value stated.runs);
+      bytes = stated.bytes;
     })

@@ -15,7 +15,7 @@ returns-then-not-is_same-clause-other c =
       other = λ d e.
           let one = c.head.ensures.value ∙ ap of (c.index-copies-k.is ∙ get_or_default copies k c.index-copies-k.result d lt) in
           let first = c.head-first.ensures.value ∙ ap of (c.index-copies-0.is ∙ get_or_default copies 0 c.index-copies-0.result d c.requires.some) in
-          let told = c.is_same.ensures.1 (one ∙ e ∙ sym first) in
+          let stated = c.is_same.ensures.1 (one ∙ e ∙ sym first) in
           let not = c.if-not-is_same.true in
           cc;
     }

@@ -6,5 +6,5 @@ use Rattle.jr_paint.proofs.geometry.earlier_blocks.Goals as goal
 pub overflow_add-sum : goal.overflow_add-sum
 overflow_add-sum c =
     let small = mul-le c.horizontal.result c.vertical.result 4 4 c.horizontal.ensures.few c.vertical.ensures.few in
-    let before = blocks_before_few c.args.head.now c.loop-j.j c.requires.lawful (omega (arith, c.requires.component)) in
+    let before = blocks_before_few c.args.head.now c.loop-j.j c.requires.valid (omega (arith, c.requires.component)) in
     omega (arith, small, before, c.loop-j.invariant)

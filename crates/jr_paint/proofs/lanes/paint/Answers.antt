@@ -15,7 +15,7 @@ returns c =
     let g = c.args.green in
     let b = c.args.blue in
     let y = by_turns (λ k v. v ≡ luma (i + k)) even odd c.load_by_turns-y.ensures.even c.load_by_turns-y.ensures.odd in
-    c.put.ensures
+    c.store.ensures
     ∙ ap (put_chunk (3 * i) c.args.out.now)
     (same_pixels (λ k. slice_index c.lit-red.result (packed k) ∷ slice_index c.lit-green.result (packed k) ∷ slice_index c.lit-blue.result (packed k) ∷ [])
     (λ k. colour_over (luma (i + k)) (turn_of (r.0 ∷ r.1 ∷ []) k) (turn_of (g.0 ∷ g.1 ∷ []) k) (turn_of (b.0 ∷ b.1 ∷ []) k)) 32

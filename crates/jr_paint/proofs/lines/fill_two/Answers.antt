@@ -1,6 +1,6 @@
 use Rattle.std.proofs.Common.{◌≡◌, ◌∙◌, ◌++◌, ◌+◌, ◌/◌, ◌*◌, ◌<◌, ◌≤◌, ℕ, length, sym, subst, rules, refl, ap, ap₂, slice_index, arith}
 use Rattle.jr_head.specs.HeadValue.{HeadValue}
-use Rattle.jr_head.specs.Geometry.{IsLawful, component_count, components_of}
+use Rattle.jr_head.specs.Geometry.{IsValid, component_count, components_of}
 use Rattle.jr_segments.specs.declared.kind.Kind.TheVariants.{Ycc}
 use Rattle.jr_paint.specs.Text.{value_at}
 use Rattle.jr_paint.proofs.PixelLaws.{line_coloured, shared_value}
@@ -8,7 +8,7 @@ use Rattle.jr_paint.specs.Shades.{HalvesChroma}
 use Rattle.jr_paint.proofs.lines.fill_two.Goals as goal
 
 pub overflow_add-y : goal.overflow_add-y
-overflow_add-y g c = let low = rw c.head-head.ensures.value at c.head-head.ensures.lawful.low in omega (arith, low, c.requires.shares.next)
+overflow_add-y g c = let low = rw c.head-head.ensures.value at c.head-head.ensures.valid.low in omega (arith, low, c.requires.shares.next)
 
 pub returns : goal.returns
 returns g c =
@@ -38,14 +38,14 @@ upsample-luma-requires-clause-down g c = omega (arith, c.requires.shares.next)
 pub upsample-next_luma-requires-clause-down : goal.upsample-next_luma-requires-clause-down
 upsample-next_luma-requires-clause-down g c = c.requires.shares.next
 
-some : (h : HeadValue) → IsLawful h → HalvesChroma h → 0 < components_of h
-some h lawful halves = omega (arith, lawful.components.count ∙ ap component_count halves.kind)
+some : (h : HeadValue) → IsValid h → HalvesChroma h → 0 < components_of h
+some h valid halves = omega (arith, valid.components.count ∙ ap component_count halves.kind)
 
 pub upsample-luma-requires-clause-component : goal.upsample-luma-requires-clause-component
-upsample-luma-requires-clause-component g c = some (g.S.Samples.head_of c.args.samples.now) (subst IsLawful c.head-head.ensures.value c.head-head.ensures.lawful) c.requires.shares.halves
+upsample-luma-requires-clause-component g c = some (g.S.Samples.head_of c.args.samples.now) (subst IsValid c.head-head.ensures.value c.head-head.ensures.valid) c.requires.shares.halves
 
 pub upsample-next_luma-requires-clause-component : goal.upsample-next_luma-requires-clause-component
-upsample-next_luma-requires-clause-component g c = some (g.S.Samples.head_of c.args.samples.now) (subst IsLawful c.head-head.ensures.value c.head-head.ensures.lawful) c.requires.shares.halves
+upsample-next_luma-requires-clause-component g c = some (g.S.Samples.head_of c.args.samples.now) (subst IsValid c.head-head.ensures.value c.head-head.ensures.valid) c.requires.shares.halves
 
 pub convert_two-requires-clause-next : goal.convert_two-requires-clause-next
 convert_two-requires-clause-next g c = c.upsample-next_luma.ensures.long ∙ sym c.upsample-luma.ensures.long
@@ -58,7 +58,7 @@ convert_two-requires-clause-third g c = c.read_halves.ensures.same
 
 -- the last of four parts, each of which but the last has w entries
 last_part : (n a b d w width : ℕ) → a + w ≡ n → b + w ≡ a → d + w ≡ b → w ≡ width → 4 * width ≤ n → width ≤ d
-last_part n a b d w width is_a is_b is_d is_w room = omega (arith, is_a, is_b, is_d, is_w, room)
+last_part n a b d w width is_a is_b is_d is_w space = omega (arith, is_a, is_b, is_d, is_w, space)
 
 -- the second half of 6 `width` bytes
 half : (n a w width : ℕ) → a + 3 * w ≡ n → w ≡ width → n ≡ 6 * width → a ≡ 3 * width
@@ -67,54 +67,54 @@ half n a w width is_a is_w is_n = omega (arith, is_a, is_w, is_n)
 pub upsample-luma-requires-clause-whole : goal.upsample-luma-requires-clause-whole
 upsample-luma-requires-clause-whole g c = c.split_at_mut-luma.ensures.front_len ∙ c.width-width.ensures.value ∙ ap (λ (x : HeadValue). x.width) c.head-head.ensures.value
 
-pub upsample-luma-requires-clause-room : goal.upsample-luma-requires-clause-room
-upsample-luma-requires-clause-room g c = omega (arith, c.split_at_mut-luma.ensures.front_len, c.split_at_mut-cb.ensures.front_len)
+pub upsample-luma-requires-clause-space : goal.upsample-luma-requires-clause-space
+upsample-luma-requires-clause-space g c = omega (arith, c.split_at_mut-luma.ensures.front_len, c.split_at_mut-cb.ensures.front_len)
 
 pub upsample-next_luma-requires-clause-whole : goal.upsample-next_luma-requires-clause-whole
 upsample-next_luma-requires-clause-whole g c = c.split_at_mut-next_luma.ensures.front_len ∙ c.width-width.ensures.value ∙ ap (λ (x : HeadValue). x.width) c.head-head.ensures.value
 
-pub upsample-next_luma-requires-clause-room : goal.upsample-next_luma-requires-clause-room
-upsample-next_luma-requires-clause-room g c =
+pub upsample-next_luma-requires-clause-space : goal.upsample-next_luma-requires-clause-space
+upsample-next_luma-requires-clause-space g c =
     let wide : c.width-width.result ≡ (g.S.Samples.head_of c.args.samples.now).width = c.width-width.ensures.value ∙ ap (λ (x : HeadValue). x.width) c.head-head.ensures.value in
     let next : length c.split_at_mut-next_luma.result.0.now ≡ (g.S.Samples.head_of c.args.samples.now).width = c.split_at_mut-next_luma.ensures.front_len ∙ wide in
     subst (λ (n : ℕ). n ≤ length c.split_at_mut-cb.result.1.now) (sym next)
-    (last_part _ _ _ _ _ _ c.split_at_mut-luma.ensures.back_len c.split_at_mut-next_luma.ensures.back_len c.split_at_mut-cb.ensures.back_len wide c.requires.room)
+    (last_part _ _ _ _ _ _ c.split_at_mut-luma.ensures.back_len c.split_at_mut-next_luma.ensures.back_len c.split_at_mut-cb.ensures.back_len wide c.requires.space)
 
-pub convert_two-requires-clause-room : goal.convert_two-requires-clause-room
-convert_two-requires-clause-room g c =
+pub convert_two-requires-clause-space : goal.convert_two-requires-clause-space
+convert_two-requires-clause-space g c =
     let wide : c.width-width.result ≡ (g.S.Samples.head_of c.args.samples.now).width = c.width-width.ensures.value ∙ ap (λ (x : HeadValue). x.width) c.head-head.ensures.value in
     c.split_at_mut-upper.ensures.front_len ∙ ap (λ (n : ℕ). 3 * n) (wide ∙ sym c.upsample-luma.ensures.long)
 
-pub convert_two-requires-clause-more_room : goal.convert_two-requires-clause-more_room
-convert_two-requires-clause-more_room g c =
+pub convert_two-requires-clause-more_space : goal.convert_two-requires-clause-more_space
+convert_two-requires-clause-more_space g c =
     let wide : c.width-width.result ≡ (g.S.Samples.head_of c.args.samples.now).width = c.width-width.ensures.value ∙ ap (λ (x : HeadValue). x.width) c.head-head.ensures.value in
     half _ _ _ _ c.split_at_mut-upper.ensures.back_len wide c.requires.pixels ∙ ap (λ (n : ℕ). 3 * n) (sym c.upsample-luma.ensures.long)
 
-pub read_halves-requires-clause-room_b : goal.read_halves-requires-clause-room_b
-read_halves-requires-clause-room_b g c =
+pub read_halves-requires-clause-space_b : goal.read_halves-requires-clause-space_b
+read_halves-requires-clause-space_b g c =
     let wide : c.width-width.result ≡ (g.S.Samples.head_of c.args.samples.now).width = c.width-width.ensures.value ∙ ap (λ (x : HeadValue). x.width) c.head-head.ensures.value in
     omega (arith, c.upsample-luma.auto.near, c.split_at_mut-cb.ensures.front_len ∙ wide)
 
-pub read_halves-requires-clause-room_c : goal.read_halves-requires-clause-room_c
-read_halves-requires-clause-room_c g c =
+pub read_halves-requires-clause-space_c : goal.read_halves-requires-clause-space_c
+read_halves-requires-clause-space_c g c =
     let wide : c.width-width.result ≡ (g.S.Samples.head_of c.args.samples.now).width = c.width-width.ensures.value ∙ ap (λ (x : HeadValue). x.width) c.head-head.ensures.value in
-    let room = last_part _ _ _ _ _ _ c.split_at_mut-luma.ensures.back_len c.split_at_mut-next_luma.ensures.back_len c.split_at_mut-cb.ensures.back_len wide c.requires.room in
-    omega (arith, c.upsample-next_luma.auto.near, room)
+    let space = last_part _ _ _ _ _ _ c.split_at_mut-luma.ensures.back_len c.split_at_mut-next_luma.ensures.back_len c.split_at_mut-cb.ensures.back_len wide c.requires.space in
+    omega (arith, c.upsample-next_luma.auto.near, space)
 
 pub split_at_mut-luma-requires : goal.split_at_mut-luma-requires
 split_at_mut-luma-requires g c =
     let wide : c.width-width.result ≡ (g.S.Samples.head_of c.args.samples.now).width = c.width-width.ensures.value ∙ ap (λ (x : HeadValue). x.width) c.head-head.ensures.value in
-    omega (arith, wide, c.requires.room)
+    omega (arith, wide, c.requires.space)
 
 pub split_at_mut-next_luma-requires : goal.split_at_mut-next_luma-requires
 split_at_mut-next_luma-requires g c =
     let wide : c.width-width.result ≡ (g.S.Samples.head_of c.args.samples.now).width = c.width-width.ensures.value ∙ ap (λ (x : HeadValue). x.width) c.head-head.ensures.value in
-    omega (arith, wide, c.requires.room, c.split_at_mut-luma.ensures.back_len)
+    omega (arith, wide, c.requires.space, c.split_at_mut-luma.ensures.back_len)
 
 pub split_at_mut-cb-requires : goal.split_at_mut-cb-requires
 split_at_mut-cb-requires g c =
     let wide : c.width-width.result ≡ (g.S.Samples.head_of c.args.samples.now).width = c.width-width.ensures.value ∙ ap (λ (x : HeadValue). x.width) c.head-head.ensures.value in
-    omega (arith, wide, c.requires.room, c.split_at_mut-luma.ensures.back_len, c.split_at_mut-next_luma.ensures.back_len)
+    omega (arith, wide, c.requires.space, c.split_at_mut-luma.ensures.back_len, c.split_at_mut-next_luma.ensures.back_len)
 
 pub overflow_mul-width : goal.overflow_mul-width
 overflow_mul-width g c = omega (arith, c.width-width.ensures.few)

@@ -11,5 +11,5 @@ returns-clause-inside c =
 
 pub overflow_mul-result : goal.overflow_mul-result
 overflow_mul-result c =
-    let small = mul-le c.args.y c.vertical.result 65536 4 (omega (arith, c.requires.down, c.requires.lawful.low)) c.vertical.ensures.few in
+    let small = mul-le c.args.y c.vertical.result 65536 4 (omega (arith, c.requires.down, c.requires.valid.low)) c.vertical.ensures.few in
     omega (arith, small)

@@ -19,5 +19,5 @@ returns c =
       decodes = λ t. c.is_sound.ensures.sound t i zs all.0;
       none = λ f ys. c.is_sound.ensures.damaged f i zs all ys;
     } in
-    let told = outcome i zs c.in_ok-samples.samples.items c.is_sound.result c.mcus.result ended in
-    search (rules, told)
+    let stated = outcome i zs c.in_ok-samples.samples.items c.is_sound.result c.mcus.result ended in
+    search (rules, stated)

@@ -53,7 +53,7 @@ mcus-preserved c =
     (λ n lt. ap (λ k. get_or new (k + n) []) (sym place) ∙ c.transform_blocks.ensures.here n lt ∙ ap (λ (x : HeadValue). unit_of x ys n) (c.head-head.ensures.value ∙ ap (λ (v : IntervalValue). v.head) c.interval.ensures)) in
     record {
       run = c.read_by.ensures.run ∙ c.mcus.invariant.run;
-      room = search (rules, c.mcus.invariant.room);
+      space = search (rules, c.mcus.invariant.space);
       empty = refl;
       read = (zs ++ ys, read, all);
     }
@@ -68,7 +68,7 @@ returns-in_err-extend_from_slice-clause-run c = on_ok c.from_residual-in_err-ext
 pub returns-then-count-eq0-clause-ended : goal.returns-then-count-eq0-clause-ended
 returns-then-count-eq0-clause-ended c =
     let few : c.read_by.result ≤ c.read_by.result * length c.order-per_mcu.result.now = le-mul_of_pos_right c.read_by.result c.order-per_mcu.ensures.some in
-    c.read_by.ensures.none (omega (arith, c.read_by.auto.blocks, c.mcus.invariant.room)) (omega (arith, few, c.if-count-eq0.true))
+    c.read_by.ensures.none (omega (arith, c.read_by.auto.blocks, c.mcus.invariant.space)) (omega (arith, few, c.if-count-eq0.true))
 
 pub mcus-smaller : goal.mcus-smaller
 mcus-smaller c =

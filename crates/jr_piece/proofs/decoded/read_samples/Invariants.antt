@@ -7,7 +7,7 @@ use Rattle.jr_piece.proofs.decoded.read_samples.Given as goal
 abbrev pub invariant-mcus : goal.invariant-mcus
 invariant-mcus l = record {
   run : l.reader.run ≡ l.fn.reader.run;
-  room : length l.blocks ≡ 64;
+  space : length l.blocks ≡ 64;
   empty : length l.empty ≡ 64;
   read : (zs : List (List ℤ)) × HasRead l.reader zs × AreSamples l.fn.reader.run.interval.head zs l.samples.items;
 }

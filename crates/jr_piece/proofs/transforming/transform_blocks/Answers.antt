@@ -24,7 +24,7 @@ mcus-preserved g c =
     let next : (mcu + 2) * per ≡ mcu * per + 2 * per = add-mul mcu 2 per in
     let first : done % length (order_of h) ≡ 0 = c.mcus.invariant.whole lt in
     record {
-      room = c.transform_mcus.ensures.room;
+      space = c.transform_mcus.ensures.space;
       long = c.transform_mcus.ensures.count ∙ c.mcus.invariant.long;
       within = omega (arith, c.min-end.ensures);
       few = λ more. omega (arith, c.mcus.invariant.few lt, c.min-end.ensures, count, some, more);

@@ -5,7 +5,7 @@ use Rattle.jr_piece.proofs.transforming.transform_blocks.Given as goal
 
 abbrev pub invariant-mcus : goal.invariant-mcus
 invariant-mcus g l = record {
-  room : g.U.UnitSink.has_room l.head l.units;
+  space : g.U.UnitSink.has_space l.head l.units;
   long : length (g.U.UnitSink.units l.head l.units) ≡ length (g.U.UnitSink.units l.head l.fn.units);
   within : l.done ≤ length l.blocks;
   few : l.done < length l.blocks → l.mcu ≤ l.fn.first + l.done;

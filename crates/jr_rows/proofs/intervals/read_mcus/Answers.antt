@@ -17,15 +17,15 @@ use Rattle.jr_piece.specs.PieceValue.{PieceValue}
 use Rattle.jr_piece.specs.Outcome.{IsOutcome, unit_of}
 use Rattle.jr_piece.specs.Units.{CodesUnits}
 use Rattle.jr_piece.proofs.CodedUnits.{read_codes}
-use Rattle.jr_piece.proofs.Parts.{kept_before, put_there}
+use Rattle.jr_piece.proofs.Parts.{kept_before, store_there}
 use Rattle.jr_rows.specs.Bands.{unit_shown}
 use Rattle.jr_rows.specs.Cursors.{IsCursorOf, mcus_to}
-use Rattle.jr_rows.specs.MarkBytes.{PutsMarks}
-use Rattle.jr_rows.specs.Rows.{CountsMarks, GivesBehind, GivesMcus, intervals_before}
+use Rattle.jr_rows.specs.MarkBytes.{StoresMarks}
+use Rattle.jr_rows.specs.Rows.{CountsMarks, ReturnsAfter, ReturnsMcus, intervals_before}
 use Rattle.jr_rows.proofs.RowCursors.{IsReady, decoded, ended}
 use Rattle.jr_rows.proofs.IntervalPlaces.{ends_few, first_few}
-use Rattle.jr_rows.proofs.PutMarks.{puts_both, puts_none}
-use Rattle.jr_rows.proofs.ReadRows.{counts_both, counts_none, gives_there, shown_more}
+use Rattle.jr_rows.proofs.StoredMarks.{stores_both, stores_none}
+use Rattle.jr_rows.proofs.ReadRows.{counts_both, counts_none, returns_there, shown_more}
 use Rattle.jr_rows.proofs.intervals.read_mcus.Goals as goal
 
 -- the MCUs that an interval has left, at most those that are still to be read
@@ -44,8 +44,8 @@ falls some left mcus done e more lt = omega (arith, e, more, lt)
 fits_all : (done some mcus : ℕ) → done + some ≤ mcus → Fits w32 mcus → Fits w32 (done + some)
 fits_all done some mcus le lt = omega (arith, le, lt)
 
-behind_it : (at mcu some : ℕ) → at ≡ mcu + some → 0 < some → 0 < at
-behind_it at mcu some e more = omega (arith, e, more)
+after_it : (at mcu some : ℕ) → at ≡ mcu + some → 0 < some → 0 < at
+after_it at mcu some e more = omega (arith, e, more)
 
 all_read : (done mcus : ℕ) → done ≤ mcus → mcus ≤ done → done ≡ mcus
 all_read done mcus le ge = omega (arith, le, ge)
@@ -90,8 +90,8 @@ with-marked-requires c =
     let ready : IsReady t at r c.ready.result = subst (λ (s : ScanValue). IsReady s at r c.ready.result) c.scan-scan.ensures (record { number = e.number; some = e.some; left_is = e.left; to = e.to }) in
     let here = c.read.ensures.number ∙ ended t n at r c.ready.result ready in
     let few = ends_few t.head (mcus_to t.head c.read.new.self) in
-    let room : intervals_of t.head < 2 ^ 32 = search (rules, arith) in
-    omega (arith, c.intervals.invariant.counts.few, c.mark_ended-more.ensures.counts.few, here, few, room)
+    let space : intervals_of t.head < 2 ^ 32 = search (rules, arith) in
+    omega (arith, c.intervals.invariant.counts.few, c.mark_ended-more.ensures.counts.few, here, few, space)
 
 pub intervals-preserved : goal.intervals-preserved
 intervals-preserved c =
@@ -116,55 +116,55 @@ intervals-preserved c =
     let new = put_mid start size old sub in
     let head : c.head.result.now ≡ h = c.head.ensures.value ∙ ap (λ (s : ScanValue). s.head) c.scan-scan.ensures in
     let per_is : length c.order-per_mcu.result.now ≡ n = c.order-per_mcu.ensures.count ∙ ap (λ (x : HeadValue). blocks_of x) head in
-    let room : length old ≡ c.args.mcus * length c.order-per_mcu.result.now = keep.long ∙ c.requires.room ∙ ap (λ (k : ℕ). c.args.mcus * k) (sym per_is) in
+    let space : length old ≡ c.args.mcus * length c.order-per_mcu.result.now = keep.long ∙ c.requires.space ∙ ap (λ (k : ℕ). c.args.mcus * k) (sym per_is) in
     let positive : 0 < n = omega (arith, c.order-per_mcu.ensures.some, per_is) in
     let start_is : start ≡ done * n = c.units_to-from.ensures.value ∙ ap (λ (k : ℕ). done * k) per_is in
     let end_is : c.units_to-end.result ≡ (done + mcus) * n = c.units_to-end.ensures.value ∙ ap (λ (k : ℕ). (done + mcus) * k) per_is in
-    let fits : c.units_to-end.result ≤ length old = omega (arith, c.units_to-end.ensures.within, room) in
+    let fits : c.units_to-end.result ≤ length old = omega (arith, c.units_to-end.ensures.within, space) in
     let long : length sub ≡ mcus * n = c.read.auto.blocks ∙ mid_len start c.units_to-end.result old fits ∙ omega (arith, start_is, end_is, add-mul done mcus n) in
-    let inside : start ≤ length old = omega (arith, c.units_to-from.ensures.within, room) in
+    let inside : start ≤ length old = omega (arith, c.units_to-from.ensures.within, space) in
     let interval : c.fork.result ≡ interval_of t r.number = c.fork.ensures ∙ c.interval_ref-interval.ensures ∙ ap (λ (s : ScanValue). interval_of s r.number) c.scan-scan.ensures in
     let codes : (p : PieceValue) → IsOutcome p → p.interval ≡ interval_of t r.number → CodesUnits p (units_before (interval_of t r.number) r.mcu) sub =
     read_codes (interval_of t r.number) r.mcu sub (subst (λ (i : IntervalValue). AreBlocksFrom i r.mcu sub) interval c.read.ensures.blocks) in
     let part : (k : ℕ) → k < length sub → slice_index_or new (done * n + k) [] ≡ slice_index_or sub k [] =
-    λ k here. ap (λ (m : ℕ). slice_index_or new (m + k) []) (sym start_is) ∙ put_there [] start size old sub inside k here in
+    λ k here. ap (λ (m : ℕ). slice_index_or new (m + k) []) (sym start_is) ∙ store_there [] start size old sub inside k here in
     let kept : (k : ℕ) → k < done * n → slice_index_or new k [] ≡ slice_index_or old k [] = λ k l. kept_before [] start size old sub inside k (omega (arith, l, start_is)) in
-    let gave : GivesBehind t limit (from + done) (done * n) mcus new =
-    subst (λ (m : ℕ). GivesBehind t limit m (done * n) mcus new) (ready.to ∙ keep.moved) (gives_there t limit r mcus done sub new positive ready.number lt (omega (arith, least, ready.left_is)) long codes part) in
+    let gave : ReturnsAfter t limit (from + done) (done * n) mcus new =
+    subst (λ (m : ℕ). ReturnsAfter t limit m (done * n) mcus new) (ready.to ∙ keep.moved) (returns_there t limit r mcus done sub new positive ready.number lt (omega (arith, least, ready.left_is)) long codes part) in
     let to = mcus_to h c.read.new.self in
     let here = c.read.ensures.number ∙ ended t limit at r c.ready.result ready in
     let counts = subst (λ (m : ℕ). CountsMarks t limit m (intervals_before h to) c.mark_ended-more.result) here c.mark_ended-more.ensures.counts in
-    let puts = subst (λ (m : ℕ). PutsMarks t limit m (intervals_before h to) c.intervals.marks c.mark_ended-more.new.marks) here c.mark_ended-more.ensures.puts in
+    let stores = subst (λ (m : ℕ). StoresMarks t limit m (intervals_before h to) c.intervals.marks c.mark_ended-more.new.marks) here c.mark_ended-more.ensures.stores in
     let number = ap (λ (k : ℕ). k * h.restart) c.read.ensures.number in
     record {
       within = omega (arith, least, keep.within, c.intervals-test.true);
       long = same_len_mid start size old sub c.read.auto.blocks ∙ keep.long;
-      stands = record {
-        number = omega (arith, e.stands.number, ap (λ (s : ScanValue). length s.intervals) c.scan-scan.ensures, c.read.ensures.number);
+      lies = record {
+        number = omega (arith, e.lies.number, ap (λ (s : ScanValue). length s.intervals) c.scan-scan.ensures, c.read.ensures.number);
         at = subst (λ (k : ℕ). IsPlaceAfter (interval_of t k) c.read.new.self.mcu c.read.new.self.place) (sym c.read.ensures.number) (subst (λ (i : IntervalValue). IsPlaceAfter i c.read.new.self.mcu c.read.new.self.place) interval c.read.ensures.at);
       };
       moved = omega (arith, number, c.read.ensures.mcu, ready.to, keep.moved);
-      gives = λ b first. shown_more n done mcus from (unit_shown b) (unit_of h old) (unit_of h new) positive (keep.gives b first)
+      returned = λ b first. shown_more n done mcus from (unit_shown b) (unit_of h old) (unit_of h new) positive (keep.returned b first)
           (λ k l. ap (λ z. samples z (quantiser_of h (component h k))) (kept k l)) (gave b first);
       counts = counts_both t limit _ _ _ c.intervals.marked c.mark_ended-more.result c.with-marked.result keep.counts counts c.with-marked.ensures.sound c.with-marked.ensures.damaged;
-      places = λ there. puts.long ∙ keep.places (omega (arith, there, puts.long));
-      puts = puts_both t limit _ _ _ c.args.marks.now c.intervals.marks c.mark_ended-more.new.marks (omega (arith, keep.counts.few)) keep.puts puts;
+      places = λ there. stores.long ∙ keep.places (omega (arith, there, stores.long));
+      stores = stores_both t limit _ _ _ c.args.marks.now c.intervals.marks c.mark_ended-more.new.marks (omega (arith, keep.counts.few)) keep.stores stores;
     }
 
-pub returns-clause-gives : goal.returns-clause-gives
-returns-clause-gives c =
+pub returns-clause-returned : goal.returns-clause-returned
+returns-clause-returned c =
     let t = c.args.part.now.scan in
     let all : c.intervals.done ≡ c.args.mcus = omega (arith, c.intervals.invariant.within, c.intervals-test.false) in
-    subst (λ (n : ℕ). GivesMcus t c.args.part.now.limit (mcus_to t.head c.args.cursor.now) n c.intervals.blocks) all c.intervals.invariant.gives
+    subst (λ (n : ℕ). ReturnsMcus t c.args.part.now.limit (mcus_to t.head c.args.cursor.now) n c.intervals.blocks) all c.intervals.invariant.returned
 
-pub mark_ended-more-requires-clause-stands : goal.mark_ended-more-requires-clause-stands
-mark_ended-more-requires-clause-stands c =
+pub mark_ended-more-requires-clause-lies : goal.mark_ended-more-requires-clause-lies
+mark_ended-more-requires-clause-lies c =
     let t = c.args.part.now.scan in
     let r = c.ready.new.cursor in
     let next = c.read.new.self in
     let interval : c.fork.result ≡ interval_of t r.number = c.fork.ensures ∙ c.interval_ref-interval.ensures ∙ ap (λ (s : ScanValue). interval_of s r.number) c.scan-scan.ensures in
     record {
-      number = omega (arith, c.ready.ensures.stands.number, ap (λ (s : ScanValue). length s.intervals) c.scan-scan.ensures, c.read.ensures.number);
+      number = omega (arith, c.ready.ensures.lies.number, ap (λ (s : ScanValue). length s.intervals) c.scan-scan.ensures, c.read.ensures.number);
       at = subst (λ (k : ℕ). IsPlaceAfter (interval_of t k) next.mcu next.place) (sym c.read.ensures.number) (subst (λ (i : IntervalValue). IsPlaceAfter i next.mcu next.place) interval c.read.ensures.at);
     }
 
@@ -175,19 +175,19 @@ intervals-init c =
     record {
       within = omega arith;
       long = refl;
-      stands = c.requires.stands;
+      lies = c.requires.lies;
       moved = sym (add-zero _);
-      gives = λ b _ k lt. absurd (omega (arith, lt));
+      returned = λ b _ k lt. absurd (omega (arith, lt));
       counts = counts_none t n _ _ c.none-marked.result c.none-marked.ensures.sound c.none-marked.ensures.damaged refl;
       places = c.requires.places;
-      puts = puts_none t n _ _ c.args.marks.now refl;
+      stores = stores_none t n _ _ c.args.marks.now refl;
     }
 
 pub intervals-smaller : goal.intervals-smaller
 intervals-smaller c = falls c.min-some.result c.ready.result c.args.mcus c.intervals.done c.min-some.ensures c.ready.ensures.some c.intervals-test.true
 
-pub ready-requires-clause-stands : goal.ready-requires-clause-stands
-ready-requires-clause-stands c = subst (λ (s : ScanValue). IsCursorOf s c.intervals.cursor) (sym c.scan-scan.ensures) c.intervals.invariant.stands
+pub ready-requires-clause-lies : goal.ready-requires-clause-lies
+ready-requires-clause-lies c = subst (λ (s : ScanValue). IsCursorOf s c.intervals.cursor) (sym c.scan-scan.ensures) c.intervals.invariant.lies
 
 pub overflow_sub-mcus : goal.overflow_sub-mcus
 overflow_sub-mcus c = c.intervals.invariant.within
@@ -213,7 +213,7 @@ units_to-end-requires-clause-short c = c.order-per_mcu.ensures.few
 pub read-requires-clause-at : goal.read-requires-clause-at
 read-requires-clause-at c =
     let r = c.ready.new.cursor in
-    subst (λ (i : IntervalValue). IsPlaceAfter i r.mcu r.place) (sym (c.fork.ensures ∙ c.interval_ref-interval.ensures)) c.ready.ensures.stands.at
+    subst (λ (i : IntervalValue). IsPlaceAfter i r.mcu r.place) (sym (c.fork.ensures ∙ c.interval_ref-interval.ensures)) c.ready.ensures.lies.at
 
 pub read-requires-clause-few : goal.read-requires-clause-few
 read-requires-clause-few c =
@@ -221,8 +221,8 @@ read-requires-clause-few c =
     let few = some_left r.mcu c.min-some.result c.ready.result _ _ c.min-some.ensures c.ready.ensures.left in
     subst (λ (i : IntervalValue). r.mcu + c.min-some.result ≤ i.mcus) (sym (c.fork.ensures ∙ c.interval_ref-interval.ensures)) few
 
-pub read-requires-clause-room : goal.read-requires-clause-room
-read-requires-clause-room c =
+pub read-requires-clause-space : goal.read-requires-clause-space
+read-requires-clause-space c =
     let t = c.args.part.now.scan in
     let n = blocks_of t.head in
     let start = c.units_to-from.result in
@@ -232,8 +232,8 @@ read-requires-clause-room c =
     let old = c.intervals.blocks in
     let head = c.head.ensures.value ∙ ap (λ (s : ScanValue). s.head) c.scan-scan.ensures in
     let per_is : per ≡ n = c.order-per_mcu.ensures.count ∙ ap (λ (x : HeadValue). blocks_of x) head in
-    let room : length old ≡ c.args.mcus * per = c.intervals.invariant.long ∙ c.requires.room ∙ ap (λ (k : ℕ). c.args.mcus * k) (sym per_is) in
-    let fits : end ≤ length old = omega (arith, c.units_to-end.ensures.within, room) in
+    let space : length old ≡ c.args.mcus * per = c.intervals.invariant.long ∙ c.requires.space ∙ ap (λ (k : ℕ). c.args.mcus * k) (sym per_is) in
+    let fits : end ≤ length old = omega (arith, c.units_to-end.ensures.within, space) in
     let order : order_of c.fork.result.head ≡ c.order-per_mcu.result.now = ap (λ (i : IntervalValue). order_of i.head) (c.fork.ensures ∙ c.interval_ref-interval.ensures) ∙ ap (λ (x : HeadValue). order_of x) (sym c.head.ensures.value) ∙ sym c.order-per_mcu.ensures.value in
     let at : start ≡ c.intervals.done * per = omega (arith, c.units_to-from.ensures.value) in
     mid_len start end old fits ∙ part_size start end c.intervals.done mcus per at c.units_to-end.ensures.value ∙ ap (λ z. mcus * length z) (sym order)
@@ -242,8 +242,8 @@ pub slice_bounds-read-end : goal.slice_bounds-read-end
 slice_bounds-read-end c =
     let head = c.head.ensures.value ∙ ap (λ (s : ScanValue). s.head) c.scan-scan.ensures in
     let per_is = c.order-per_mcu.ensures.count ∙ ap (λ (x : HeadValue). blocks_of x) head in
-    let room = c.intervals.invariant.long ∙ c.requires.room ∙ ap (λ (k : ℕ). c.args.mcus * k) (sym per_is) in
-    omega (arith, c.units_to-end.ensures.within, room)
+    let space = c.intervals.invariant.long ∙ c.requires.space ∙ ap (λ (k : ℕ). c.args.mcus * k) (sym per_is) in
+    omega (arith, c.units_to-end.ensures.within, space)
 
 pub mark_ended-more-requires-clause-interval : goal.mark_ended-more-requires-clause-interval
 mark_ended-more-requires-clause-interval c =
@@ -253,13 +253,13 @@ mark_ended-more-requires-clause-interval c =
 pub mark_ended-more-requires-clause-some : goal.mark_ended-more-requires-clause-some
 mark_ended-more-requires-clause-some c =
     let some = some_read c.min-some.result c.ready.result c.args.mcus c.intervals.done c.min-some.ensures c.ready.ensures.some c.intervals-test.true in
-    behind_it c.read.new.self.mcu c.ready.new.cursor.mcu c.min-some.result c.read.ensures.mcu some
+    after_it c.read.new.self.mcu c.ready.new.cursor.mcu c.min-some.result c.read.ensures.mcu some
 
 pub mark_ended-more-requires-clause-places : goal.mark_ended-more-requires-clause-places
 mark_ended-more-requires-clause-places c = c.intervals.invariant.places
 
-pub returns-clause-stands : goal.returns-clause-stands
-returns-clause-stands c = c.intervals.invariant.stands
+pub returns-clause-lies : goal.returns-clause-lies
+returns-clause-lies c = c.intervals.invariant.lies
 
 pub returns-clause-moved : goal.returns-clause-moved
 returns-clause-moved c = c.intervals.invariant.moved ∙ ap (λ (n : ℕ). mcus_to c.args.part.now.scan.head c.args.cursor.now + n) (all_read _ _ c.intervals.invariant.within c.intervals-test.false)
@@ -267,5 +267,5 @@ returns-clause-moved c = c.intervals.invariant.moved ∙ ap (λ (n : ℕ). mcus_
 pub returns-clause-counts : goal.returns-clause-counts
 returns-clause-counts c = c.intervals.invariant.counts
 
-pub returns-clause-puts : goal.returns-clause-puts
-returns-clause-puts c = c.intervals.invariant.puts
+pub returns-clause-stores : goal.returns-clause-stores
+returns-clause-stores c = c.intervals.invariant.stores

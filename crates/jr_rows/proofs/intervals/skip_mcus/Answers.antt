@@ -23,8 +23,8 @@ falls some left rest e more lt = omega (arith, e, more, lt)
 still_there : (from at mcus left all : ℕ) → at ≡ from + (mcus - left) → left ≤ mcus → from + mcus ≤ all → 0 < left → at < all
 still_there from at mcus left all moved within few more = omega (arith, moved, within, few, more)
 
-pub ready-requires-clause-stands : goal.ready-requires-clause-stands
-ready-requires-clause-stands c = c.mcus.invariant.stands
+pub ready-requires-clause-lies : goal.ready-requires-clause-lies
+ready-requires-clause-lies c = c.mcus.invariant.lies
 
 pub ready-requires-clause-more : goal.ready-requires-clause-more
 ready-requires-clause-more c = still_there (mcus_to c.args.scan.now.head c.args.cursor.now) _ c.args.mcus c.mcus.left _ c.mcus.invariant.moved c.mcus.invariant.within c.requires.few c.mcus-test.true
@@ -38,7 +38,7 @@ mcus-smaller c = falls c.min-some.result c.ready.result c.mcus.left c.min-some.e
 pub skip-requires-clause-at : goal.skip-requires-clause-at
 skip-requires-clause-at c =
     let r = c.ready.new.cursor in
-    subst (λ (i : IntervalValue). IsPlaceAfter i r.mcu r.place) (sym c.interval_ref-interval.ensures) c.ready.ensures.stands.at
+    subst (λ (i : IntervalValue). IsPlaceAfter i r.mcu r.place) (sym c.interval_ref-interval.ensures) c.ready.ensures.lies.at
 
 pub skip-requires-clause-few : goal.skip-requires-clause-few
 skip-requires-clause-few c =
@@ -46,5 +46,5 @@ skip-requires-clause-few c =
     let few = some_left r.mcu c.min-some.result c.ready.result c.mcus.left _ c.min-some.ensures c.ready.ensures.left in
     subst (λ (i : IntervalValue). r.mcu + c.min-some.result ≤ i.mcus) (sym c.interval_ref-interval.ensures) few
 
-pub returns-clause-stands : goal.returns-clause-stands
-returns-clause-stands c = c.mcus.invariant.stands
+pub returns-clause-lies : goal.returns-clause-lies
+returns-clause-lies c = c.mcus.invariant.lies

@@ -3,8 +3,8 @@ use Rattle.jr_head.specs.Geometry.{vertical_max}
 use Rattle.jr_paint.specs.Lines.{line_size, next_lines_of}
 use Rattle.jr_picture.specs.DecodedScan.{DecodedScan}
 use Rattle.jr_picture.specs.Samples.{samples_of}
-use Rattle.jr_rows.specs.MarkBytes.{HasMarkRoom, PutsBetween}
-use Rattle.jr_rows.specs.Rows.{AreRowsOf, DecodesFirst, HasSampleRoom}
+use Rattle.jr_rows.specs.MarkBytes.{HasMarkSpace, StoresBetween}
+use Rattle.jr_rows.specs.Rows.{AreRowsOf, DecodesFirst, HasSampleSpace}
 use Rattle.jr_rows.specs.SomeLines.{CountsBetween, row_with}
 use Rattle.jr_rows.proofs.SomeLines.{done_lines}
 use Rattle.jr_rows.proofs.lines.paint_between.Given as goal
@@ -16,15 +16,15 @@ invariant-rows l =
     let n = length t.intervals in
     let done = done_lines h l.fn.first l.fn.end l.rows.row in record {
       rows : AreRowsOf l.part l.rows;
-      within : l.rows.row ≤ l.behind;
+      within : l.rows.row ≤ l.after;
       reaches : l.fn.first < (l.rows.row + 1) * (8 * vertical_max h);
-      room : HasSampleRoom h l.work;
+      space : HasSampleSpace h l.work;
       long : length l.pixels ≡ length l.initial.pixels;
       front : (b : DecodedScan) → DecodesFirst t n b → take (done * line_size h) l.pixels ≡ next_lines_of h (samples_of b) l.fn.first done;
       counts : CountsBetween t (row_with h l.fn.first) l.rows.row l.marked;
-      places : HasMarkRoom t l.marks;
-      puts : PutsBetween t (row_with h l.fn.first) l.rows.row l.initial.marks l.marks;
+      places : HasMarkSpace t l.marks;
+      stores : StoresBetween t (row_with h l.fn.first) l.rows.row l.initial.marks l.marks;
     }
 
 abbrev pub decreases-rows : goal.decreases-rows
-decreases-rows l = l.behind - l.rows.row
+decreases-rows l = l.after - l.rows.row

@@ -1,5 +1,5 @@
 use Rattle.std.proofs.Common.{rules, arith, ap, ◌∙◌, ◌≡◌, ℕ, ◌+◌, ◌*◌, ◌≤◌}
-use Rattle.jr_head.specs.Geometry.{IsLawful, vertical_max}
+use Rattle.jr_head.specs.Geometry.{IsValid, vertical_max}
 use Rattle.jr_paint.specs.Lines.{next_lines_of}
 use Rattle.jr_picture.specs.Samples.{samples_of}
 use Rattle.jr_rows.specs.BandValue.{BandValue}
@@ -14,12 +14,12 @@ returns c b same shows =
     let row = c.args.row in
     let y = c.lines_of-y.result.0 in
     let count = c.lines_of-y.result.1 in
-    let lawful : IsLawful h = search (rules, c.of-band.ensures.lawful) in
+    let valid : IsValid h = search (rules, c.of-band.ensures.valid) in
     let first_is : y ≡ first_line h row = search rules in
     let start : y ≡ first_line h row + 0 = omega (arith, first_is) in
     let lines : count ≡ line_count h row = search rules in
     let most : count ≤ 8 * vertical_max h = search rules in
     let few : 0 + count ≤ 8 * vertical_max h = omega (arith, most) in
     let inside : y + count ≤ h.height = search rules in
-    c.paint_lines.ensures ∙ ap (λ (v : BandValue). next_lines_of v.head (samples_in v) y count) c.of-band.ensures.value ∙ row_painted b h same lawful c.args.samples.now.groups row shows y count 0 start few inside
+    c.paint_lines.ensures ∙ ap (λ (v : BandValue). next_lines_of v.head (samples_in v) y count) c.of-band.ensures.value ∙ row_painted b h same valid c.args.samples.now.groups row shows y count 0 start few inside
     ∙ ap (λ (k : ℕ). next_lines_of h (samples_of b) k count) first_is ∙ ap (next_lines_of h (samples_of b) (first_line h row)) lines

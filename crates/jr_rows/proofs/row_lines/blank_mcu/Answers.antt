@@ -9,17 +9,17 @@ pub loop-j-preserved : goal.loop-j-preserved
 loop-j-preserved c =
     let h = c.args.head.now in
     let j = c.loop-j.j in
-    let new = c.put_unit.new.groups in
+    let new = c.store_unit.new.groups in
     let kept = c.loop-j.invariant in
     let here : j < blocks_of h = search (rules, arith) in
-    let put : unit_in h new c.args.mcu j ≡ unit_shown_of h j None 0 = search (rules, c.put_unit.ensures.here, c.blank_unit.ensures) in
+    let store : unit_in h new c.args.mcu j ≡ unit_shown_of h j None 0 = search (rules, c.store_unit.ensures.here, c.blank_unit.ensures) in
     record {
-      room = record { across_is = kept.room.across_is; long = search (rules, kept.room.long) };
+      space = record { across_is = kept.space.across_is; long = search (rules, kept.space.long) };
       here = λ i lt. elim (cases_lt i j) [
-        | inl l ↦ c.put_unit.ensures.others c.args.mcu i c.requires.mcu (omega (arith, l, here)) (λ _ e. omega (arith, e, l)) ∙ kept.here i l
+        | inl l ↦ c.store_unit.ensures.others c.args.mcu i c.requires.mcu (omega (arith, l, here)) (λ _ e. omega (arith, e, l)) ∙ kept.here i l
         | inr g ↦
             let same : i ≡ j = omega (arith, lt, g) in
-            ap (λ k. unit_in h new c.args.mcu k) same ∙ put ∙ ap (λ k. unit_shown_of h k None 0) (sym same)
+            ap (λ k. unit_in h new c.args.mcu k) same ∙ store ∙ ap (λ k. unit_shown_of h k None 0) (sym same)
       ];
-      others = λ m i lm li apart. c.put_unit.ensures.others m i lm li (λ e _. apart e) ∙ kept.others m i lm li apart;
+      others = λ m i lm li apart. c.store_unit.ensures.others m i lm li (λ e _. apart e) ∙ kept.others m i lm li apart;
     }

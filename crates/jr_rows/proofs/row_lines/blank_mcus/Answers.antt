@@ -12,7 +12,7 @@ loop-mcu-preserved c =
     let kept = c.loop-mcu.invariant in
     let here : mcu < mcus_across h = search rules in
     record {
-      room = record { across_is = kept.room.across_is; long = search (rules, kept.room.long) };
+      space = record { across_is = kept.space.across_is; long = search (rules, kept.space.long) };
       here = λ m j le lt lm lj. elim (cases_lt m mcu) [
         | inl l ↦ c.blank_mcu.ensures.others m j lm lj (λ e. omega (arith, e, l)) ∙ kept.here m j le l lm lj
         | inr g ↦

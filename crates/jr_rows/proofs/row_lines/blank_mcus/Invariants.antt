@@ -7,7 +7,7 @@ use Rattle.jr_rows.proofs.row_lines.blank_mcus.Given as goal
 
 abbrev pub invariant-loop-mcu : goal.invariant-loop-mcu
 invariant-loop-mcu l = record {
-  room : HasGroups l.head l.across l.groups;
+  space : HasGroups l.head l.across l.groups;
   here : (m j : ℕ) → l.first ≤ m → m < l.mcu → m < mcus_across l.head → j < blocks_of l.head → unit_in l.head l.groups m j ≡ unit_shown_of l.head j None 0;
   kept : (m j : ℕ) → m < l.first → m < mcus_across l.head → j < blocks_of l.head → unit_in l.head l.groups m j ≡ unit_in l.head l.initial.groups m j;
 }

@@ -19,7 +19,7 @@ pub overflow_sub-unit : goal.overflow_sub-unit
 overflow_sub-unit c =
     let h = c.args.head.now in
     let own = owner h c.order.result.now c.from-c.result c.args.j c.order.ensures.value c.requires.unit c.from-c.ensures in
-    let there = whose h c.args.j c.requires.lawful c.requires.unit in
+    let there = whose h c.args.j c.requires.valid c.requires.unit in
     omega (arith, c.units_before.ensures.value, ap (blocks_before h) own, there.1)
 
 pub overflow_add-result : goal.overflow_add-result
@@ -27,7 +27,7 @@ overflow_add-result c =
     let h = c.args.head.now in
     let unit = c.args.j - c.units_before.result in
     let small : c.from-c.result < 256 = search (rules, arith) in
-    let few : unit ≤ 10 = omega (arith, c.requires.unit, c.requires.lawful.components.blocks) in
+    let few : unit ≤ 10 = omega (arith, c.requires.unit, c.requires.valid.components.blocks) in
     let rows = div-le_self unit c.horizontal-step.result in
     let line : c.lines_before_component.result + 8 * (unit / c.horizontal-step.result) ≤ 8240 = omega (arith, few, rows, c.lines_before_component.ensures.few, small) in
     let most = mul-le (c.lines_before_component.result + 8 * (unit / c.horizontal-step.result)) c.args.across 8240 262144 line (omega (arith, c.requires.few)) in

@@ -15,19 +15,19 @@ first before across down a d =
 pub place-requires-clause-column : goal.place-requires-clause-column
 place-requires-clause-column c =
     let h = c.args.head.now in
-    let s = sampled_at h c.args.c c.requires.lawful c.requires.component in
-    let some : 0 < h.width * horizontal_of h c.args.c = mul-pos c.requires.lawful.wide s.across in
-    in_div_ceil 0 (h.width * horizontal_of h c.args.c) (horizontal_max h) c.requires.lawful.components.across (omega (arith, some))
+    let s = sampled_at h c.args.c c.requires.valid c.requires.component in
+    let some : 0 < h.width * horizontal_of h c.args.c = mul-pos c.requires.valid.wide s.across in
+    in_div_ceil 0 (h.width * horizontal_of h c.args.c) (horizontal_max h) c.requires.valid.components.across (omega (arith, some))
 
 pub place-requires-clause-line : goal.place-requires-clause-line
 place-requires-clause-line c =
     let h = c.args.head.now in
-    let s = sampled_at h c.args.c c.requires.lawful c.requires.component in
-    let some : 0 < h.height * vertical_of h c.args.c = mul-pos c.requires.lawful.high s.down in
-    in_div_ceil 0 (h.height * vertical_of h c.args.c) (vertical_max h) c.requires.lawful.components.down (omega (arith, some))
+    let s = sampled_at h c.args.c c.requires.valid c.requires.component in
+    let some : 0 < h.height * vertical_of h c.args.c = mul-pos c.requires.valid.high s.down in
+    in_div_ceil 0 (h.height * vertical_of h c.args.c) (vertical_max h) c.requires.valid.components.down (omega (arith, some))
 
 pub returns : goal.returns
 returns c =
     let h = c.args.head.now in
-    let s = sampled_at h c.args.c c.requires.lawful c.requires.component in
+    let s = sampled_at h c.args.c c.requires.valid c.requires.component in
     record { value = ap (λ (p : Spot). p.block) c.place.ensures.closed ∙ first _ (horizontal_of h c.args.c) (vertical_of h c.args.c) s.across s.down }

@@ -24,25 +24,25 @@ fits : (n most at_once across done row : ℕ) → n ≤ most → most ≡ min at
 fits n most at_once across done row few e is within = omega (arith, few, e, is, within)
 
 -- the borrowed blocks fit
-room : (units at_once per most blocks long : ℕ) → units ≤ at_once * per → at_once ≡ most → per ≡ blocks → long ≡ most * blocks → units ≤ long
-room units at_once per most blocks long within e is all = let whole = ap (λ (n : ℕ). n * per) e ∙ ap (λ (n : ℕ). most * n) is in omega (arith, within, whole, all)
+space : (units at_once per most blocks long : ℕ) → units ≤ at_once * per → at_once ≡ most → per ≡ blocks → long ≡ most * blocks → units ≤ long
+space units at_once per most blocks long within e is all = let whole = ap (λ (n : ℕ). n * per) e ∙ ap (λ (n : ℕ). most * n) is in omega (arith, within, whole, all)
 
 pub overflow_sub-shape_of : goal.overflow_sub-shape_of
 overflow_sub-shape_of c = subst (λ (n : ℕ). c.args.done ≤ n) (sym c.shape_of.ensures.across) (le_of_lt c.requires.within)
 
-pub units_to-room-requires-clause-few : goal.units_to-room-requires-clause-few
-units_to-room-requires-clause-few c = few_at_once c.min-most.result c.mcus_at_once-at_once.result _ c.min-most.ensures
+pub units_to-space-requires-clause-few : goal.units_to-space-requires-clause-few
+units_to-space-requires-clause-few c = few_at_once c.min-most.result c.mcus_at_once-at_once.result _ c.min-most.ensures
 
-pub units_to-room-requires-clause-short : goal.units_to-room-requires-clause-short
-units_to-room-requires-clause-short c = c.order-per_mcu.ensures.few
+pub units_to-space-requires-clause-short : goal.units_to-space-requires-clause-short
+units_to-space-requires-clause-short c = c.order-per_mcu.ensures.few
 
 pub slice_bounds-read_whole-end : goal.slice_bounds-read_whole-end
-slice_bounds-read_whole-end c = room _ _ _ _ _ _ c.units_to-room.ensures.within c.mcus_at_once-at_once.ensures.value c.order-per_mcu.ensures.count c.requires.near
+slice_bounds-read_whole-end c = space _ _ _ _ _ _ c.units_to-space.ensures.within c.mcus_at_once-at_once.ensures.value c.order-per_mcu.ensures.count c.requires.near
 
 pub slice_bounds-read_whole-end-2 : goal.slice_bounds-read_whole-end-2
 slice_bounds-read_whole-end-2 c =
-    let inside = room _ _ _ _ _ _ c.units_to-room.ensures.within c.mcus_at_once-at_once.ensures.value c.order-per_mcu.ensures.count c.requires.near in
-    sym (length-take-le c.units_to-room.result c.args.blocks.now inside)
+    let inside = space _ _ _ _ _ _ c.units_to-space.ensures.within c.mcus_at_once-at_once.ensures.value c.order-per_mcu.ensures.count c.requires.near in
+    sym (length-take-le c.units_to-space.result c.args.blocks.now inside)
 
 pub read_whole-whole-requires-clause-head : goal.read_whole-whole-requires-clause-head
 read_whole-whole-requires-clause-head c = c.requires.head
@@ -50,10 +50,10 @@ read_whole-whole-requires-clause-head c = c.requires.head
 pub read_whole-whole-requires-clause-some : goal.read_whole-whole-requires-clause-some
 read_whole-whole-requires-clause-some c = some_left _ _ _ _ _ c.min-most.ensures c.shape_of.ensures.across c.requires.within c.mcus_at_once-at_once.ensures.some
 
-pub read_whole-whole-requires-clause-room : goal.read_whole-whole-requires-clause-room
-read_whole-whole-requires-clause-room c =
-    let inside = room _ _ _ _ _ _ c.units_to-room.ensures.within c.mcus_at_once-at_once.ensures.value c.order-per_mcu.ensures.count c.requires.near in
-    length-take-le c.units_to-room.result c.args.blocks.now inside ∙ c.units_to-room.ensures.value ∙ ap (λ (k : ℕ). c.min-most.result * k) c.order-per_mcu.ensures.count
+pub read_whole-whole-requires-clause-space : goal.read_whole-whole-requires-clause-space
+read_whole-whole-requires-clause-space c =
+    let inside = space _ _ _ _ _ _ c.units_to-space.ensures.within c.mcus_at_once-at_once.ensures.value c.order-per_mcu.ensures.count c.requires.near in
+    length-take-le c.units_to-space.result c.args.blocks.now inside ∙ c.units_to-space.ensures.value ∙ ap (λ (k : ℕ). c.min-most.result * k) c.order-per_mcu.ensures.count
 
 pub units_to-read-requires-clause-few : goal.units_to-read-requires-clause-few
 units_to-read-requires-clause-few c = le_trans c.read_whole-whole.ensures.few (few_at_once c.min-most.result c.mcus_at_once-at_once.result _ c.min-most.ensures)
@@ -64,14 +64,14 @@ units_to-read-requires-clause-short c = c.order-per_mcu.ensures.few
 pub slice_bounds-transform_blocks-end : goal.slice_bounds-transform_blocks-end
 slice_bounds-transform_blocks-end c =
     let units = c.units_to-read.ensures.value ∙ ap (λ (k : ℕ). c.read_whole-whole.result * k) c.order-per_mcu.ensures.count in
-    let rest = drop c.units_to-room.result c.args.blocks.now in
+    let rest = drop c.units_to-space.result c.args.blocks.now in
     omega (arith, units, c.read_whole-whole.ensures.fits, length-append c.read_whole-whole.new.blocks rest)
 
-pub transform_blocks-requires-clause-room : goal.transform_blocks-requires-clause-room
-transform_blocks-requires-clause-room c = c.requires.room
+pub transform_blocks-requires-clause-space : goal.transform_blocks-requires-clause-space
+transform_blocks-requires-clause-space c = c.requires.space
 
-pub returns-clause-room : goal.returns-clause-room
-returns-clause-room c = c.transform_blocks.ensures.room
+pub returns-clause-space : goal.returns-clause-space
+returns-clause-space c = c.transform_blocks.ensures.space
 
 pub returns-clause-run : goal.returns-clause-run
 returns-clause-run c = c.read_whole-whole.ensures.run
@@ -94,7 +94,7 @@ transform_blocks-requires-clause-inside c =
     let n = c.read_whole-whole.result in
     let zs = c.read_whole-whole.new.blocks in
     let units : c.units_to-read.result ≡ n * blocks_of h = c.units_to-read.ensures.value ∙ ap (λ (k : ℕ). n * k) c.order-per_mcu.ensures.count in
-    let front = read c.units_to-read.result (n * blocks_of h) zs (drop c.units_to-room.result c.args.blocks.now) units c.read_whole-whole.ensures.fits in
+    let front = read c.units_to-read.result (n * blocks_of h) zs (drop c.units_to-space.result c.args.blocks.now) units c.read_whole-whole.ensures.fits in
     let long = length-take-le (n * blocks_of h) zs c.read_whole-whole.ensures.fits in
     let few : c.args.done + n ≤ mcus_across h = fits _ _ _ _ _ _ c.read_whole-whole.ensures.few c.min-most.ensures c.shape_of.ensures.across c.requires.within in
     let all : (c.args.done + n) * blocks_of h ≤ mcus_across h * blocks_of h = mul-le-mul_right {m = c.args.done + n} {n = mcus_across h} (blocks_of h) few in
@@ -108,7 +108,7 @@ returns-clause-decoded c =
     let held = c.read_whole-whole.new.blocks in
     let zs = take (n * blocks_of h) held in
     let units : c.units_to-read.result ≡ n * blocks_of h = c.units_to-read.ensures.value ∙ ap (λ (k : ℕ). n * k) c.order-per_mcu.ensures.count in
-    let front = read c.units_to-read.result (n * blocks_of h) held (drop c.units_to-room.result c.args.blocks.now) units c.read_whole-whole.ensures.fits in
+    let front = read c.units_to-read.result (n * blocks_of h) held (drop c.units_to-space.result c.args.blocks.now) units c.read_whole-whole.ensures.fits in
     let long : length zs ≡ n * blocks_of h = length-take-le (n * blocks_of h) held c.read_whole-whole.ensures.fits in
     let e = sym c.requires.head in
     record {

@@ -14,7 +14,7 @@ some : (c : goal.After-blocks-1) → 0 < blocks_of c.args.head.now
 some c = omega (arith, c.order-some.ensures.some, c.order-some.ensures.count)
 
 long : (c : goal.After-blocks-1) → length c.read.new.blocks ≡ c.args.most * blocks_of c.args.head.now
-long c = let same : length c.read.new.blocks ≡ length c.args.blocks.now = search rules in same ∙ c.requires.room
+long c = let same : length c.read.new.blocks ≡ length c.args.blocks.now = search rules in same ∙ c.requires.space
 
 read : (c : goal.After-blocks-1) → c.read.result * per_mcu c.args.reader.now ≡ c.read.result * blocks_of c.args.head.now
 read c = ap (λ (n : ℕ). c.read.result * n) (per c)
@@ -31,5 +31,5 @@ returns-clause-read c zs before = subst (λ (n : ℕ). HasRead c.read.new.self (
 pub returns-clause-none : goal.returns-clause-none
 returns-clause-none c none =
     let one : (c.read.result + 1) * per_mcu c.args.reader.now ≡ 1 * per_mcu c.args.reader.now = ap (λ (n : ℕ). (n + 1) * per_mcu c.args.reader.now) none in
-    let room : 1 * blocks_of c.args.head.now ≤ c.args.most * blocks_of c.args.head.now = mul-le-mul_right {m = 1} {n = c.args.most} (blocks_of c.args.head.now) c.requires.some in
-    c.read.ensures.ended (omega (arith, one, room, long c, per c))
+    let space : 1 * blocks_of c.args.head.now ≤ c.args.most * blocks_of c.args.head.now = mul-le-mul_right {m = 1} {n = c.args.most} (blocks_of c.args.head.now) c.requires.some in
+    c.read.ensures.ended (omega (arith, one, space, long c, per c))

@@ -7,7 +7,7 @@ use mir.Val.{Fits}
 use Rattle.jr_base.specs.Tally.{Writes, WritesBeginning}
 use Rattle.jr_base.proofs.Appending.{on_err, front_first}
 use Rattle.jr_head.specs.HeadValue.{HeadValue}
-use Rattle.jr_head.specs.Geometry.{IsLawful, mcus_down, vertical_max}
+use Rattle.jr_head.specs.Geometry.{IsValid, mcus_down, vertical_max}
 use Rattle.jr_paint.specs.Lines.{line_size, next_lines_of}
 use Rattle.jr_paint.specs.Text.{header_of, lines_of}
 use Rattle.jr_paint.specs.Written.{WritesUpTo}
@@ -40,12 +40,12 @@ rows-init g c =
     let h = at.scan.head in
     let known = g.W.Write.contents in
     let old = c.args.pixels.now in
-    let new = c.put_header-filled.new.bytes in
-    let end = c.put_header-filled.result in
-    let same : length new ≡ length old.items = c.put_header-filled.auto.bytes ∙ ap (λ (l : List ℕ). length l) c.deref_mut.ensures.value in
+    let new = c.write_header-filled.new.bytes in
+    let end = c.write_header-filled.result in
+    let same : length new ≡ length old.items = c.write_header-filled.auto.bytes ∙ ap (λ (l : List ℕ). length l) c.deref_mut.ensures.value in
     let long : old.len ≡ length new = old.ok.0 ∙ sym same in
     let is : take old.len (new ++ drop (length new) old.items) ≡ new = ap (λ (n : ℕ). take n (new ++ drop (length new) old.items)) long ∙ take-append_seam new (drop (length new) old.items) in
-    let inside : end ≤ length new = omega (arith, same, c.put_header-filled.ensures.end, c.requires.header) in
+    let inside : end ≤ length new = omega (arith, same, c.write_header-filled.ensures.end, c.requires.header) in
     record {
       within = omega arith;
       at_row = ap (λ n. record at { row = n }) c.requires.start;
@@ -57,7 +57,7 @@ rows-init g c =
           let f = samples_of b in
           let header = take end new in
           let nothing = nothing_written known c.args.out.now header in
-          let all : WritesUpTo known c.args.out.now c.args.out.now (header_of h ++ lines_of h f (min (0 * (8 * vertical_max h)) h.height)) header = rw (no_lines h, text_none h f, ← (c.put_header-filled.ensures.front ∙ ap header_of c.requires.head)) nothing in
+          let all : WritesUpTo known c.args.out.now c.args.out.now (header_of h ++ lines_of h f (min (0 * (8 * vertical_max h)) h.height)) header = rw (no_lines h, text_none h f, ← (c.write_header-filled.ensures.front ∙ ap header_of c.requires.head)) nothing in
           let held = subst (λ (ps : List ℕ). WritesUpTo known c.args.out.now c.args.out.now (header_of h ++ lines_of h f (min (0 * (8 * vertical_max h)) h.height)) (take end ps)) (sym is) all in
           search (rules, held);
     }
@@ -67,8 +67,8 @@ returns-in_err-filled-clause-sent g c b first =
     let h = (g.P.RowPainter.at c.args.painter.now).scan.head in
     let y = min (c.rows.row * (8 * vertical_max h)) h.height in
     let all = text_begins h (samples_of b) y (omega arith) in
-    let failed = subst (λ (ps : List ℕ). WritesBeginning g.W.Write.contents c.rows.out c.make_room.new.out (take c.rows.filled ps)) c.deref.ensures.value c.in_err-filled.ensures.err in
-    let sent = begun g.W.Write.contents c.args.out.now c.rows.out c.make_room.new.out _ _ (c.rows.invariant.sent b first) failed in
+    let failed = subst (λ (ps : List ℕ). WritesBeginning g.W.Write.contents c.rows.out c.make_space.new.out (take c.rows.filled ps)) c.deref.ensures.value c.in_err-filled.ensures.err in
+    let sent = begun g.W.Write.contents c.args.out.now c.rows.out c.make_space.new.out _ _ (c.rows.invariant.sent b first) failed in
     record {
       ok = search rules;
       err = on_err c.from_residual.result _ (rw all.1 (front_first _ all.0 sent));
@@ -90,8 +90,8 @@ rows-preserved g c =
     let n = count * c.shape_of-shape.result.line in
     let pix = take (filled + n - filled) (drop filled new) in
     let head = c.requires.head in
-    let room : filled + n ≤ length old = subst (λ (ps : List ℕ). filled + n ≤ length ps) c.deref.ensures.value c.in_ok-filled.ensures.room in
-    let made : WritesUpTo known c.rows.out c.make_room.new.out (take c.rows.filled old) (take filled old) = subst (λ (ps : List ℕ). WritesUpTo known c.rows.out c.make_room.new.out (take c.rows.filled ps) (take filled ps)) c.deref.ensures.value c.in_ok-filled.ensures.ok in
+    let space : filled + n ≤ length old = subst (λ (ps : List ℕ). filled + n ≤ length ps) c.deref.ensures.value c.in_ok-filled.ensures.space in
+    let made : WritesUpTo known c.rows.out c.make_space.new.out (take c.rows.filled old) (take filled old) = subst (λ (ps : List ℕ). WritesUpTo known c.rows.out c.make_space.new.out (take c.rows.filled ps) (take filled ps)) c.deref.ensures.value c.in_ok-filled.ensures.ok in
     let long : length new ≡ length old = c.paint-more.ensures.long in
     let more : filled + n - filled ≡ n = omega arith in
     let whole : take (filled + n) new ≡ take filled old ++ pix = take-add filled n new ∙ ap (λ (zs : List ℕ). zs ++ take n (drop filled new)) c.paint-more.ensures.kept ∙ ap (λ (k : ℕ). take filled old ++ take k (drop filled new)) (sym more) in
@@ -101,7 +101,7 @@ rows-preserved g c =
       within = omega (arith, c.rows-test.true, c.shape_of-shape.ensures.down ∙ ap (λ (k : HeadValue). mcus_down k) head);
       at_row = c.paint-more.ensures.moved ∙ ap (λ (r : RowsValue). record r { row = r.row + 1 }) here;
       pixels = long ∙ c.rows.invariant.pixels;
-      filled = rw long room;
+      filled = rw long space;
       unfailed = search rules;
       counts = counts_both at.scan at.limit _ _ _ c.rows.marked c.paint-more.result c.with-marked.result c.rows.invariant.counts marks c.with-marked.ensures.sound c.with-marked.ensures.damaged;
       sent = λ b first.
@@ -114,17 +114,17 @@ rows-preserved g c =
           let pixels : pix ≡ next_lines_of h f y count = lines b first ∙ ap (λ (k : ℕ). next_lines_of h f k (line_count h row)) (sym first_is) ∙ ap (λ (k : ℕ). next_lines_of h f y k) (sym count_is) in
           let text : header_of h ++ lines_of h f (y + count) ≡ before ++ pix = text_more h f y count ∙ ap (λ z. before ++ z) (sym pixels) in
           let prior = subst (λ k. WritesUpTo known c.args.out.now c.rows.out (header_of h ++ lines_of h f k) (take c.rows.filled old)) before_is (c.rows.invariant.sent b first) in
-          let held = written_on known c.args.out.now c.rows.out c.make_room.new.out before (take c.rows.filled old) (take filled old) prior made in
-          let all = held_more known c.args.out.now c.make_room.new.out before (take filled old) pix held in
-          subst (λ k. WritesUpTo known c.args.out.now c.make_room.new.out (header_of h ++ lines_of h f k) (take (filled + n) new)) (sym next) (rw (text, whole) all);
+          let held = written_on known c.args.out.now c.rows.out c.make_space.new.out before (take c.rows.filled old) (take filled old) prior made in
+          let all = held_more known c.args.out.now c.make_space.new.out before (take filled old) pix held in
+          subst (λ k. WritesUpTo known c.args.out.now c.make_space.new.out (header_of h ++ lines_of h f k) (take (filled + n) new)) (sym next) (rw (text, whole) all);
     }
 
 pub returns-in_err-write_all-clause-sent : goal.returns-in_err-write_all-clause-sent
 returns-in_err-write_all-clause-sent g c b first =
     let h = (g.P.RowPainter.at c.args.painter.now).scan.head in
     let end : c.rows.row ≡ mcus_down h = omega (arith, c.rows.invariant.within, c.rows-test.false, c.shape_of-shape.ensures.down ∙ ap (λ (k : HeadValue). mcus_down k) c.requires.head) in
-    let lawful : IsLawful h = subst (λ (k : HeadValue). IsLawful k) c.requires.head c.assert_invariant.ensures in
-    let sent = rw (end, all_lines h lawful, ← text_is h (samples_of b)) at (c.rows.invariant.sent b first) in
+    let valid : IsValid h = subst (λ (k : HeadValue). IsValid k) c.requires.head c.assert_invariant.ensures in
+    let sent = rw (end, all_lines h valid, ← text_is h (samples_of b)) at (c.rows.invariant.sent b first) in
     let failed = subst (λ (ps : List ℕ). WritesBeginning g.W.Write.contents c.rows.out c.write_all.new.out (take c.rows.filled ps)) c.deref-2.ensures.value c.in_err-write_all.ensures.err in
     record {
       ok = search rules;
@@ -142,20 +142,20 @@ pub returns-clause-sent : goal.returns-clause-sent
 returns-clause-sent g c b first =
     let h = (g.P.RowPainter.at c.args.painter.now).scan.head in
     let end : c.rows.row ≡ mcus_down h = omega (arith, c.rows.invariant.within, c.rows-test.false, c.shape_of-shape.ensures.down ∙ ap (λ (k : HeadValue). mcus_down k) c.requires.head) in
-    let lawful : IsLawful h = subst (λ (k : HeadValue). IsLawful k) c.requires.head c.assert_invariant.ensures in
-    let sent = rw (end, all_lines h lawful, ← text_is h (samples_of b)) at (c.rows.invariant.sent b first) in
+    let valid : IsValid h = subst (λ (k : HeadValue). IsValid k) c.requires.head c.assert_invariant.ensures in
+    let sent = rw (end, all_lines h valid, ← text_is h (samples_of b)) at (c.rows.invariant.sent b first) in
     let ready = take c.rows.filled c.rows.pixels.items in
     let ok : Writes g.W.Write.contents c.rows.out c.write_all.new.out ready = search (rules, c.in_ok-write_all.ensures.ok) in
     rest_sent g.W.Write.contents c.args.out.now c.rows.out c.write_all.new.out (Ok c.rows.marked) _ _ sent ok tt (search rules)
 
-pub make_room-requires-clause-fits : goal.make_room-requires-clause-fits
-make_room-requires-clause-fits g c =
+pub make_space-requires-clause-fits : goal.make_space-requires-clause-fits
+make_space-requires-clause-fits g c =
     let h = c.args.head.now in
     let fit = lines_fit c.lines_of-y.result.1 (8 * vertical_max h) c.shape_of-shape.result.line (line_size h) (length c.args.pixels.now.items) c.lines_of-y.ensures.few c.shape_of-shape.ensures.line c.requires.pixels in
     let held = c.args.pixels.now in
-    let new = c.put_header-filled.new.bytes in
+    let new = c.write_header-filled.new.bytes in
     let same : held.len ≡ length held.items = held.ok.0 in
-    let wide : held.len ≡ length new = same ∙ sym (c.put_header-filled.auto.bytes ∙ ap (λ (l : List ℕ). length l) c.deref_mut.ensures.value) in
+    let wide : held.len ≡ length new = same ∙ sym (c.write_header-filled.auto.bytes ∙ ap (λ (l : List ℕ). length l) c.deref_mut.ensures.value) in
     let start = ap (λ (l : List ℕ). length l) (all_back held.len new held.items wide) ∙ sym wide ∙ same in
     let long = ap (λ (l : List ℕ). length l) c.deref.ensures.value ∙ c.rows.invariant.pixels ∙ start in
     subst (λ (n : ℕ). c.lines_of-y.result.1 * c.shape_of-shape.result.line ≤ n) (sym long) fit
@@ -163,11 +163,11 @@ make_room-requires-clause-fits g c =
 pub lines_of-y-requires : goal.lines_of-y-requires
 lines_of-y-requires g c = subst (λ (n : ℕ). c.rows.row < n) c.shape_of-shape.ensures.down c.rows-test.true
 
-pub make_room-requires-clause-unfailed : goal.make_room-requires-clause-unfailed
-make_room-requires-clause-unfailed g c = c.rows.invariant.unfailed
+pub make_space-requires-clause-unfailed : goal.make_space-requires-clause-unfailed
+make_space-requires-clause-unfailed g c = c.rows.invariant.unfailed
 
-pub make_room-requires-clause-filled : goal.make_room-requires-clause-filled
-make_room-requires-clause-filled g c = subst (λ (ps : List ℕ). c.rows.filled ≤ length ps) (sym c.deref.ensures.value) c.rows.invariant.filled
+pub make_space-requires-clause-filled : goal.make_space-requires-clause-filled
+make_space-requires-clause-filled g c = subst (λ (ps : List ℕ). c.rows.filled ≤ length ps) (sym c.deref.ensures.value) c.rows.invariant.filled
 
 pub overflow_mul-size : goal.overflow_mul-size
 overflow_mul-size g c =
@@ -183,10 +183,10 @@ paint-more-requires-clause-row g c =
 pub paint-more-requires-clause-within : goal.paint-more-requires-clause-within
 paint-more-requires-clause-within g c =
     let end = c.in_ok-filled.filled + c.lines_of-y.result.1 * c.shape_of-shape.result.line in
-    subst (λ (ps : List ℕ). end ≤ length ps) c.deref.ensures.value c.in_ok-filled.ensures.room
+    subst (λ (ps : List ℕ). end ≤ length ps) c.deref.ensures.value c.in_ok-filled.ensures.space
 
-pub paint-more-requires-clause-room : goal.paint-more-requires-clause-room
-paint-more-requires-clause-room g c =
+pub paint-more-requires-clause-space : goal.paint-more-requires-clause-space
+paint-more-requires-clause-space g c =
     let h = (g.P.RowPainter.at c.args.painter.now).scan.head in
     let row = c.rows.row in
     let filled = c.in_ok-filled.filled in
@@ -203,8 +203,8 @@ with-marked-requires g c =
     let row = c.rows.row in
     let marks : CountsRow at.scan at.limit row c.paint-more.result = subst (λ (r : RowsValue). CountsRow r.scan r.limit r.row c.paint-more.result) c.rows.invariant.at_row c.paint-more.ensures.counts in
     let few = ends_few at.scan.head (coded_before at.scan.head at.limit (row + 1)) in
-    let room : intervals_of at.scan.head < 2 ^ 32 = subst (λ (k : HeadValue). intervals_of k < 2 ^ 32) c.requires.head c.requires.intervals in
-    marks_fit _ (c.rows.marked.sound + c.rows.marked.damaged) (c.paint-more.result.sound + c.paint-more.result.damaged) _ _ _ c.rows.invariant.counts.few marks.few few room
+    let space : intervals_of at.scan.head < 2 ^ 32 = subst (λ (k : HeadValue). intervals_of k < 2 ^ 32) c.requires.head c.requires.intervals in
+    marks_fit _ (c.rows.marked.sound + c.rows.marked.damaged) (c.paint-more.result.sound + c.paint-more.result.damaged) _ _ _ c.rows.invariant.counts.few marks.few few space
 
 pub slice_bounds-write_all-end : goal.slice_bounds-write_all-end
 slice_bounds-write_all-end g c =

@@ -1,12 +1,12 @@
 use Rattle.std.proofs.Common.{rules, arith, subst, sym, ap, ◌≡◌, ℕ, ◌*◌, ◌<◌, ◌≤◌, ◌^◌, ◌∙◌, length}
 use Rattle.std.specs.Prelude.{is_err}
 use Rattle.jr_head.specs.HeadValue.{HeadValue}
-use Rattle.jr_head.specs.Geometry.{IsLawful, vertical_max}
+use Rattle.jr_head.specs.Geometry.{IsValid, vertical_max}
 use Rattle.jr_scan.specs.FirstIntervalsValue.{least, FirstIntervalsValue}
 use Rattle.jr_scan.specs.ScanValue.{ScanValue, intervals_of}
 use Rattle.jr_paint.specs.Lines.{line_size}
 use Rattle.jr_rows.specs.Stream.{SendsPicture, HasCounts}
-use Rattle.jr_rows.specs.Rows.{CountsRows, HasSampleRoom}
+use Rattle.jr_rows.specs.Rows.{CountsRows, HasSampleSpace}
 use Rattle.jr_rows.specs.RowsValue.{RowsValue}
 use Rattle.jr_rows.proofs.FirstDecoded.{least_few}
 use Rattle.jr_piece.proofs.EachOutcome.{outcome}
@@ -14,27 +14,27 @@ use Rattle.jr_rows.proofs.Sendings.{painted_picture, begun_picture}
 use Rattle.jr_rows.proofs.writing.write_scan.Goals as goal
 
 -- what fits into the requested buffer fits into the actual one
-fits : (n room len long : ℕ) → n ≤ room → len ≡ room → len ≡ long → n ≤ long
-fits n room len long le e is = omega (arith, le, e, is)
+fits : (n space len long : ℕ) → n ≤ space → len ≡ space → len ≡ long → n ≤ long
+fits n space len long le e is = omega (arith, le, e, is)
 
 pub returns-in-Ok-write_rows-clause-painted : goal.returns-in-Ok-write_rows-clause-painted
 returns-in-Ok-write_rows-clause-painted g c =
     let t = c.args.scan.now in
     let n = least c.args.first (length t.intervals) in
-    let lawful = subst IsLawful c.head.ensures.value c.head.ensures.lawful in
+    let valid = subst IsValid c.head.ensures.value c.head.ensures.valid in
     let is : c.limit-limit.result ≡ n = c.limit-limit.ensures.value ∙ ap (λ (p : FirstIntervalsValue). p.limit) c.of-part.ensures in
     let painter = subst (λ (r : RowsValue). SendsPicture g.W.Write.contents c.args.out.now c.write_rows.new.out c.write_rows.result r.scan r.limit) c.of-painter.ensures c.write_rows.ensures.sent in
     let sends = subst (λ (p : FirstIntervalsValue). SendsPicture g.W.Write.contents c.args.out.now c.write_rows.new.out c.write_rows.result p.scan p.limit) c.of-part.ensures painter in
-    painted_picture g.W.Write.contents _ _ c.write_rows.result outcome t lawful n (least_few c.args.first (length t.intervals)) sends _ c.in-Ok-write_rows.is c.counts_of.result (subst (λ (k : ℕ). HasCounts t k c.counts_of.result) is c.counts_of.ensures)
+    painted_picture g.W.Write.contents _ _ c.write_rows.result outcome t valid n (least_few c.args.first (length t.intervals)) sends _ c.in-Ok-write_rows.is c.counts_of.result (subst (λ (k : ℕ). HasCounts t k c.counts_of.result) is c.counts_of.ensures)
 
 pub returns-clause-begun : goal.returns-clause-begun
 returns-clause-begun g c failed =
     let t = c.args.scan.now in
     let n = least c.args.first (length t.intervals) in
-    let lawful = subst IsLawful c.head.ensures.value c.head.ensures.lawful in
+    let valid = subst IsValid c.head.ensures.value c.head.ensures.valid in
     let painter = subst (λ (r : RowsValue). SendsPicture g.W.Write.contents c.args.out.now c.write_rows.new.out c.write_rows.result r.scan r.limit) c.of-painter.ensures c.write_rows.ensures.sent in
     let sends = subst (λ (p : FirstIntervalsValue). SendsPicture g.W.Write.contents c.args.out.now c.write_rows.new.out c.write_rows.result p.scan p.limit) c.of-part.ensures painter in
-    begun_picture g.W.Write.contents _ _ c.write_rows.result outcome t lawful n (least_few c.args.first (length t.intervals)) sends _ c.in-Err.is
+    begun_picture g.W.Write.contents _ _ c.write_rows.result outcome t valid n (least_few c.args.first (length t.intervals)) sends _ c.in-Err.is
 
 pub returns-clause-memory : goal.returns-clause-memory
 returns-clause-memory g c = search rules
@@ -55,8 +55,8 @@ counts_of-requires-clause-counts g c =
 
 pub of-painter-requires : goal.of-painter-requires
 of-painter-requires g c =
-    let here = subst (λ (h : HeadValue). HasSampleRoom h c.in-Ok.work) c.head.ensures.value c.in-Ok.ensures in
-    record { room = subst (λ (p : FirstIntervalsValue). HasSampleRoom p.scan.head c.in-Ok.work) (sym c.of-part.ensures) here }
+    let here = subst (λ (h : HeadValue). HasSampleSpace h c.in-Ok.work) c.head.ensures.value c.in-Ok.ensures in
+    record { space = subst (λ (p : FirstIntervalsValue). HasSampleSpace p.scan.head c.in-Ok.work) (sym c.of-part.ensures) here }
 
 pub write_rows-requires-clause-head : goal.write_rows-requires-clause-head
 write_rows-requires-clause-head g c = c.head-3.ensures.value ∙ sym (ap (λ (r : RowsValue). r.scan.head) c.of-painter.ensures ∙ ap (λ (p : FirstIntervalsValue). p.scan.head) c.of-part.ensures)
@@ -79,13 +79,13 @@ pub write_rows-requires-clause-pixels : goal.write_rows-requires-clause-pixels
 write_rows-requires-clause-pixels g c =
     let pixels = c.in-Ok-vec.pixels in
     let head = c.head-2.ensures.value ∙ sym c.head-3.ensures.value in
-    let lines = subst (λ (h : HeadValue). 8 * vertical_max h * line_size h ≤ c.room_for.result) head c.room_for.ensures.lines in
-    fits _ c.room_for.result pixels.len (length pixels.items) lines c.in-Ok-vec.ensures.len pixels.ok.0
+    let lines = subst (λ (h : HeadValue). 8 * vertical_max h * line_size h ≤ c.space_for.result) head c.space_for.ensures.lines in
+    fits _ c.space_for.result pixels.len (length pixels.items) lines c.in-Ok-vec.ensures.len pixels.ok.0
 
 pub write_rows-requires-clause-header : goal.write_rows-requires-clause-header
 write_rows-requires-clause-header g c =
     let pixels = c.in-Ok-vec.pixels in
-    fits _ c.room_for.result pixels.len (length pixels.items) c.room_for.ensures.header c.in-Ok-vec.ensures.len pixels.ok.0
+    fits _ c.space_for.result pixels.len (length pixels.items) c.space_for.ensures.header c.in-Ok-vec.ensures.len pixels.ok.0
 
 pub counts_of-requires-clause-few : goal.counts_of-requires-clause-few
 counts_of-requires-clause-few g c =

@@ -4,4 +4,4 @@ use Rattle.jr_scan.proofs.Runs as laws
 use Rattle.jr_scan.proofs.laws.runs_meet.Goals as goal
 
 pub returns : goal.returns
-returns c = λ i p k m a b lawful all. laws.runs_meet i p a.to b.to k m a.blocks b.blocks b.end (laws.component_low i.head lawful) (subst (IsRun (run_from i p k) a.blocks a.to) all a.is) b.is
+returns c = λ i p k m a b valid all. laws.runs_meet i p a.to b.to k m a.blocks b.blocks b.end (laws.component_low i.head valid) (subst (IsRun (run_from i p k) a.blocks a.to) all a.is) b.is

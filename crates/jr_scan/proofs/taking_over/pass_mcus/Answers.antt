@@ -16,7 +16,7 @@ loop-k-preserved c =
     let before = c.loop-k.invariant.run in
     let ys = c.in-Some.ensures.run in
     record {
-      run = (before.0 ++ ys.0, runs_meet i c.args.place.now c.loop-k.place c.in-Some.to c.loop-k.k 1 before.0 ys.0 AllRead (component_low i.head c.in-Some.ensures.lawful) before.1 ys.1);
+      run = (before.0 ++ ys.0, runs_meet i c.args.place.now c.loop-k.place c.in-Some.to c.loop-k.k 1 before.0 ys.0 AllRead (component_low i.head c.in-Some.ensures.valid) before.1 ys.1);
       within = c.in-Some.ensures.within;
       in_range = c.in-Some.ensures.in_range;
     }

@@ -5,11 +5,11 @@ use Rattle.std.proofs.lemmas.Nat.{mul-le}
 use borrow.Rule.Slice.PartMut.{mid_len, put_mid, take_put}
 use Rattle.jr_head.specs.HeadValue.{HeadValue}
 use Rattle.jr_paint.specs.Lines.{line_size, next_lines_of}
-use Rattle.jr_view.proofs.PartialViews.{put_behind, rest_same}
+use Rattle.jr_view.proofs.PartialViews.{store_after, rest_same}
 use Rattle.jr_view.proofs.finished_view.paint_rest.Goals as goal
 
-pub paint_scan_lines-requires-clause-room : goal.paint_scan_lines-requires-clause-room
-paint_scan_lines-requires-clause-room c =
+pub paint_scan_lines-requires-clause-space : goal.paint_scan_lines-requires-clause-space
+paint_scan_lines-requires-clause-space c =
     let h = c.args.scan.now.head in
     let head : c.head-head.result.now ≡ h = c.head-head.ensures.value in
     let line : c.shape_of.result.line ≡ line_size h = c.shape_of.ensures.line ∙ ap (λ (g : HeadValue). line_size g) head in
@@ -57,7 +57,7 @@ returns-clause-rest c marks f shows =
     let tail = c.paint_scan_lines.new.pixels in
     let painted = put_mid from (length c.args.pixels.now - from) c.args.pixels.now tail in
     let lines : tail ≡ next_lines_of h f c.args.first (c.height.result - c.args.first) = rest_same s c.args.first (c.height.result - c.args.first) tail c.in_ok-paint_scan_lines.field-0 few c.in_ok-paint_scan_lines.ensures.painted marks f shows in
-    subst (λ (k : ℕ). drop k painted ≡ tail) from_is (put_behind from c.args.pixels.now tail inside) ∙ lines ∙ ap (next_lines_of h f c.args.first) count
+    subst (λ (k : ℕ). drop k painted ≡ tail) from_is (store_after from c.args.pixels.now tail inside) ∙ lines ∙ ap (next_lines_of h f c.args.first) count
 
 pub returns-then-left-eq0-clause-rest : goal.returns-then-left-eq0-clause-rest
 returns-then-left-eq0-clause-rest c marks f shows =

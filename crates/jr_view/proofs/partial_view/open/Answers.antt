@@ -12,8 +12,8 @@ pub returns-in_default-clause-seen : goal.returns-in_default-clause-seen
 returns-in_default-clause-seen c bytes seen =
     seen_same c.args.partial_file.now c.begin.new.self c.args.pixels.now.items (length c.args.row.now.items) (length c.args.row.now.items) bytes c.begin.ensures.lines (c.begin.ensures.partial_file bytes seen.partial_file) refl seen
 
-pub returns-in_default-row_room-clause-seen : goal.returns-in_default-row_room-clause-seen
-returns-in_default-row_room-clause-seen c bytes seen =
+pub returns-in_default-row_space-clause-seen : goal.returns-in_default-row_space-clause-seen
+returns-in_default-row_space-clause-seen c bytes seen =
     seen_same c.args.partial_file.now c.begin.new.self c.args.pixels.now.items (length c.args.row.now.items) (length c.args.row.now.items) bytes c.begin.ensures.lines (c.begin.ensures.partial_file bytes seen.partial_file) refl seen
 
 pub returns-in_default-grey_lines-clause-seen : goal.returns-in_default-grey_lines-clause-seen
@@ -25,5 +25,5 @@ returns-clause-seen c bytes seen =
     let is : (eqb (length c.args.pixels.now.items) 0) ≡ true = search rules in
     let empty : c.args.pixels.now.items ≡ [] = nil_from_length c.args.pixels.now.items (eqb-true (length c.args.pixels.now.items) 0 is) in
     let come = c.begin.ensures.partial_file bytes seen.partial_file in
-    seen_grey c.args.partial_file.now c.begin.new.self c.in-Some.head.now c.args.pixels.now.items c.in-Ok-grey_lines.lines.items (length c.args.row.now.items) (length c.in-Ok-row_room.next.items) bytes
-    empty c.begin.ensures.lines come (c.in-Some.ensures.head bytes come) c.in-Ok-grey_lines.ensures.grey c.in-Ok-row_room.ensures seen
+    seen_grey c.args.partial_file.now c.begin.new.self c.in-Some.head.now c.args.pixels.now.items c.in-Ok-grey_lines.lines.items (length c.args.row.now.items) (length c.in-Ok-row_space.next.items) bytes
+    empty c.begin.ensures.lines come (c.in-Some.ensures.head bytes come) c.in-Ok-grey_lines.ensures.grey c.in-Ok-row_space.ensures seen

@@ -1,5 +1,5 @@
-use Rattle.jr_view.specs.Lookers.{Tells}
+use Rattle.jr_view.specs.Lookers.{Reports}
 use Rattle.jr_view.proofs.watching.look_meanwhile.Given as goal
 
 abbrev pub invariant-loop : goal.invariant-loop
-invariant-loop g l = Tells g.S.Screen.becomes l.decoding.scan l.fn.looker l.fn.screen l.looker l.screen
+invariant-loop g l = Reports g.S.Screen.becomes l.decoding.scan l.fn.looker l.fn.screen l.looker l.screen

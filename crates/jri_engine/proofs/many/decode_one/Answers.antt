@@ -5,7 +5,7 @@ use Rattle.jr_picture.specs.declared.report.Fault.{Fault}
 use Rattle.jr_picture.specs.declared.report.Fault.TheVariants as fault
 use Rattle.jri_words.specs.declared.devices.Existing.TheVariants.{Kept}
 use Rattle.jri_words.specs.Steps.{IsInDirectory, LeavesFile}
-use Rattle.jri_words.proofs.StepLemmas.{none_yet, status_tells, undone}
+use Rattle.jri_words.proofs.StepLemmas.{none_yet, status_reports, undone}
 use Rattle.jri_engine.proofs.many.decode_one.Goals as goal
 
 pub returns-in_default : goal.returns-in_default
@@ -13,9 +13,9 @@ returns-in_default g c =
     let old = g.D.Devices.steps c.args.devices.now in
     let directory = string_bytes c.args.request.now.directory in
     let outcome : Result Report Fault = Err fault.Memory in
-    let told = status_tells outcome c.report_ending.result c.report_ending.ensures.written c.report_ending.ensures.fault in
+    let stated = status_reports outcome c.report_ending.result c.report_ending.ensures.written c.report_ending.ensures.fault in
     let left = undone (λ _. ⊥) Kept (directory ++ 47 ∷ []) old old outcome (none_yet old) refl in
-    (directory ++ 47 ∷ [], ([], refl), subst (λ (b : Bool). LeavesFile (λ _. ⊥) Kept (directory ++ 47 ∷ []) old old b) (sym told) left)
+    (directory ++ 47 ∷ [], ([], refl), subst (λ (b : Bool). LeavesFile (λ _. ⊥) Kept (directory ++ 47 ∷ []) old old b) (sym stated) left)
 
 pub returns : goal.returns
 returns g c =
@@ -25,5 +25,5 @@ returns g c =
     let is_in : IsInDirectory (string_bytes c.args.request.now.directory) name =
     subst (λ (n : List ℕ). IsInDirectory (string_bytes c.args.request.now.directory) n) (sym c.as_str-2.ensures.value)
     (subst (λ (d : List ℕ). IsInDirectory d (string_bytes c.in-Ok.image)) c.as_str.ensures.value c.in-Ok.ensures) in
-    let told = status_tells c.decode_into_new-ending.result.outcome c.report_ending-2.result c.report_ending-2.ensures.written c.report_ending-2.ensures.fault in
-    (name, is_in, subst (λ (b : Bool). LeavesFile (λ _. ⊥) Kept name old new b) (sym told) c.decode_into_new-ending.ensures)
+    let stated = status_reports c.decode_into_new-ending.result.outcome c.report_ending-2.result c.report_ending-2.ensures.written c.report_ending-2.ensures.fault in
+    (name, is_in, subst (λ (b : Bool). LeavesFile (λ _. ⊥) Kept name old new b) (sym stated) c.decode_into_new-ending.ensures)

@@ -1,5 +1,5 @@
 use Rattle.std.proofs.Common.{sym, subst, ap, ◌∙◌}
-use Rattle.jr_head.specs.Geometry.{IsLawful}
+use Rattle.jr_head.specs.Geometry.{IsValid}
 use Rattle.jr_head.specs.Heads.{HeadOf}
 use Rattle.jr_scan.specs.ScanValue.{ScanValue}
 use Rattle.jri_file.specs.Files.{IsScanOfFile}
@@ -14,6 +14,6 @@ returns-in-Ok-new-clause-scan c =
     subst (IsScanOfFile file) (sym c.in-Ok-new.ensures.ok)
     (record {
       head = subst (HeadOf file) (sym c.in-Ok.ensures.head) c.requires;
-      lawful = subst IsLawful (sym c.in-Ok.ensures.head) c.assert_invariant.ensures;
+      valid = subst IsValid (sym c.in-Ok.ensures.head) c.assert_invariant.ensures;
       cut = c.in-Ok.ensures.cut;
     })

@@ -12,44 +12,44 @@ use Rattle.jri_engine.proofs.resync.run_resynced.Goals as goal
 pub returns-in_err-resynced-clause-begun : goal.returns-in_err-resynced-clause-begun
 returns-in_err-resynced-clause-begun g c is =
     let gave = err_from_is_err_and c.from_residual.result c.from_residual.ensures.1 in
-    let told : c.from_residual.result ≡ Err c.in_err-resynced.field-0.0 = gave.1 ∙ ap Err gave.2 in
-    absurd (not_write (known_in g.R.Read.remaining c.args.input.now) c.from_residual.result _ told c.in_err-resynced.ensures.fault is)
+    let stated : c.from_residual.result ≡ Err c.in_err-resynced.field-0.0 = gave.1 ∙ ap Err gave.2 in
+    absurd (not_write (known_in g.R.Read.remaining c.args.input.now) c.from_residual.result _ stated c.in_err-resynced.ensures.fault is)
 
 pub returns-in_err-resynced-clause-refused : goal.returns-in_err-resynced-clause-refused
 returns-in_err-resynced-clause-refused g c f is =
     let gave = err_from_is_err_and c.from_residual.result c.from_residual.ensures.1 in
-    let told : c.from_residual.result ≡ Err c.in_err-resynced.field-0.0 = gave.1 ∙ ap Err gave.2 in
-    refuses (known_in g.R.Read.remaining c.args.input.now) c.from_residual.result _ told c.in_err-resynced.ensures.fault f is
+    let stated : c.from_residual.result ≡ Err c.in_err-resynced.field-0.0 = gave.1 ∙ ap Err gave.2 in
+    refuses (known_in g.R.Read.remaining c.args.input.now) c.from_residual.result _ stated c.in_err-resynced.ensures.fault f is
 
 pub returns-in_err-resynced-clause-read_all : goal.returns-in_err-resynced-clause-read_all
 returns-in_err-resynced-clause-read_all g c not =
     let gave = err_from_is_err_and c.from_residual.result c.from_residual.ensures.1 in
-    let told : c.from_residual.result ≡ Err c.in_err-resynced.field-0.0 = gave.1 ∙ ap Err gave.2 in
-    c.read_resynced.ensures.unfailed (λ e. not (told ∙ ap Err (same_fault c.read_resynced.result _ fault.Read c.in_err-resynced.was e)))
+    let stated : c.from_residual.result ≡ Err c.in_err-resynced.field-0.0 = gave.1 ∙ ap Err gave.2 in
+    c.read_resynced.ensures.unfailed (λ e. not (stated ∙ ap Err (same_fault c.read_resynced.result _ fault.Read c.in_err-resynced.was e)))
 
 pub returns-in_err-resynced-clause-read : goal.returns-in_err-resynced-clause-read
 returns-in_err-resynced-clause-read g c is =
     let gave = err_from_is_err_and c.from_residual.result c.from_residual.ensures.1 in
-    let told : c.from_residual.result ≡ Err c.in_err-resynced.field-0.0 = gave.1 ∙ ap Err gave.2 in
-    c.read_resynced.ensures.failed (c.in_err-resynced.was ∙ ap Err (same_fault c.from_residual.result _ fault.Read told is))
+    let stated : c.from_residual.result ≡ Err c.in_err-resynced.field-0.0 = gave.1 ∙ ap Err gave.2 in
+    c.read_resynced.ensures.failed (c.in_err-resynced.was ∙ ap Err (same_fault c.from_residual.result _ fault.Read stated is))
 
 pub returns-in_err-resynced-clause-write : goal.returns-in_err-resynced-clause-write
 returns-in_err-resynced-clause-write g c is =
     let gave = err_from_is_err_and c.from_residual.result c.from_residual.ensures.1 in
-    let told : c.from_residual.result ≡ Err c.in_err-resynced.field-0.0 = gave.1 ∙ ap Err gave.2 in
-    absurd (not_write (known_in g.R.Read.remaining c.args.input.now) c.from_residual.result _ told c.in_err-resynced.ensures.fault is)
+    let stated : c.from_residual.result ≡ Err c.in_err-resynced.field-0.0 = gave.1 ∙ ap Err gave.2 in
+    absurd (not_write (known_in g.R.Read.remaining c.args.input.now) c.from_residual.result _ stated c.in_err-resynced.ensures.fault is)
 
 pub returns-in_err-resynced-clause-opened : goal.returns-in_err-resynced-clause-opened
 returns-in_err-resynced-clause-opened g c is =
     let gave = err_from_is_err_and c.from_residual.result c.from_residual.ensures.1 in
-    let told : c.from_residual.result ≡ Err c.in_err-resynced.field-0.0 = gave.1 ∙ ap Err gave.2 in
-    not_missing (known_in g.R.Read.remaining c.args.input.now) c.from_residual.result _ told c.in_err-resynced.ensures.fault is
+    let stated : c.from_residual.result ≡ Err c.in_err-resynced.field-0.0 = gave.1 ∙ ap Err gave.2 in
+    not_missing (known_in g.R.Read.remaining c.args.input.now) c.from_residual.result _ stated c.in_err-resynced.ensures.fault is
 
 pub returns-in_err-resynced-clause-written : goal.returns-in_err-resynced-clause-written
 returns-in_err-resynced-clause-written g c =
     let gave = err_from_is_err_and c.from_residual.result c.from_residual.ensures.1 in
-    let told : c.from_residual.result ≡ Err c.in_err-resynced.field-0.0 = gave.1 ∙ ap Err gave.2 in
-    subst (λ (r : Result ResyncReport Fault). OnOk r (has_failed c.args.out.now ≡ false)) (sym told) tt
+    let stated : c.from_residual.result ≡ Err c.in_err-resynced.field-0.0 = gave.1 ∙ ap Err gave.2 in
+    subst (λ (r : Result ResyncReport Fault). OnOk r (has_failed c.args.out.now ≡ false)) (sym stated) tt
 
 pub returns-in_err-resynced-clause-untouched_read : goal.returns-in_err-resynced-clause-untouched_read
 returns-in_err-resynced-clause-untouched_read g c = search rules

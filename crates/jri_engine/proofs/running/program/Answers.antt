@@ -4,7 +4,7 @@ use Rattle.jri_words.specs.declared.answers.Target.{Target}
 use Rattle.jri_words.specs.declared.answers.Target.TheVariants as target
 use Rattle.jri_words.specs.declared.ending.Ending.{Ending}
 use Rattle.jri_words.specs.Steps.{Follow, Leaves, Step, is_picture_status}
-use Rattle.jri_words.proofs.StepLemmas.{none_yet, status_tells}
+use Rattle.jri_words.proofs.StepLemmas.{none_yet, status_reports}
 use Rattle.jri_engine.proofs.DecodingLemmas.{never}
 use Rattle.jri_engine.proofs.running.program.Goals as goal
 use Rattle.jri_engine.proofs.running.program.Goals.{in-Ok-opened+in-File, in-Ok-opened+in-Output, in-Err-opened}
@@ -26,13 +26,13 @@ returns-clause-named g c =
     let new = steps c.match-opened.devices in
     let are_devices = g.D.Devices.are_devices c.args.devices.now in
     let target = c.in-Ok.request.asked.target in
-    let told = status_tells c.match-opened.ending.outcome c.report_ending-status.result c.report_ending-status.ensures.written c.report_ending-status.ensures.fault in
+    let stated = status_reports c.match-opened.ending.outcome c.report_ending-status.result c.report_ending-status.ensures.written c.report_ending-status.ensures.fault in
     let left : Leaves are_devices target old new (is_ok c.match-opened.ending.outcome) = elim c.match-opened.branch [
       | in-Ok-opened+in-File w ↦ search (rules, w.decode_to_file.ensures, w.devices-is, w.ending-is)
       | in-Ok-opened+in-Output w ↦ to_output are_devices target old new (is_ok c.match-opened.ending.outcome) w.in-Output.is (rw w.devices-is (none_yet old))
       | in-Err-opened w ↦ subst (λ (e : Ending). Leaves are_devices target old new (is_ok e.outcome)) (sym w.ending-is) (without_input are_devices target old new (rw w.devices-is (none_yet old)))
     ] in
-    let named : Leaves are_devices target old new (is_picture_status c.report_ending-status.result) = subst (λ (b : Bool). Leaves are_devices target old new b) (sym told) left in
+    let named : Leaves are_devices target old new (is_picture_status c.report_ending-status.result) = subst (λ (b : Bool). Leaves are_devices target old new b) (sym stated) left in
     IfOk-weaker c.args.words _ _ (λ given is. inr (target, is, named)) c.in-Ok.ensures.target
 
 pub returns-clause-untouched : goal.returns-clause-untouched

@@ -4,7 +4,7 @@ use Rattle.std.specs.Arc.{arc_value}
 use Rattle.jr_base.specs.declared.limits.TheConstants.{MAX_FILE_BYTES}
 use Rattle.jr_segments.specs.declared.refusal.Refusal.TheVariants.{TooLong}
 use Rattle.jr_head.specs.Heads.{HeadOf, RefusalOf}
-use Rattle.jr_head.specs.Geometry.{IsLawful}
+use Rattle.jr_head.specs.Geometry.{IsValid}
 use Rattle.jr_scan.specs.ScanValue.{ScanValue}
 use Rattle.jri_file.specs.Files.{IsScanOfFile}
 use Rattle.jr_head.proofs.HeadStays.{head_stays, scan_within}
@@ -32,7 +32,7 @@ returns-in-Ok-share-clause-scan g c =
     let same : s.head ≡ c.args.head = c.cut_on.ensures.head ∙ c.in-Ok.ensures.head in
     let is : IsScanOfFile file s = record {
       head = subst (HeadOf file) (sym same) (head_stays first cut.given small c.args.head c.requires.head);
-      lawful = subst IsLawful (sym same) c.assert_invariant.ensures;
+      valid = subst IsValid (sym same) c.assert_invariant.ensures;
       cut = (cut.come first c.in-Ok.ensures.come).scan;
     } in
     of_file (λ f. IsScanOfFile f (arc_value c.in-Ok-share.scan)) (prepend_known first (g.R.Read.remaining c.args.input.now.inner)) (g.R.Read.remaining c.cut_on.new.input.inner) file (first_and _ _ first cut.given cut.read)

@@ -1,7 +1,7 @@
 use Rattle.std.proofs.Common.{rules, arith, subst, ◌≡◌, None, Option}
 use Rattle.std.specs.Prelude.{IfNone}
-use Rattle.jri_memory.specs.Calls.{IsHeaderOf, TellsNoSize}
-use Rattle.jri_memory.proofs.Headers.{header_stays, refusal_stays, size_is_told, size_stays}
+use Rattle.jri_memory.specs.Calls.{IsHeaderOf, ReportsNoSize}
+use Rattle.jri_memory.proofs.Headers.{header_stays, refusal_stays, size_is_stated, size_stays}
 use Rattle.jri_memory.specs.declared.frame_size.FrameSize.{FrameSize}
 use Rattle.jri_memory.proofs.calls.read_header.Goals as goal
 
@@ -28,17 +28,17 @@ returns-in-Err-clause-refused_for_good c answer partial whole can =
 pub returns-in-Err-clause-size : goal.returns-in-Err-clause-size
 returns-in-Err-clause-size c answer =
     let size = c.size_of_refused.ensures in
-    let told = c.refused.ensures in
-    size_is_told c.args.file.now c.size_of_refused.result c.refused.result size.some (size.none (c.status_of.ensures.of_the_file answer)) told.size told.no_size
+    let stated = c.refused.ensures in
+    size_is_stated c.args.file.now c.size_of_refused.result c.refused.result size.some (size.none (c.status_of.ensures.of_the_file answer)) stated.size stated.no_size
 
 pub returns-in-Err-clause-size_stays : goal.returns-in-Err-clause-size_stays
 returns-in-Err-clause-size_stays c answer =
     let size = c.size_of_refused.ensures in
-    let told = c.refused.ensures in
-    size_stays c.args.file.now c.refused.result (size_is_told c.args.file.now c.size_of_refused.result c.refused.result size.some (size.none (c.status_of.ensures.of_the_file answer)) told.size told.no_size)
+    let stated = c.refused.ensures in
+    size_stays c.args.file.now c.refused.result (size_is_stated c.args.file.now c.size_of_refused.result c.refused.result size.some (size.none (c.status_of.ensures.of_the_file answer)) stated.size stated.no_size)
 
 pub returns-in-Err-clause-no_size : goal.returns-in-Err-clause-no_size
 returns-in-Err-clause-no_size c done kept =
     let one : c.status_of.result ≡ 1 = omega (arith, done, kept, c.status_of.ensures.few, c.status_of.ensures.some) in
     let none : c.size_of_refused.result ≡ None = c.size_of_refused.ensures.memory (c.status_of.ensures.of_memory one) in
-    subst (λ (o : Option FrameSize). IfNone o (TellsNoSize c.refused.result)) none c.refused.ensures.no_size
+    subst (λ (o : Option FrameSize). IfNone o (ReportsNoSize c.refused.result)) none c.refused.ensures.no_size

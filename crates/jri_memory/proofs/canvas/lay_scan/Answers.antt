@@ -1,5 +1,5 @@
 use Rattle.std.proofs.Common.{rules, arith, sym, subst, ◌≡◌, ◌<◌, ℕ, length}
-use Rattle.jr_head.specs.Geometry.{IsLawful, mcus_of}
+use Rattle.jr_head.specs.Geometry.{IsValid, mcus_of}
 use Rattle.jr_scan.specs.ScanValue.{intervals_of}
 use Rattle.jr_piece.proofs.EachOutcome.{outcome}
 use Rattle.jr_picture.specs.DecodedScan.{marks_of}
@@ -7,7 +7,7 @@ use Rattle.jr_picture.specs.Samples.{samples_of}
 use Rattle.jr_rows.specs.Rows.{CountsRows}
 use Rattle.jr_rows.proofs.FirstDecoded.{first_decoded, shows_first}
 use Rattle.jr_rows.specs.Stream.{HasCounts}
-use Rattle.jr_rows.proofs.WholePictures.{all_put}
+use Rattle.jr_rows.proofs.WholePictures.{all_stored}
 use Rattle.jri_memory.proofs.canvas.lay_scan.Goals as goal
 
 pub counts_of-requires-clause-counts : goal.counts_of-requires-clause-counts
@@ -20,7 +20,7 @@ pub returns-clause-laid : goal.returns-clause-laid
 returns-clause-laid c =
     let t = c.args.scan.now in
     let n = length t.intervals in
-    let lawful = subst IsLawful c.head.ensures.value c.head.ensures.lawful in
+    let valid = subst IsValid c.head.ensures.value c.head.ensures.valid in
     let some : 0 < mcus_of t.head = search (rules, arith) in
     let more : 0 < intervals_of t.head = search (rules, arith) in
     let count : n ≡ intervals_of t.head = search rules in
@@ -29,8 +29,8 @@ returns-clause-laid c =
     let board = first_decoded outcome t n (omega arith) in record {
       marks = marks_of board.0;
       f = samples_of board.0;
-      shows = shows_first t n board.0 board.1 lawful;
-      stand = c.lay_rows-marked.ensures.stand board.0 board.1;
-      put = all_put t some more count c.args.marks.now c.lay_rows-marked.new.marks c.requires.marks c.lay_rows-marked.ensures.puts board.0 board.1;
+      shows = shows_first t n board.0 board.1 valid;
+      lie = c.lay_rows-marked.ensures.lie board.0 board.1;
+      store = all_stored t some more count c.args.marks.now c.lay_rows-marked.new.marks c.requires.marks c.lay_rows-marked.ensures.stores board.0 board.1;
       counted = counts board.0 board.1;
     }

@@ -2,10 +2,10 @@ use Rattle.std.proofs.Common.{rules}
 use Rattle.jri_memory.proofs.canvas_calls.decode_canvas.Goals as goal
 
 pub returns-in-Ok-Some-clause-no_picture : goal.returns-in-Ok-Some-clause-no_picture
-returns-in-Ok-Some-clause-no_picture c unsound undamaged = absurd (undamaged (c.tell.ensures.done unsound))
+returns-in-Ok-Some-clause-no_picture c unsound undamaged = absurd (undamaged (c.report_decoded.ensures.done unsound))
 
-pub returns-in-Err-clause-room : goal.returns-in-Err-clause-room
-returns-in-Err-clause-room c e = c.in-Err.ensures.room (search (rules, c.tell_why.ensures.room e))
+pub returns-in-Err-clause-space : goal.returns-in-Err-clause-space
+returns-in-Err-clause-space c e = c.in-Err.ensures.space (search (rules, c.report_undone.ensures.space e))
 
 pub returns-in-Err-clause-long : goal.returns-in-Err-clause-long
-returns-in-Err-clause-long c e = c.in-Err.ensures.long (search (rules, c.tell_why.ensures.long e))
+returns-in-Err-clause-long c e = c.in-Err.ensures.long (search (rules, c.report_undone.ensures.long e))

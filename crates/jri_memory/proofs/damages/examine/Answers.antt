@@ -13,8 +13,8 @@ returns-clause-sound c s e segment =
     let data' = get_or s.intervals c.args.i [] in
     let same : data' ≡ bytes = sym (c.unstuff_at-found.ensures.data data' segment.spelled) ∙ ap (λ (l : List ℕ). take n l) (sym c.deref.ensures.value) in
     let is = examined s c.args.head.now c.args.i c.mcus_in.result bytes e c.mcus_in.ensures.value same in
-    let told = subst (λ v. IfNone c.damaged_interval.result (HasDecoding v)) c.of-interval.ensures c.damaged_interval.ensures.sound in
-    subst (λ (v : IntervalValue). IfNone c.damaged_interval.result (HasDecoding v)) is told
+    let stated = subst (λ v. IfNone c.damaged_interval.result (HasDecoding v)) c.of-interval.ensures c.damaged_interval.ensures.sound in
+    subst (λ (v : IntervalValue). IfNone c.damaged_interval.result (HasDecoding v)) is stated
 
 pub returns-clause-damaged : goal.returns-clause-damaged
 returns-clause-damaged c s e segment =
@@ -23,5 +23,5 @@ returns-clause-damaged c s e segment =
     let data' = get_or s.intervals c.args.i [] in
     let same : data' ≡ bytes = sym (c.unstuff_at-found.ensures.data data' segment.spelled) ∙ ap (λ (l : List ℕ). take n l) (sym c.deref.ensures.value) in
     let is = examined s c.args.head.now c.args.i c.mcus_in.result bytes e c.mcus_in.ensures.value same in
-    let told = subst (λ v. IfSome c.damaged_interval.result (λ d. IsDamageOf v c.args.span d)) c.of-interval.ensures c.damaged_interval.ensures.damaged in
-    subst (λ (v : IntervalValue). IfSome c.damaged_interval.result (λ d. IsDamageOf v c.args.span d)) is told
+    let stated = subst (λ v. IfSome c.damaged_interval.result (λ d. IsDamageOf v c.args.span d)) c.of-interval.ensures c.damaged_interval.ensures.damaged in
+    subst (λ (v : IntervalValue). IfSome c.damaged_interval.result (λ d. IsDamageOf v c.args.span d)) is stated

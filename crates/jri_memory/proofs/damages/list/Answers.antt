@@ -35,7 +35,7 @@ intervals-preserved c =
       search (rules, arith, call.next),
       search (rules, arith, call.one, call.long, c.if-progress-damages.true),
       call.long ∙ inv.5,
-      drop_on c.args.damages.now c.intervals.damages new p.count r.count call.more inv.6 call.behind,
+      drop_on c.args.damages.now c.intervals.damages new p.count r.count call.more inv.6 call.after,
       search (rules, arith, call.at, inv.7),
       call.within,
       search (rules, arith, call.capacity, inv.9),

@@ -30,8 +30,8 @@ returns-clause-listed c =
             stops = stops_at file f.scan c.args.first c.args.first_at c.min.result c.offset_in.result l.result.next l.result.at s l.ensures.at (l.ensures.stops f.scan f.head s.begins);
           };
       within = omega (arith, l.ensures.within, count);
-      room = λ less. l.ensures.room (omega (arith, less, count));
+      space = λ less. l.ensures.space (omega (arith, less, count));
       long = l.ensures.long;
-      behind = l.ensures.behind;
+      after = l.ensures.after;
       no_fault = (refl, refl);
     }

@@ -7,5 +7,5 @@ returns-clause-listed c s first e begins a =
     let i = c.args.before.next in
     let span = c.segment_at-segment.result.bytes in
     let segment = c.segment_at-segment.ensures.bytes (intervals_of s.head) s.intervals s.ended (ap intervals_of e ∙ sym c.intervals.ensures.value) begins in
-    let told = c.examine-damaged.ensures in
-    c.put.ensures.listed c.args.file.now s span first i (told.sound s e segment) (told.damaged s e segment) segment a
+    let stated = c.examine-damaged.ensures in
+    c.store.ensures.listed c.args.file.now s span first i (stated.sound s e segment) (stated.damaged s e segment) segment a

@@ -2,7 +2,7 @@ use Rattle.std.proofs.Common.{◌≡◌, ◌∙◌, ◌<◌, ◌++◌, length, s
 use Rattle.jr_paint.specs.Text.{lines_of}
 use Rattle.jr_rows.specs.Whole.{PaintsWhole}
 use Rattle.jri_memory.specs.Calls.{over}
-use Rattle.jri_memory.proofs.Filled.{asked_few, asked_long, asked_room, filled, picture_shown, unwritten}
+use Rattle.jri_memory.proofs.Filled.{asked_few, asked_long, asked_space, filled, picture_shown, unwritten}
 use Rattle.jri_memory.proofs.decode.decode.Goals as goal
 
 pub returns-clause-decoded : goal.returns-clause-decoded
@@ -17,7 +17,7 @@ returns-clause-decoded c =
     let painted : PaintsWhole scan pixels (take asked c.args.marks.now) marks counts = search (rules, c.in-Ok.ensures.painted) in
     let long : length pixels ≡ c.bytes_of_picture-size.result = search (rules, arith, c.paint_scan.auto.pixels) in
     let lines : pixels ++ drop c.bytes_of_picture-size.result c.args.pixels.now ≡ over (lines_of scan.head painted.f scan.head.height) c.args.pixels.now = filled _ _ _ _ painted.lines long in
-    let room : length (take asked c.args.marks.now) ≡ asked = asked_long c.args.marks.now count asked c.asked_for-asked.ensures.all c.asked_for-asked.ensures.none (c.lacks_room.ensures.room c.if-lacks_room.false) in
+    let space : length (take asked c.args.marks.now) ≡ asked = asked_long c.args.marks.now count asked c.asked_for-asked.ensures.all c.asked_for-asked.ensures.none (c.lacks_space.ensures.space c.if-lacks_space.false) in
     let of = c.of.ensures in
     record {
       read = read.read;
@@ -30,9 +30,9 @@ returns-clause-decoded c =
         painted = search (rules, lines);
         marked = λ there.
             let all : asked ≡ count = c.asked_for-asked.ensures.all there in
-            let some : 0 < length (take asked c.args.marks.now) = omega (arith, room, all, c.intervals-count.ensures.some) in
-            let placed : length marks ≡ asked = search (rules, arith, room, c.paint_scan.auto.marks) in
-            filled _ _ _ _ (painted.put some) placed;
+            let some : 0 < length (take asked c.args.marks.now) = omega (arith, space, all, c.intervals-count.ensures.some) in
+            let placed : length marks ≡ asked = search (rules, arith, space, c.paint_scan.auto.marks) in
+            filled _ _ _ _ (painted.store some) placed;
         reported = record {
           intervals = search rules;
           counts = record { sound = of.sound ∙ painted.counted.sound; damaged = of.damaged ∙ painted.counted.damaged; blank = search (rules, arith, painted.counted.blank) };
@@ -43,14 +43,14 @@ returns-clause-decoded c =
     }
 
 pub slice_bounds-paint_scan-end-3 : goal.slice_bounds-paint_scan-end-3
-slice_bounds-paint_scan-end-3 c = asked_few (length c.args.marks.now) c.intervals-count.result c.asked_for-asked.result c.asked_for-asked.ensures.all c.asked_for-asked.ensures.none (c.lacks_room.ensures.room c.if-lacks_room.false)
+slice_bounds-paint_scan-end-3 c = asked_few (length c.args.marks.now) c.intervals-count.result c.asked_for-asked.result c.asked_for-asked.ensures.all c.asked_for-asked.ensures.none (c.lacks_space.ensures.space c.if-lacks_space.false)
 
 pub slice_bounds-paint_scan-end-4 : goal.slice_bounds-paint_scan-end-4
-slice_bounds-paint_scan-end-4 c = sym (asked_long c.args.marks.now c.intervals-count.result c.asked_for-asked.result c.asked_for-asked.ensures.all c.asked_for-asked.ensures.none (c.lacks_room.ensures.room c.if-lacks_room.false))
+slice_bounds-paint_scan-end-4 c = sym (asked_long c.args.marks.now c.intervals-count.result c.asked_for-asked.result c.asked_for-asked.ensures.all c.asked_for-asked.ensures.none (c.lacks_space.ensures.space c.if-lacks_space.false))
 
 pub paint_scan-requires-clause-places : goal.paint_scan-requires-clause-places
 paint_scan-requires-clause-places c there =
-    asked_room c.args.marks.now c.intervals-count.result c.asked_for-asked.result c.asked_for-asked.ensures.all c.asked_for-asked.ensures.none (c.lacks_room.ensures.room c.if-lacks_room.false) _ c.intervals-count.ensures.value there
+    asked_space c.args.marks.now c.intervals-count.result c.asked_for-asked.result c.asked_for-asked.ensures.all c.asked_for-asked.ensures.none (c.lacks_space.ensures.space c.if-lacks_space.false) _ c.intervals-count.ensures.value there
 
 pub returns-in_default-clause-pixels : goal.returns-in_default-clause-pixels
 returns-in_default-clause-pixels c =

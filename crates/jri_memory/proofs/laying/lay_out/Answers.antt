@@ -1,11 +1,11 @@
 use Rattle.std.proofs.Common.{rules, arith, subst, ap, ◌≡◌, ◌+◌, ◌-◌, ◌<◌, ◌≤◌, ℕ}
-use Rattle.jri_canvas.specs.Layouts.{StandOn, laid_line, line_in, plain_line_size, sample_count}
-use Rattle.jri_canvas.proofs.Canvases.{stand_as}
+use Rattle.jri_canvas.specs.Layouts.{LieOn, laid_line, line_in, plain_line_size, sample_count}
+use Rattle.jri_canvas.proofs.Canvases.{lie_as}
 use Rattle.jri_memory.specs.Canvases.{HasForm}
 use Rattle.jri_memory.proofs.laying.lay_out.Goals as goal
 
-pub returns-then-not-have_places-clause-room : goal.returns-then-not-have_places-clause-room
-returns-then-not-have_places-clause-room c _ =
+pub returns-then-not-have_places-clause-space : goal.returns-then-not-have_places-clause-space
+returns-then-not-have_places-clause-space c _ =
     let form = c.in-Some-form_of.form in
     let components : sample_count c.in-Some.pixels ≡ c.args.components = search (rules, c.in-Some.ensures.some) in
     let is : HasForm c.args.width (sample_count c.in-Some.pixels) c.args.stride c.args.layout form = search (rules, c.in-Some-form_of.ensures.form) in
@@ -28,6 +28,6 @@ returns-clause-done c _ =
       is = subst (λ (n : ℕ). HasForm c.args.width n c.args.stride c.args.layout form) components is;
       count = count;
       all = search (rules, c.bytes_before.ensures.value);
-      stand = subst (λ (n : ℕ). StandOn form 0 n (λ k. laid_line form (line_in (plain_line_size form) xs k)) c.args.canvas.now c.lay_lines.new.canvas) end
-          (stand_as form _ (λ k. laid_line form (line_in (plain_line_size form) xs k)) 0 (0 + count) c.args.canvas.now c.lay_lines.new.canvas same c.lay_lines.ensures);
+      lie = subst (λ (n : ℕ). LieOn form 0 n (λ k. laid_line form (line_in (plain_line_size form) xs k)) c.args.canvas.now c.lay_lines.new.canvas) end
+          (lie_as form _ (λ k. laid_line form (line_in (plain_line_size form) xs k)) 0 (0 + count) c.args.canvas.now c.lay_lines.new.canvas same c.lay_lines.ensures);
     }

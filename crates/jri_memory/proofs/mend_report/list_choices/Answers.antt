@@ -13,8 +13,8 @@ loop-k-preserved c =
     let k = c.loop-k.k in
     let d : Choice = record { copy = 0; front = None; differs = false } in
     let there : k < length chosen = search (rules, arith, c.loop-k-test.true) in
-    let room : k < length old = search (rules, arith, c.loop-k-test.true) in
-    ap (λ (e : ChoiceEntry). set c.loop-k.choices k e) c.of.ensures ∙ ap (λ (l : List ChoiceEntry). set l k (choice_entry (get_or chosen k d))) c.loop-k.invariant ∙ entry_more chosen old k d there room
+    let space : k < length old = search (rules, arith, c.loop-k-test.true) in
+    ap (λ (e : ChoiceEntry). set c.loop-k.choices k e) c.of.ensures ∙ ap (λ (l : List ChoiceEntry). set l k (choice_entry (get_or chosen k d))) c.loop-k.invariant ∙ entry_more chosen old k d there space
 
 pub returns : goal.returns
 returns c =

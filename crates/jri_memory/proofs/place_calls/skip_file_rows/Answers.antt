@@ -7,18 +7,18 @@ use Rattle.jri_memory.proofs.place_calls.skip_file_rows.Goals as goal
 
 pub returns-in-Err-clause-refused : goal.returns-in-Err-clause-refused
 returns-in-Err-clause-refused c answer =
-    let told = c.tell_why.ensures.refused answer in
-    let why = subst (λ (e : PlaceError). IsWhy c.args.file.now (file_part c.args.file.now c.args.more) c.args.place.now c.args.rows 0 e) told.is (c.in-Err.ensures.why 0) in
+    let stated = c.report_undone.ensures.refused answer in
+    let why = subst (λ (e : PlaceError). IsWhy c.args.file.now (file_part c.args.file.now c.args.more) c.args.place.now c.args.rows 0 e) stated.is (c.in-Err.ensures.why 0) in
     record {
-      fault = told.fault;
-      is = why told.other;
-      number_is = told.number_is;
-      detail_is = told.detail_is;
+      fault = stated.fault;
+      is = why stated.other;
+      number_is = stated.number_is;
+      detail_is = stated.detail_is;
     }
 
 pub returns-in-Err-clause-rows : goal.returns-in-Err-clause-rows
 returns-in-Err-clause-rows c answer =
-    subst (λ (e : PlaceError). IsWhy c.args.file.now (file_part c.args.file.now c.args.more) c.args.place.now c.args.rows 0 e) (c.tell_why.ensures.rows answer) (c.in-Err.ensures.why 0)
+    subst (λ (e : PlaceError). IsWhy c.args.file.now (file_part c.args.file.now c.args.more) c.args.place.now c.args.rows 0 e) (c.report_undone.ensures.rows answer) (c.in-Err.ensures.why 0)
 
 pub returns-in-Ok-clause-each_rows : goal.returns-in-Ok-clause-each_rows
 returns-in-Ok-clause-each_rows c lacks other =
@@ -28,4 +28,4 @@ returns-in-Ok-clause-each_rows c lacks other =
 pub returns-in-Err-clause-each_rows : goal.returns-in-Err-clause-each_rows
 returns-in-Err-clause-each_rows c lacks other =
     let fits = All-from_get_or (λ b. b < 256) c.args.file.now 0 (λ i lt. let byte = c.type_inv.file i in omega (arith, byte)) in
-    c.tell_why.ensures.each_rows (only_rows c.args.file.now fits c.args.place.now c.args.rows (file_part c.args.file.now c.args.more) 0 c.in-Err.unmoved (λ e. other (c.tell_why.ensures.each_memory e)) (c.in-Err.ensures.why 0) lacks)
+    c.report_undone.ensures.each_rows (only_rows c.args.file.now fits c.args.place.now c.args.rows (file_part c.args.file.now c.args.more) 0 c.in-Err.unmoved (λ e. other (c.report_undone.ensures.each_memory e)) (c.in-Err.ensures.why 0) lacks)

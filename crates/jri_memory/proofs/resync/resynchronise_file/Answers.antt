@@ -2,24 +2,24 @@ use Rattle.jri_memory.proofs.resync.resynchronise_file.Goals as goal
 
 pub returns-in-Ok-clause-done : goal.returns-in-Ok-clause-done
 returns-in-Ok-clause-done c done =
-    let put = c.put_resynced.ensures in
+    let store = c.write_resynced.ensures in
     record {
       resynced = c.in-Ok.resynced;
       is = c.in-Ok.ensures.resynced;
-      written = put.written done;
-      listed = put.listed done;
-      reported = put.reported;
+      written = store.written done;
+      listed = store.listed done;
+      reported = store.reported;
     }
 
-pub returns-in-Ok-clause-room : goal.returns-in-Ok-clause-room
-returns-in-Ok-clause-room c small =
-    let put = c.put_resynced.ensures in
+pub returns-in-Ok-clause-space : goal.returns-in-Ok-clause-space
+returns-in-Ok-clause-space c small =
+    let store = c.write_resynced.ensures in
     record {
       resynced = c.in-Ok.resynced;
       is = c.in-Ok.ensures.resynced;
-      reported = put.reported;
-      less = put.room small;
+      reported = store.reported;
+      less = store.space small;
     }
 
 pub returns-in-Ok-clause-nothing : goal.returns-in-Ok-clause-nothing
-returns-in-Ok-clause-nothing c undone fits = absurd (fits (c.put_resynced.ensures.few undone))
+returns-in-Ok-clause-nothing c undone fits = absurd (fits (c.write_resynced.ensures.few undone))

@@ -15,7 +15,7 @@ returns-clause-at c =
     record {
       window = c.fill-bit.ensures.window;
       inside = inside_by c.fill-bit.new.self c.fill-bit.result c.next_of.result c.fill-bit.ensures.within n.inside;
-      is_in = c.requires.stands.is_in;
+      is_in = c.requires.lies.is_in;
       over = λ ended. n.stuck (search (rules, arith, ended));
     }
 

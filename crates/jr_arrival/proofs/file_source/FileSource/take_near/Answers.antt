@@ -21,6 +21,6 @@ pub returns-clause-number : goal.returns-clause-number
 returns-clause-number g c = ap (λ (k : Cursor). k.number) c.take_whole-whole.ensures.taken.cursor
 
 pub returns-clause-none : goal.returns-clause-none
-returns-clause-none g c told =
-    let none = c.take_whole-whole.ensures.taken.none told in
+returns-clause-none g c stated =
+    let none = c.take_whole-whole.ensures.taken.none stated in
     (ap (λ (k : Cursor). (let f : FileSource = record c.args.self.now { cursor = k } in f)) none.0, subst (λ (i : IntervalValue). HasNoMcu i c.args.place) c.interval.ensures none.1)

@@ -6,7 +6,7 @@ use Rattle.jr_arrival.specs.FileSources.{Waits, source_of}
 use Rattle.jr_arrival.specs.Sources.{Steps}
 use Rattle.jr_arrival.proofs.SourceSteps.{nowhere}
 use Rattle.jr_arrival.proofs.Standing.{begins}
-use Rattle.jr_arrival.proofs.Waiting.{waits_behind}
+use Rattle.jr_arrival.proofs.Waiting.{waits_after}
 use Rattle.jr_rows.proofs.IntervalPlaces.{mcus_in_some, next_there}
 use Rattle.jr_arrival.proofs.file_source.FileSourceMcuSource.advance.Goals as goal
 
@@ -31,7 +31,7 @@ returns-clause-steps c =
     (begins h s f e.window e.file e.cursor next.0 (omega (arith, next.1)) (e.follows c.if-not-find_end.false))
 
 pub returns-clause-some : goal.returns-clause-some
-returns-clause-some c told =
+returns-clause-some c stated =
     let h = c.args.head.now in
     let k = c.args.self.now.cursor in
     let n = c.begin_next.new.self in
@@ -50,7 +50,7 @@ returns-then-not-find_end-clause-steps c =
     subst (λ (n : FileSource). Steps h (source_of s) (source_of n) 0) (sym kept.0) (nowhere h (source_of s) c.requires.at)
 
 pub returns-then-not-find_end-clause-waits : goal.returns-then-not-find_end-clause-waits
-returns-then-not-find_end-clause-waits c told =
+returns-then-not-find_end-clause-waits c stated =
     let h = c.args.head.now in
     let s = c.args.self.now in
     let k = s.cursor in
@@ -58,4 +58,4 @@ returns-then-not-find_end-clause-waits c told =
     let e = c.find_end.ensures in
     let kept = e.kept failed in
     let all : k.mcu ≡ mcus_in h k.number = omega (arith, c.requires.at.is_in.few, c.mcus_in.ensures.value, c.if-self-mcus_in.false) in
-    subst (Waits h) (sym kept.0) (waits_behind h s c.requires.at c.assert_invariant.ensures (e.waits failed) (e.goes_on failed) all kept.1)
+    subst (Waits h) (sym kept.0) (waits_after h s c.requires.at c.assert_invariant.ensures (e.waits failed) (e.goes_on failed) all kept.1)

@@ -27,7 +27,7 @@ pub returns-in_default-clause-steps : goal.returns-in_default-clause-steps
 returns-in_default-clause-steps c = nowhere c.args.head.now _ c.requires.at
 
 pub returns-in_default-clause-stuck : goal.returns-in_default-clause-stuck
-returns-in_default-clause-stuck c told =
+returns-in_default-clause-stuck c stated =
     let some : 0 < blocks_of c.args.head.now = omega (arith, c.order-some.ensures.some, c.order-some.ensures.count) in
     none_left c.args.head.now c.args.self.now c.requires.at some c.in_default.is c.requires.some
 
@@ -66,7 +66,7 @@ pub returns-then-not-is_stuck_at-clause-steps : goal.returns-then-not-is_stuck_a
 returns-then-not-is_stuck_at-clause-steps c = nowhere c.args.head.now _ c.requires.at
 
 pub returns-then-not-is_stuck_at-clause-waits : goal.returns-then-not-is_stuck_at-clause-waits
-returns-then-not-is_stuck_at-clause-waits c told =
+returns-then-not-is_stuck_at-clause-waits c stated =
     let s = c.args.self.now in
     let h = c.args.head.now in
     let p = c.in-Some.place in
@@ -88,6 +88,6 @@ returns-then-not-is_stuck_at-clause-waits c told =
     waits_within h s is c.assert_invariant.ensures still (u.goes_on c.if-not-is_stuck_at.true) p c.in-Some.is inside.0 none (goes_on h s p is c.in-Some.is) short
 
 pub returns-clause-stuck : goal.returns-clause-stuck
-returns-clause-stuck c told =
+returns-clause-stuck c stated =
     let some : 0 < blocks_of c.args.head.now = omega (arith, c.order-some.ensures.some, c.order-some.ensures.count) in
     none_left c.args.head.now _ (returns-clause-steps c).at some refl c.requires.some

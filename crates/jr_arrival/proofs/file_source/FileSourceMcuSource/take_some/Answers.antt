@@ -31,7 +31,7 @@ returns-in_default-slide-clause-walks g c =
     subst (λ (w : Window). Walks h (source_of s) (source_of (record { window = w; cursor = d.cursor; ended = d.ended })) keeps c.args.done 0 old new) (sym kept.0) (subst (λ (k : ℕ). Walks h (source_of s) (source_of d) keeps c.args.done k old new) none walks)
 
 pub returns-in_default-slide-clause-none : goal.returns-in_default-slide-clause-none
-returns-in_default-slide-clause-none g c told =
+returns-in_default-slide-clause-none g c stated =
     let h = c.args.head.now in
     let b = c.windows.self in
     let p = c.in-Some.place in
@@ -74,5 +74,5 @@ windows-preserved g c =
     record {
       walks = walks_then h (source_of s) (source_of d) (source_of (record { window = w; cursor = record { number = d.cursor.number; mcu = d.cursor.mcu; place = Some q }; ended = d.ended })) keeps c.args.done n old new none walks steps;
       number = e.number ∙ c.windows.invariant.number;
-      room = e.room;
+      space = e.space;
     }

@@ -7,7 +7,7 @@ abbrev pub invariant-windows : goal.invariant-windows
 invariant-windows g l = record {
   walks : Walks l.head (source_of l.initial.self) (source_of l.self) g.K.McuSink.keeps l.done 0 (g.K.McuSink.groups l.initial.sink) (g.K.McuSink.groups l.sink);
   number : l.self.cursor.number ≡ l.initial.self.cursor.number;
-  room : g.K.McuSink.has_room l.head l.sink;
+  space : g.K.McuSink.has_space l.head l.sink;
 }
 
 abbrev pub decreases-windows : goal.decreases-windows

@@ -17,8 +17,8 @@ returns-in-Err-clause-refusal c other bytes a =
     let i = c.self.inside in
     let b : IsPartialFile (record { bytes = i.head; partial_image = i.partial_image; count = i.count }) bytes = subst (λ (v : PartialFileValue). IsPartialFile v bytes) (sym c.self.view_is) a in
     let held : HoldsBytes i.head i.partial_image bytes = b.holds (omega (arith, b.count, c.if-count.false)) in
-    let told = c.in-Err.ensures.refusal other bytes in
-    search (rules, told, held)
+    let stated = c.in-Err.ensures.refusal other bytes in
+    search (rules, stated, held)
 
 pub returns-clause-scan : goal.returns-clause-scan
 returns-clause-scan c bytes a =

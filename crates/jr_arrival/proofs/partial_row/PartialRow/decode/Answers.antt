@@ -16,7 +16,7 @@ walk_row-more-requires-clause-at c =
     let partial_row : IsPartialRow c.args.scan.now v = subst (IsPartialRow c.args.scan.now) (sym c.self.view_is) c.requires.partial_row in
     record {
       head = sym e;
-      lawful = c.head-head.ensures.lawful;
+      valid = c.head-head.ensures.valid;
       count = sym c.intervals-most.ensures.value ∙ c.intervals-most.ensures.count ∙ ap intervals_of (sym e);
       reading = partial_row.reading;
     }
@@ -28,12 +28,12 @@ returns-clause-partial_row c =
     let partial_row : IsPartialRow c.args.scan.now v = subst (IsPartialRow c.args.scan.now) (sym c.self.view_is) c.requires.partial_row in
     let s : PartialSource = record { scan = c.args.scan; cursor = i.cursor; marked = i.marked } in
     let walk = c.walk_row-more in
-    row_walked s walk.new.source c.head-head.result.now v walk.result walk.new.sink partial_row refl (sym c.head-head.ensures.value) walk.ensures.room walk.ensures.walks
+    row_walked s walk.new.source c.head-head.result.now v walk.result walk.new.sink partial_row refl (sym c.head-head.ensures.value) walk.ensures.space walk.ensures.walks
 
 pub returns-clause-none : goal.returns-clause-none
-returns-clause-none c told =
+returns-clause-none c stated =
     let walk = c.walk_row-more in
     let e = c.head-head.ensures.value in
     let across = c.shape_of-across.ensures.across in
-    let lt : c.self.inside.done + walk.result < mcus_across c.head-head.result.now = search (rules, arith, told, walk.ensures.walks.few, across) in
+    let lt : c.self.inside.done + walk.result < mcus_across c.head-head.result.now = search (rules, arith, stated, walk.ensures.walks.few, across) in
     (subst (λ (g : PartialScanValue). HasNoMore g walk.new.source.cursor) walk.ensures.walks.steps.part (walk.ensures.waits lt), subst (λ (h : HeadValue). c.self.inside.done + walk.result < mcus_across h) e lt)

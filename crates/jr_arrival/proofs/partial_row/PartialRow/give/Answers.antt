@@ -11,8 +11,8 @@ use Rattle.jr_arrival.proofs.partial_row.PartialRow.give.Goals as goal
 pub returns-then-not-decode-clause-all : goal.returns-then-not-decode-clause-all
 returns-then-not-decode-clause-all c lt = c.decode.ensures.none c.if-not-decode.true
 
-pub paint-requires-clause-room : goal.paint-requires-clause-room
-paint-requires-clause-room c =
+pub paint-requires-clause-space : goal.paint-requires-clause-space
+paint-requires-clause-space c =
     let h = c.args.scan.now.scan.head in
     let line : c.shape_of-line.result.line ≡ line_size h = search rules in
     let given = c.lines.given in
@@ -26,12 +26,12 @@ paint-requires-clause-room c =
 pub lines-smaller : goal.lines-smaller
 lines-smaller c =
     let s : ScanValue = c.args.scan.now.scan in
-    let room : c.lines_with_room-room.result ≤ s.head.height - c.args.self.now.lines = search (rules, arith) in
+    let space : c.lines_with_space-space.result ≤ s.head.height - c.args.self.now.lines = search (rules, arith) in
     let here : c.decode.new.self.lines ≡ c.args.self.now.lines + c.lines.given = search rules in
-    let more : c.lines.given < c.lines_with_room-room.result = c.lines-test.true in
-    let left = c.decode.ensures.partial_row.given.left (omega (arith, room, here, more)) in
+    let more : c.lines.given < c.lines_with_space-space.result = c.lines-test.true in
+    let left = c.decode.ensures.partial_row.given.left (omega (arith, space, here, more)) in
     let all = c.lines_left.ensures in
-    let some : c.min-some.result ≡ min c.lines_left.result (c.lines_with_room-room.result - c.lines.given) = search rules in
+    let some : c.min-some.result ≡ min c.lines_left.result (c.lines_with_space-space.result - c.lines.given) = search rules in
     omega (arith, left, all, some, more)
 
 pub lines-preserved : goal.lines-preserved
@@ -50,9 +50,9 @@ lines-preserved c =
     let to_is : to ≡ (given + n) * line_size h = c.bytes_to-to.ensures.value ∙ ap (λ (k : ℕ). (given + n) * k) line in
     let sum = add-mul given n (line_size h) in
     let size : to - from ≡ n * line_size h = omega (arith, from_is, to_is, sum) in
-    let few : given + n ≤ c.lines_with_room-room.result = search (rules, arith) in
-    let most : (given + n) * line_size h ≤ c.lines_with_room-room.result * line_size h = mul-le-mul_right {m = given + n} {n = c.lines_with_room-room.result} (line_size h) few in
-    let fits : c.lines_with_room-room.result * line_size h ≤ length c.args.pixels.now = search (rules, arith) in
+    let few : given + n ≤ c.lines_with_space-space.result = search (rules, arith) in
+    let most : (given + n) * line_size h ≤ c.lines_with_space-space.result * line_size h = mul-le-mul_right {m = given + n} {n = c.lines_with_space-space.result} (line_size h) few in
+    let fits : c.lines_with_space-space.result * line_size h ≤ length c.args.pixels.now = search (rules, arith) in
     let inside_to : to ≤ length c.lines.pixels = omega (arith, to_is, most, fits, keep.long) in
     let long : length pix ≡ to - from = search (rules, arith, c.paint.auto.pixels) in
     let end_is : to ≡ from + length pix = omega (arith, long, from_is, to_is, sum) in

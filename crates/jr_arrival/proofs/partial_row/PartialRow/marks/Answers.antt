@@ -1,6 +1,6 @@
 use Rattle.std.proofs.Common.{◌≡◌, ℕ, ◌<◌, length, refl, sym, subst, arith, rules}
 use Rattle.jr_scan.specs.ScanValue.{ScanValue, interval_of}
-use Rattle.jr_scan.specs.Mcus.{TellsSound}
+use Rattle.jr_scan.specs.Mcus.{ReportsSound}
 use Rattle.jr_scan.specs.declared.cursor.Cursor.{Cursor}
 use Rattle.jr_rows.specs.Rows.{CountsMarks}
 use Rattle.jr_arrival.specs.PartialRows.{ReadsTo}
@@ -28,9 +28,9 @@ pub loop-i-preserved : goal.loop-i-preserved
 loop-i-preserved c =
     let s : ScanValue = c.args.scan.now.scan in
     let i = c.loop-i.i in
-    let told = subst (λ (k : Cursor). TellsSound c.is_sound-is_sound.result (interval_of s k.number)) c.at_start.ensures c.is_sound-is_sound.ensures in
+    let stated = subst (λ (k : Cursor). ReportsSound c.is_sound-is_sound.result (interval_of s k.number)) c.at_start.ensures c.is_sound-is_sound.ensures in
     let inside : i < length s.intervals = omega (arith, c.loop-i-test.true, c.intervals-all.ensures.value) in
-    counted s (interval_of s i) i c.loop-i.marked c.one.result c.with-marked.result c.is_sound-is_sound.result inside c.loop-i.invariant refl told c.one.ensures.sound c.one.ensures.damaged c.with-marked.ensures.sound c.with-marked.ensures.damaged
+    counted s (interval_of s i) i c.loop-i.marked c.one.result c.with-marked.result c.is_sound-is_sound.result inside c.loop-i.invariant refl stated c.one.ensures.sound c.one.ensures.damaged c.with-marked.ensures.sound c.with-marked.ensures.damaged
 
 pub returns : goal.returns
 returns c =

@@ -1,7 +1,7 @@
 use Rattle.std.proofs.lemmas.Bool.{cases_lt}
 use Rattle.std.proofs.Common.{◌≡◌, inl, inr, ℕ, ◌+◌, ◌<◌, ◌≤◌, sym, ap, subst, ◌∙◌, arith, rules}
 use Rattle.jr_head.specs.HeadValue.{HeadValue}
-use Rattle.jr_head.specs.Geometry.{IsLawful, mcus_across}
+use Rattle.jr_head.specs.Geometry.{IsValid, mcus_across}
 use Rattle.jr_rows.specs.Rows.{first_line, line_count}
 use Rattle.jr_scan.specs.ScanValue.{ScanValue}
 use Rattle.jr_arrival.specs.PartialRows.{PartialRowValue, IsPartialRow}
@@ -41,7 +41,7 @@ returns-clause-partial_row c =
     let whole : i.done ≡ mcus_across s.head = subst (λ (r : PartialRowValue). r.done ≡ mcus_across s.head) (sym c.self.view_is) c.requires.whole in
     let few : Ends s v n = subst (λ (r : PartialRowValue). Ends s r n) (sym c.self.view_is) c.requires.inside in
     let e : c.head-2.result.now ≡ s.head = c.head-2.ensures.value in
-    let lawful : IsLawful s.head = subst IsLawful e c.head-2.ensures.lawful in
+    let valid : IsValid s.head = subst IsValid e c.head-2.ensures.valid in
     let first : c.lines_of-first.result.0 ≡ first_line s.head i.row = c.lines_of-first.ensures.first ∙ ap (λ (h : HeadValue). first_line h i.row) e in
     let count : c.lines_of-first.result.1 ≡ line_count s.head i.row = c.lines_of-first.ensures.count ∙ ap (λ (h : HeadValue). line_count h i.row) e in
     let end : i.lines + n ≡ first_line s.head i.row + line_count s.head i.row = omega (arith, few, first, count, c.if-self-first.false) in
@@ -51,5 +51,5 @@ returns-clause-partial_row c =
       | inl l ↦ l
       | inr g ↦ absurd (c.if-self-height.false (omega (arith, g, high, high_too, c.lines_of-first.ensures.inside, first, count, end)))
     ] in
-    let told = step_row c.args.scan.now v partial_row lawful.components.down whole (i.lines + n) end more in
-    search (rules, told)
+    let stated = step_row c.args.scan.now v partial_row valid.components.down whole (i.lines + n) end more in
+    search (rules, stated)

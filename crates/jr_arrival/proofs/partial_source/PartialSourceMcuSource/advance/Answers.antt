@@ -8,7 +8,7 @@ use Rattle.jr_arrival.proofs.PartialSteps.{begins, begins_some}
 use Rattle.jr_arrival.proofs.partial_source.PartialSourceMcuSource.advance.Goals as goal
 
 pub returns-then-not-is_over-clause-waits : goal.returns-then-not-is_over-clause-waits
-returns-then-not-is_over-clause-waits c told =
+returns-then-not-is_over-clause-waits c stated =
     let k = c.args.self.now.cursor in
     let is = c.requires.at in
     record { going = c.is_over.ensures.going c.if-not-is_over.true; next = inl (omega (arith, is.reading.few, ap (λ (h : HeadValue). mcus_in h k.number) is.head, c.mcus_in.ensures.value, c.if-self-mcus_in.false)) }
@@ -24,7 +24,7 @@ returns-clause-steps c =
     (begins h s is all c.requires.more c.partial_marks-self.result (c.is_over.ensures.over c.if-not-is_over.false) c.partial_marks-self.ensures.counts)
 
 pub returns-clause-some : goal.returns-clause-some
-returns-clause-some c told =
+returns-clause-some c stated =
     let h = c.args.head.now in
     let s = c.args.self.now in
     let is = c.requires.at in

@@ -1,7 +1,7 @@
 use Rattle.std.proofs.Common.{ap, refl, arith}
 use Rattle.jr_head.specs.Intervals.{intervals_of}
 use Rattle.jr_arrival.specs.PartialSources.{partial_source_of}
-use Rattle.jr_arrival.proofs.PartialSteps.{gives_up, none_left}
+use Rattle.jr_arrival.proofs.PartialSteps.{returns_up, none_left}
 use Rattle.jr_arrival.proofs.Readings.{no_more}
 use Rattle.jr_arrival.proofs.SourceSteps.{nowhere}
 use Rattle.jr_arrival.proofs.partial_source.PartialSourceMcuSource.give_up.Goals as goal
@@ -16,12 +16,12 @@ pub returns-then-not-is_final-clause-steps : goal.returns-then-not-is_final-clau
 returns-then-not-is_final-clause-steps c = nowhere c.args.head.now (partial_source_of c.args.self.now) c.requires.at
 
 pub returns-then-not-is_final-clause-waits : goal.returns-then-not-is_final-clause-waits
-returns-then-not-is_final-clause-waits c told = no_more c.args.self.now.scan.now c.args.self.now.cursor c.requires.at.reading.reads c.requires.none (c.is_final.ensures.going c.if-not-is_final.true)
+returns-then-not-is_final-clause-waits c stated = no_more c.args.self.now.scan.now c.args.self.now.cursor c.requires.at.reading.reads c.requires.none (c.is_final.ensures.going c.if-not-is_final.true)
 
 pub returns-clause-steps : goal.returns-clause-steps
-returns-clause-steps c = gives_up c.args.head.now c.args.self.now c.requires.at c.requires.some c.requires.none (c.is_final.ensures.never c.if-not-is_final.false)
+returns-clause-steps c = returns_up c.args.head.now c.args.self.now c.requires.at c.requires.some c.requires.none (c.is_final.ensures.never c.if-not-is_final.false)
 
 pub returns-clause-stuck : goal.returns-clause-stuck
-returns-clause-stuck c told =
-    let steps = gives_up c.args.head.now c.args.self.now c.requires.at c.requires.some c.requires.none (c.is_final.ensures.never c.if-not-is_final.false) in
+returns-clause-stuck c stated =
+    let steps = returns_up c.args.head.now c.args.self.now c.requires.at c.requires.some c.requires.none (c.is_final.ensures.never c.if-not-is_final.false) in
     none_left c.args.head.now _ steps.at refl c.requires.some

@@ -36,4 +36,4 @@ pub returns-clause-number : goal.returns-clause-number
 returns-clause-number g c = ap (λ (k : Cursor). k.number) c.take_whole.ensures.taken.cursor
 
 pub returns-clause-none : goal.returns-clause-none
-returns-clause-none g c told = none_whole c.args.head.now c.args.self.now c.requires.at c.in-Some.place c.in-Some.is c.interval_ref-interval.ensures c.take_whole.ensures.taken told
+returns-clause-none g c stated = none_whole c.args.head.now c.args.self.now c.requires.at c.in-Some.place c.in-Some.is c.interval_ref-interval.ensures c.take_whole.ensures.taken stated

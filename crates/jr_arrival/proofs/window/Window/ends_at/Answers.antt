@@ -6,15 +6,15 @@ use Rattle.jr_cut.proofs.Stops.{stop_whole}
 use Rattle.jr_arrival.proofs.window.Window.ends_at.Goals as goal
 
 pub returns-then-end-fill-clause-ends : goal.returns-then-end-fill-clause-ends
-returns-then-end-fill-clause-ends c told more all =
+returns-then-end-fill-clause-ends c stated more all =
     stop_whole c.args.self.now.file.bytes.now more c.args.end c.fill_count-fill.result c.requires.within c.requires.stop c.fill_count-fill.ensures.next (inr (search (rules, arith)))
 
 pub returns-clause-ends : goal.returns-clause-ends
-returns-clause-ends c told more all =
-    stop_whole c.args.self.now.file.bytes.now more c.args.end c.fill_count-fill.result c.requires.within c.requires.stop c.fill_count-fill.ensures.next (inl (all (search (rules, told))))
+returns-clause-ends c stated more all =
+    stop_whole c.args.self.now.file.bytes.now more c.args.end c.fill_count-fill.result c.requires.within c.requires.stop c.fill_count-fill.ensures.next (inl (all (search (rules, stated))))
 
 pub returns-clause-fill : goal.returns-clause-fill
-returns-clause-fill c told =
+returns-clause-fill c stated =
     let bytes = c.args.self.now.file.bytes.now in
     let end = c.args.end in
     let fill = c.fill_count-fill.result in

@@ -14,17 +14,17 @@ returns-clause-window c =
     let bytes = i.file.bytes.now in
     let part = c.unstuff_some-part.result in
     let e = c.unstuff_some-part.ensures in
-    let new = c.unstuff_some-part.new.room in
-    let old = i.room.items in
-    let long : i.room.len ≡ length new = search (rules, arith, e.long, c.requires.room) in
-    let room : take i.room.len (new ++ drop (length new) old) ≡ new = ap (λ (n : ℕ). take n (new ++ drop (length new) old)) long ∙ take-append_seam new (drop (length new) old) in
-    let window : length new ≡ WINDOW = search (rules, arith, e.long, c.requires.room) in
+    let new = c.unstuff_some-part.new.space in
+    let old = i.space.items in
+    let long : i.space.len ≡ length new = search (rules, arith, e.long, c.requires.space) in
+    let space : take i.space.len (new ++ drop (length new) old) ≡ new = ap (λ (n : ℕ). take n (new ++ drop (length new) old)) long ∙ take-append_seam new (drop (length new) old) in
+    let window : length new ≡ WINDOW = search (rules, arith, e.long, c.requires.space) in
     record {
-      room = ap length room ∙ window;
+      space = ap length space ∙ window;
       from = omega arith;
       found = omega (arith, e.fits, e.long, window);
       at = c.requires.at;
-      spells = subst (λ (xs : List ℕ). Spells bytes c.args.at (take (part.found - 0) (drop 0 xs)) part.ends) (sym room) (filled bytes new c.args.at part.found part.ends c.requires.at e.spells);
+      spells = subst (λ (xs : List ℕ). Spells bytes c.args.at (take (part.found - 0) (drop 0 xs)) part.ends) (sym space) (filled bytes new c.args.at part.found part.ends c.requires.at e.spells);
       full = λ reached ends. search (rules, arith, e.whole, reached, ends, e.long, window, length-drop c.args.at bytes);
     }
 
@@ -39,6 +39,6 @@ returns-clause-bit c come low =
     let rest = rest_is bytes at in
     let is : IsRaw (take n (drop at bytes)) s.0 = subst (λ (xs : List ℕ). IsRaw (take n xs) s.0) rest s.1 in
     let stop : length s.0 < min bit 1 → IsStop (drop n (drop at bytes)) = λ lt. subst (λ (xs : List ℕ). IsStop (drop n xs)) rest (s.3 (search (rules, arith, lt))) in
-    let le : length s.0 ≤ c.unstuff_some-part.result.found = e.some n s.0 (search (rules, arith)) c.spelled_length-least.ensures.within s.1 (search (rules, arith, s.2, c.requires.room)) in
+    let le : length s.0 ≤ c.unstuff_some-part.result.found = e.some n s.0 (search (rules, arith)) c.spelled_length-least.ensures.within s.1 (search (rules, arith, s.2, c.requires.space)) in
     let there : bit ≤ 8 * c.unstuff_some-part.result.found = bit_there bytes at bit n c.unstuff_some-part.result.found s.0 come low is stop le in
     search (rules, arith, there)

@@ -40,5 +40,5 @@ returns-clause-nearer c =
     let few : 8 * (i.found - i.from) < 16650 + bit = search (rules, arith) in
     let byte_few : byte ≤ i.found - i.from = omega (arith, c.requires.bit) in
     let less = left_less long i.at m.at i.reach next d.reach i.from byte i.found bit (trimmed_later i w byte m.at byte_few c.trim-left.ensures.at) c.trim-left.ensures.at.within (omega arith) (omega arith) few
-    (λ past. w.full past open_end) (λ none room. omega (arith, reach, n.further (omega (arith, from, none)) (omega (arith, reach, room)))) (omega (arith, reach, n.on)) (omega (arith, e.reach)) small in
+    (λ past. w.full past open_end) (λ none space. omega (arith, reach, n.further (omega (arith, from, none)) (omega (arith, reach, space)))) (omega (arith, reach, n.on)) (omega (arith, e.reach)) small in
     omega (arith, less, file, e.at, e.from)

@@ -27,6 +27,6 @@ returns-clause-found c =
     let held = upper_bits c.refilled-register.result.count c.refilled-register.result.held in
     let fits : x.long ≤ length held = omega (arith, c.in_ok-next.ensures.found.0, length-first r.count r.held (omega arith)) in
     let same : bits_in c.refilled-register.result ≡ c.args.bits.now = c.refilled-register.ensures.same ∙ c.bits.view_is in
-    let rest : drop x.long (bits_in c.refilled-register.result) ≡ bits_in c.behind-bits-inside-2.result = ap (λ n. drop n (bits_in c.refilled-register.result)) (sym c.long-2.ensures) ∙ sym c.behind-bits-inside-2.ensures in
+    let rest : drop x.long (bits_in c.refilled-register.result) ≡ bits_in c.after-bits-inside-2.result = ap (λ n. drop n (bits_in c.refilled-register.result)) (sym c.long-2.ensures) ∙ sym c.after-bits-inside-2.ensures in
     let all = taken_more c.args.self.now held (bits r.rest.now) x.symbol x.long x.value fits c.in_ok-next.ensures.found.1 in
     (rw (← rest, ← same) all, c.in_ok-next.ensures.goes)

@@ -1,6 +1,6 @@
 use Rattle.std.proofs.Common.{arith, ◌≡◌, ◌<◌, length, refl, sym, get_or, ap, subst, ◌*◌, ◌+◌}
 use Rattle.std.proofs.lemmas.List.Sums.{sum_by_more}
-use Rattle.jr_code.specs.Code.{Table, IsLawfulTable}
+use Rattle.jr_code.specs.Code.{Table, IsValidTable}
 use Rattle.jr_code.proofs.CodeLemmas.{space-nil}
 use Rattle.jr_code.proofs.ReadLemmas.{end_below, full_more}
 use Rattle.jr_code.proofs.table.CodeTable.up_to.Goals as goal
@@ -10,13 +10,13 @@ loop-i-init c = record { full = sym space-nil; words_is = refl; small = omega ar
 
 pub overflow_mul-end : goal.overflow_mul-end
 overflow_mul-end c =
-    let lawful : IsLawfulTable c.args.self.now.counts c.args.self.now.symbols = subst (λ (x : Table). IsLawfulTable x.counts x.symbols) c.self.view_is c.self.invariant in
-    omega (arith, end_below c.args.self.now c.loop-i.i c.loop-i.end lawful c.loop-i.invariant.full)
+    let valid : IsValidTable c.args.self.now.counts c.args.self.now.symbols = subst (λ (x : Table). IsValidTable x.counts x.symbols) c.self.view_is c.self.invariant in
+    omega (arith, end_below c.args.self.now c.loop-i.i c.loop-i.end valid c.loop-i.invariant.full)
 
 pub overflow_add-end : goal.overflow_add-end
 overflow_add-end c =
-    let lawful : IsLawfulTable c.args.self.now.counts c.args.self.now.symbols = subst (λ (x : Table). IsLawfulTable x.counts x.symbols) c.self.view_is c.self.invariant in
-    omega (arith, end_below c.args.self.now c.loop-i.i c.loop-i.end lawful c.loop-i.invariant.full)
+    let valid : IsValidTable c.args.self.now.counts c.args.self.now.symbols = subst (λ (x : Table). IsValidTable x.counts x.symbols) c.self.view_is c.self.invariant in
+    omega (arith, end_below c.args.self.now c.loop-i.i c.loop-i.end valid c.loop-i.invariant.full)
 
 pub loop-i-preserved : goal.loop-i-preserved
 loop-i-preserved c =
@@ -33,5 +33,5 @@ loop-i-preserved c =
 
 pub returns-clause-small : goal.returns-clause-small
 returns-clause-small c =
-    let lawful : IsLawfulTable c.args.self.now.counts c.args.self.now.symbols = subst (λ (x : Table). IsLawfulTable x.counts x.symbols) c.self.view_is c.self.invariant in
-    omega (arith, end_below c.args.self.now c.loop-i.i c.loop-i.end lawful c.loop-i.invariant.full)
+    let valid : IsValidTable c.args.self.now.counts c.args.self.now.symbols = subst (λ (x : Table). IsValidTable x.counts x.symbols) c.self.view_is c.self.invariant in
+    omega (arith, end_below c.args.self.now c.loop-i.i c.loop-i.end valid c.loop-i.invariant.full)

@@ -21,9 +21,9 @@ returns-in_err-value-clause-none c =
     let bs = upper_bits c.args.count c.args.held in
     let s = c.in_ok-symbol.symbol in
     let n = c.in_ok-symbol.long in
-    let mid = bits_in c.behind.result in
-    let left : bits_in c.behind.result ≡ drop n (upper_bits c.args.count c.args.held ++ []) = c.behind.ensures ∙ ap (λ k. drop k (upper_bits c.args.count c.args.held ++ [])) c.from.ensures in
-    let few : length (bits_in c.behind.result) < c.from-count.result = too_few c.from-count.result (bits_in c.behind.result) None refl c.in_err-value.ensures.found.1 in
+    let mid = bits_in c.after.result in
+    let left : bits_in c.after.result ≡ drop n (upper_bits c.args.count c.args.held ++ []) = c.after.ensures ∙ ap (λ k. drop k (upper_bits c.args.count c.args.held ++ [])) c.from.ensures in
+    let few : length (bits_in c.after.result) < c.from-count.result = too_few c.from-count.result (bits_in c.after.result) None refl c.in_err-value.ensures.found.1 in
     if_none (HasNoExtended c.args.self.now bs) c.from_residual-in_err-value.result
     (held_short c.args.self.now (one_word c.args.self.now) bs mid s n c.in_ok-symbol.ensures.found.1 left (omega (arith, few, c.from-count.ensures)))
 
@@ -35,8 +35,8 @@ returns-clause-found c =
     let v = c.in_ok-value.value in
     let f32 : SFits w32 v = omega (arith, ints, c.in_ok-value.ensures.small) in
     let f16 : SFits w16 v = omega (arith, ints, c.in_ok-value.ensures.small) in
-    let mid = bits_in c.behind.result in
-    let left : bits_in c.behind.result ≡ drop n (upper_bits c.args.count c.args.held ++ []) = c.behind.ensures ∙ ap (λ k. drop k (upper_bits c.args.count c.args.held ++ [])) c.from.ensures in
+    let mid = bits_in c.after.result in
+    let left : bits_in c.after.result ≡ drop n (upper_bits c.args.count c.args.held ++ []) = c.after.ensures ∙ ap (λ k. drop k (upper_bits c.args.count c.args.held ++ [])) c.from.ensures in
     let size : c.from-count.result ≡ s % 16 = omega (arith, c.from-count.ensures) in
     let fits : n ≤ length (upper_bits c.args.count c.args.held) = omega (arith, c.in_ok-symbol.ensures.found.0, length-first c.args.count c.args.held (omega arith)) in
     let both = held_apart c.args.self.now bs mid s n c.from-count.result v fits c.in_ok-symbol.ensures.found.1 size left (c.in_ok-value.ensures.found.0 refl) c.in_ok-value.ensures.taken.0 in

@@ -36,7 +36,7 @@ returns-2-clause-found c =
     let bs = bits_in c.refilled-register.result in
     let same : bits_in c.refilled-register.result ≡ c.args.bits.now = c.refilled-register.ensures.same ∙ c.bits.view_is in
     let front : take long bs ≡ take long held = take-append-le long held (bits r.rest.now) (omega (arith, c.in_ok-symbol.ensures.found.0, length-first r.count r.held (omega arith))) in
-    let rest : drop long bs ≡ bits_in c.behind-bits-inside-2.result = ap (λ n. drop n (bits_in c.refilled-register.result)) (sym c.from-count.ensures) ∙ sym c.behind-bits-inside-2.ensures in
+    let rest : drop long bs ≡ bits_in c.after-bits-inside-2.result = ap (λ n. drop n (bits_in c.refilled-register.result)) (sym c.from-count.ensures) ∙ sym c.after-bits-inside-2.ensures in
     let word : IsWord c.args.self.now (take long bs) c.in_ok-symbol.symbol = subst (λ b. IsWord c.args.self.now b c.in_ok-symbol.symbol) (sym front) c.in_ok-symbol.ensures.found.1 in
     (take long bs, word, sym same ∙ sym (take-append-drop long bs) ∙ ap (λ t. take c.in_ok-symbol.long (bits_in c.refilled-register.result) ++ t) rest)
 

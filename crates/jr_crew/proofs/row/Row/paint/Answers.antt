@@ -2,13 +2,13 @@ use Rattle.std.proofs.Common.{sym, subst, ap, ◌∙◌, ◌≡◌, ℕ, ◌*◌
 use Rattle.std.proofs.lemmas.List.{length-take-le}
 use Rattle.jr_head.specs.HeadValue.{HeadValue}
 use Rattle.jr_head.specs.Geometry.{mcus_across, mcus_down}
-use Rattle.jr_paint.specs.Lines.{line_room}
+use Rattle.jr_paint.specs.Lines.{line_space}
 use Rattle.jr_picture.specs.DecodedScan.{DecodedScan}
 use Rattle.jr_scan.specs.ScanValue.{ScanValue}
 use Rattle.jr_rows.specs.Bands.{ShowsMcus}
 use Rattle.jr_rows.specs.Groups.{units_in}
 use Rattle.jr_rows.specs.RowLines.{HasLines}
-use Rattle.jr_rows.specs.Rows.{AreRead, DecodesFirst, HasRowRoom, ShowsLines, line_count}
+use Rattle.jr_rows.specs.Rows.{AreRead, DecodesFirst, HasRowSpace, ShowsLines, line_count}
 use Rattle.jr_rows.specs.RowsValue.{RowValue}
 use Rattle.jr_rows.proofs.PaintedRows.{shows}
 use Rattle.jr_crew.proofs.RowBuffers.{first_lines, lines_fit}
@@ -19,9 +19,9 @@ transform-requires c =
     let row = c.args.row in
     let there = sym c.scan-scan.ensures in
     let below = subst (λ (s : ScanValue). row < mcus_down s.head) there c.requires.row in
-    let room = subst (λ (s : ScanValue). HasRowRoom s.head c.args.self.now) there c.requires.room in
+    let space = subst (λ (s : ScanValue). HasRowSpace s.head c.args.self.now) there c.requires.space in
     let read = subst (λ (n : ℕ). AreRead c.args.part.now.scan n row c.args.self.now.blocks) (sym c.limit-limit.ensures.value) c.requires.read in
-    record { row = below; room = room; read = subst (λ (s : ScanValue). AreRead s c.limit-limit.result row c.args.self.now.blocks) there read }
+    record { row = below; space = space; read = subst (λ (s : ScanValue). AreRead s c.limit-limit.result row c.args.self.now.blocks) there read }
 
 pub slice_bounds-paint_row-end : goal.slice_bounds-paint_row-end
 slice_bounds-paint_row-end c =
@@ -44,16 +44,16 @@ slice_bounds-paint_row-end-2 c =
 pub paint_row-requires-clause-lines : goal.paint_row-requires-clause-lines
 paint_row-requires-clause-lines c =
     let head = c.head-head.ensures.value ∙ ap (λ (s : ScanValue). s.head) c.scan-scan.ensures in
-    subst (λ (h : HeadValue). line_room h ≤ length c.args.room.now) (sym head) c.requires.lines
+    subst (λ (h : HeadValue). line_space h ≤ length c.args.space.now) (sym head) c.requires.lines
 
 pub paint_row-requires-clause-row : goal.paint_row-requires-clause-row
 paint_row-requires-clause-row c =
     let head = c.head-head.ensures.value ∙ ap (λ (s : ScanValue). s.head) c.scan-scan.ensures in
     subst (λ (h : HeadValue). c.args.row < mcus_down h) (sym head) c.requires.row
 
-pub paint_row-requires-clause-room : goal.paint_row-requires-clause-room
-paint_row-requires-clause-room c =
-    let lines = subst (λ (r : RowValue). HasLines c.scan-scan.result.now.head r.lines) (sym c.self.view_is) c.transform.ensures.room.lines in
+pub paint_row-requires-clause-space : goal.paint_row-requires-clause-space
+paint_row-requires-clause-space c =
+    let lines = subst (λ (r : RowValue). HasLines c.scan-scan.result.now.head r.lines) (sym c.self.view_is) c.transform.ensures.space.lines in
     subst (λ (h : HeadValue). HasLines h c.self.inside.lines) (sym c.head-head.ensures.value) lines
 
 pub paint_row-requires-clause-pixels : goal.paint_row-requires-clause-pixels
@@ -66,8 +66,8 @@ paint_row-requires-clause-pixels c =
     let line = c.shape_of.result.line in
     length-take-le (c.lines_of-y.result.1 * line) c.args.pixels.now fit.1 ∙ ap (λ (n : ℕ). n * line) c.lines_of-y.ensures.count ∙ ap (λ (n : ℕ). line_count hd row * n) c.shape_of.ensures.line
 
-pub returns-clause-room : goal.returns-clause-room
-returns-clause-room c = subst (λ (s : ScanValue). HasRowRoom s.head c.transform.new.self) c.scan-scan.ensures c.transform.ensures.room
+pub returns-clause-space : goal.returns-clause-space
+returns-clause-space c = subst (λ (s : ScanValue). HasRowSpace s.head c.transform.new.self) c.scan-scan.ensures c.transform.ensures.space
 
 pub returns-clause-lines : goal.returns-clause-lines
 returns-clause-lines c =

@@ -29,11 +29,11 @@ returns-clause-units c =
     let blank : (k : ℕ) → c.coded_of_row-coded.result * per ≤ k → k < mcus_across h * per → slice_index_or us k [] ≡ unit_shown_of h (k % per) None 0 = rw head at c.decode.ensures.blank in
     row_shown t n row c.requires.row some us long (λ b first k lt. decoded k (omega (arith, lt, coded)) ∙ c.requires.read b first k lt) (λ k le lt. blank k (omega (arith, le, coded)) (omega (arith, lt, long)))
 
-pub decode-requires-clause-room : goal.decode-requires-clause-room
-decode-requires-clause-room c =
+pub decode-requires-clause-space : goal.decode-requires-clause-space
+decode-requires-clause-space c =
     let h = c.args.scan.now.head in
     let head : c.head-head.result.now ≡ h = c.head-head.ensures.value in
-    let lines = subst (λ (r : RowValue). HasLines h r.lines) (sym c.self.view_is) c.requires.room.lines in
+    let lines = subst (λ (r : RowValue). HasLines h r.lines) (sym c.self.view_is) c.requires.space.lines in
     subst (λ (g : HeadValue). HasLines g c.self.inside.lines) (sym head) lines
 
 pub decode-requires-clause-few : goal.decode-requires-clause-few
@@ -47,5 +47,5 @@ decode-requires-clause-blocks c =
     let head : c.head-head.result.now ≡ h = c.head-head.ensures.value in
     let blocks : c.deref.result.now ≡ c.args.self.now.blocks = c.deref.ensures.value ∙ ap (λ (r : RowValue). r.blocks) c.self.view_is in
     let few = mul-le-mul_right (blocks_of h) c.coded_of_row-coded.ensures.few in
-    let fits : c.coded_of_row-coded.result * blocks_of h ≤ length c.deref.result.now = omega (arith, few, ap length blocks, c.requires.room.blocks) in
+    let fits : c.coded_of_row-coded.result * blocks_of h ≤ length c.deref.result.now = omega (arith, few, ap length blocks, c.requires.space.blocks) in
     subst (λ (g : HeadValue). c.coded_of_row-coded.result * blocks_of g ≤ length c.deref.result.now) (sym head) fits

@@ -2,10 +2,10 @@ use Rattle.std.proofs.Common.{rules, arith, sym, subst, ap, ◌∙◌, ◌≡◌
 use Rattle.jr_head.specs.HeadValue.{HeadValue}
 use Rattle.jr_scan.specs.ScanValue.{ScanValue}
 use Rattle.jr_scan.specs.FirstIntervalsValue.{FirstIntervalsValue}
-use Rattle.jr_rows.specs.Rows.{AreRead, CountsRow, HasRowRoom}
+use Rattle.jr_rows.specs.Rows.{AreRead, CountsRow, HasRowSpace}
 use Rattle.jr_rows.specs.RowsValue.{RowValue}
 use Rattle.jr_rows.proofs.Lent.{all_back}
-use Rattle.jr_crew.specs.RowBuffer.{HasRoom, HasWork, IsRead}
+use Rattle.jr_crew.specs.RowBuffer.{HasPixelSpace, HasWork, IsRead}
 use Rattle.jr_crew.proofs.row_buffer.RowBuffer.read.Goals as goal
 
 pub invariant_of-result : goal.invariant_of-result
@@ -24,11 +24,11 @@ invariant_of-result g c =
     let long : old.len ≡ length new = search (rules, c.read-marked.auto.blocks) in
     let is = all_back old.len new old.items long in
     let head = c.head.ensures.value ∙ ap (λ (s : ScanValue). s.head) c.scan.ensures in
-    let had = subst (λ (w : RowValue). HasRowRoom t.scan.head w) (sym c.work.view_is) (subst (λ (h : HeadValue). HasRowRoom h c.in-Ok.work) head c.in-Ok.ensures) in
-    let room = subst (λ (k : Option FirstIntervalsValue). HasRoom k bytes) c.requires.part c.self.invariant.1 in
+    let had = subst (λ (w : RowValue). HasRowSpace t.scan.head w) (sym c.work.view_is) (subst (λ (h : HeadValue). HasRowSpace h c.in-Ok.work) head c.in-Ok.ensures) in
+    let space = subst (λ (k : Option FirstIntervalsValue). HasPixelSpace k bytes) c.requires.part c.self.invariant.1 in
     let read = subst (λ (r : ℕ). AreRead t.scan t.limit r new) at e.read in
     let counts = subst (λ (r : ℕ). CountsRow t.scan t.limit r marked) at e.counts in
-    let whole = subst (λ (bs : List (List ℤ)). HasWork known (record { blocks = bs; lines = lines }) × HasRoom known bytes × IsRead known (record { row = row; marked = marked; work = record { blocks = bs; lines = lines } })) (sym is)
-    (subst (λ (k : Option FirstIntervalsValue). HasWork k (record { blocks = new; lines = lines }) × HasRoom k bytes × IsRead k (record { row = row; marked = marked; work = record { blocks = new; lines = lines } })) (sym c.requires.part)
-    (record { blocks = same ∙ had.blocks; lines = had.lines }, room, record { row = omega (arith, c.requires.row, c.row-row.ensures); blocks = read; counts = counts })) in
+    let whole = subst (λ (bs : List (List ℤ)). HasWork known (record { blocks = bs; lines = lines }) × HasPixelSpace known bytes × IsRead known (record { row = row; marked = marked; work = record { blocks = bs; lines = lines } })) (sym is)
+    (subst (λ (k : Option FirstIntervalsValue). HasWork k (record { blocks = new; lines = lines }) × HasPixelSpace k bytes × IsRead k (record { row = row; marked = marked; work = record { blocks = new; lines = lines } })) (sym c.requires.part)
+    (record { blocks = same ∙ had.blocks; lines = had.lines }, space, record { row = omega (arith, c.requires.row, c.row-row.ensures); blocks = read; counts = counts })) in
     search whole

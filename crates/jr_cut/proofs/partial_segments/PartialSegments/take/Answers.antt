@@ -37,6 +37,6 @@ returns-clause-taken c start bytes h =
       at = h.at;
     }
 
-pub returns-clause-room : goal.returns-clause-room
-returns-clause-room c little =
+pub returns-clause-space : goal.returns-clause-space
+returns-clause-space c little =
     omega (arith, little, c.in_ok-reserve.ensures.ok, ap length c.reserve.ensures.items, ap length c.in_ok-extend.ensures.rest, length-append c.args.self.now.bytes.rest c.args.more.now, ap length c.rest.ensures)

@@ -50,8 +50,8 @@ bytes-preserved c =
     let some = fill_some bytes end n (omega arith) (r.next (omega arith)) f.next in
     let zero_byte : get_or bytes (end + n) 0 ≡ 0 = sym (code_in bytes _ _ end n left c.rest-else-next-rest.ensures) ∙ c.if-rest-next-ne0.false in
     let place : end + n + 1 ≡ end + (n + 1) = omega arith in
-    let is = unstuffs_stuffed bytes _ _ _ end n lt f.full some zero_byte (c.put.ensures.data ∙ ap (λ (u : UnstuffingValue). u.unstuffed ++ PREFIX ∷ []) c.fill-next.ensures.same) r.is in
-    (omega arith, c.put.ensures.rest ∙ ap (drop (n + 1)) left ∙ drop-drop (n + 1) end bytes, subst (λ (k : ℕ). Unstuffs (take k bytes) c.args.self.now.unstuffed c.put.new.self.unstuffed) place is)
+    let is = unstuffs_stuffed bytes _ _ _ end n lt f.full some zero_byte (c.store.ensures.data ∙ ap (λ (u : UnstuffingValue). u.unstuffed ++ PREFIX ∷ []) c.fill-next.ensures.same) r.is in
+    (omega arith, c.store.ensures.rest ∙ ap (drop (n + 1)) left ∙ drop-drop (n + 1) end bytes, subst (λ (k : ℕ). Unstuffs (take k bytes) c.args.self.now.unstuffed c.store.new.self.unstuffed) place is)
 
 pub returns-then-next-rest-clause-within : goal.returns-then-next-rest-clause-within
 returns-then-next-rest-clause-within c = (run_made _ _ _ _ _ _ _ c.bytes.at c.plain_count-count.result c.bytes.invariant.0 c.bytes.invariant.1 c.bytes.invariant.2 c.rest.ensures c.plain_count-count.ensures.within c.plain_count-count.ensures.plain c.plain_count-count.ensures.next c.keep.ensures.data c.keep.ensures.rest).within

@@ -10,12 +10,12 @@ returns-clause-count c =
 pub returns-clause-some : goal.returns-clause-some
 returns-clause-some c =
     rw (ap length (c.as_slice.ensures.value ∙ c.self.invariant.order) ∙ length-order 0 c.self.inside.components.items)
-    (units_some c.self.inside.components.items (some_there c.self.inside.kind c.self.inside.components.items c.self.invariant.lawful.components.count) c.self.invariant.lawful.components.sampled)
+    (units_some c.self.inside.components.items (some_there c.self.inside.kind c.self.inside.components.items c.self.invariant.valid.components.count) c.self.invariant.valid.components.sampled)
 
 pub returns-clause-few : goal.returns-clause-few
 returns-clause-few c =
     rw (ap length (c.as_slice.ensures.value ∙ c.self.invariant.order) ∙ length-order 0 c.self.inside.components.items)
-    c.self.invariant.lawful.components.blocks
+    c.self.invariant.valid.components.blocks
 
 pub returns-clause-within : goal.returns-clause-within
 returns-clause-within c =

@@ -16,7 +16,7 @@ returns c =
     let at = h.scan_at in
     let len = c.segment_length.result in
     let start : c.scan_at-start.result ≡ at = c.scan_at-start.ensures.value in
-    let told = subst (λ (a : ℕ). Segment file a len) start (segment file c.scan_at-start.result len (omega (arith, c.requires.scan_at, start)) c.segment_length.ensures.within c.segment_length.ensures.data c.segment_length.ensures.stop) in
+    let stated = subst (λ (a : ℕ). Segment file a len) start (segment file c.scan_at-start.result len (omega (arith, c.requires.scan_at, start)) c.segment_length.ensures.within c.segment_length.ensures.data c.segment_length.ensures.stop) in
     let front = take at file in
     let raw = take len (drop at file) in
     let some = subst (λ (n : ℕ). 0 < n) c.intervals-some.ensures.value c.intervals-some.ensures.some in
@@ -29,4 +29,4 @@ returns c =
     let sized = subst (λ (n : ℕ). c.of.result.size ≡ scan_bytes (scan_markers n (drop at file))) c.intervals.ensures.value size in
     let is = subst (λ (x : List ℕ). IsOutlook c.intervals.result (scan_markers c.intervals.result x) c.of.result) rest c.of.ensures.is in
     let known = subst (λ (n : ℕ). IsOutlook n (scan_markers n (drop at file)) c.of.result) c.intervals.ensures.value is in
-    read_first file h _ len told some refl (ap (λ a. a + len) start) c.new.ensures.items since sized known written
+    read_first file h _ len stated some refl (ap (λ a. a + len) start) c.new.ensures.items since sized known written

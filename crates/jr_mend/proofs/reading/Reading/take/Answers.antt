@@ -13,10 +13,10 @@ returns c =
     let same = c.in_ok-note.ensures.same in
     let next = c.in_ok-begin_next.ensures in
     let there : mid.at + m.length ≤ length file = omega (arith, same.4, c.requires.within) in
-    let told = segment file (mid.at + m.length) len there c.segment_length.ensures.within c.segment_length.ensures.data c.segment_length.ensures.stop in
+    let stated = segment file (mid.at + m.length) len there c.segment_length.ensures.within c.segment_length.ensures.data c.segment_length.ensures.stop in
     let end = mid.at + m.length + len in
     let part : end - c.begin_next.new.self.at ≡ m.length + len = omega (arith, next.same.1) in
     let counted = c.since_after-self.ensures ∙ ap (λ (s : ℕ). since_after s m.missing (end - c.begin_next.new.self.at)) next.same.2 ∙ ap (since_after mid.since m.missing) part in
     let size = c.after-self.ensures.size ∙ ap (λ o. o.size) next.same.3 in
-    takes file c.args.self.now mid _ m len _ told c.in_ok-note.ensures.breaks same.0 same.1 same.2 same.3 same.4 refl next.number counted size
+    takes file c.args.self.now mid _ m len _ stated c.in_ok-note.ensures.breaks same.0 same.1 same.2 same.3 same.4 refl next.number counted size
     (λ n x ms code goes is. c.after-self.ensures.is n x ms code goes (subst (IsOutlook n (x ∷ ms)) (sym next.same.3) is)) next.same.0 next.written (grind (arith, slice_is file (mid.at + m.length) (mid.at + m.length + len) len refl))

@@ -5,7 +5,7 @@ use Rattle.jr_scan.proofs.ScanLaws.{one_front, shorter_front}
 use Rattle.jr_piece.specs.Outcome.{IsOutcome}
 use Rattle.jr_piece.specs.Strips.{shared_strips, mcus_of_each}
 use Rattle.jr_piece.specs.DataUnits.{AreEven, units_of_strips}
-use Rattle.jr_piece.proofs.StripPieces.{are_even, ordered, some_mcus, tell_outcome}
+use Rattle.jr_piece.proofs.StripPieces.{are_even, ordered, some_mcus, report_outcome}
 use Rattle.jr_piece.proofs.Strips.{all_there, meet}
 use Rattle.jr_piece.proofs.piece.Piece.of_strips.Goals as goal
 
@@ -32,9 +32,9 @@ invariant_of-result c =
     let i = c.args.interval in
     let strips = c.args.strips.items in
     let tested = ordered i c.args.front strips c.as_slice.result.now c.are_in_order.result c.as_slice.ensures.value c.if-not-are_in_order.false c.are_in_order.ensures.order.0 c.are_in_order.ensures.strips c.requires.of in
-    let told = tell_outcome (meet one_front shorter_front) (all_there one_front) i c.args.front c.args.is_sound (shared_strips strips) tested c.requires.tells in
+    let stated = report_outcome (meet one_front shorter_front) (all_there one_front) i c.args.front c.args.is_sound (shared_strips strips) tested c.requires.reports in
     let units : c.of_strips.result ≡ units_of_strips (shared_strips strips) = search (rules, c.of_strips.ensures) in
-    search (rules, subst (λ us. IsOutcome (record { interval = i; is_sound = c.args.is_sound; front = c.args.front; samples = us })) (sym units) told)
+    search (rules, subst (λ us. IsOutcome (record { interval = i; is_sound = c.args.is_sound; front = c.args.front; samples = us })) (sym units) stated)
 
 pub returns-clause-outcome : goal.returns-clause-outcome
 returns-clause-outcome c = search (rules, invariant_of-result c)

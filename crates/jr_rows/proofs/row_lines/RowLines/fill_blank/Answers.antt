@@ -9,12 +9,12 @@ use Rattle.jr_rows.specs.RowLines.{HasLines}
 use Rattle.jr_rows.proofs.GroupLists.{kept_before, units_at, written_back}
 use Rattle.jr_rows.proofs.row_lines.RowLines.fill_blank.Goals as goal
 
-pub returns-clause-room : goal.returns-clause-room
-returns-clause-room c =
-    let had = subst (HasLines c.args.head.now) (sym c.self.view_is) c.requires.room in
+pub returns-clause-space : goal.returns-clause-space
+returns-clause-space c =
+    let had = subst (HasLines c.args.head.now) (sym c.self.view_is) c.requires.space in
     let back = written_back c.self.inside.groups.len c.blank_mcus.new.groups c.self.inside.groups.items (search (rules, c.blank_mcus.auto.groups)) in
     record {
-      room = record { across_is = refl; long = search (rules, ap (λ (g : List (List ℕ)). length g) back, had.room.long) };
+      space = record { across_is = refl; long = search (rules, ap (λ (g : List (List ℕ)). length g) back, had.space.long) };
       starts = had.starts;
       across = had.across;
     }

@@ -36,7 +36,7 @@ returns c =
     let all : c.loop-j.j ≡ blocks_of h = search (rules, arith) in
     let long : length c.in_ok-vec.field-0.items ≡ all_lines h * groups_across h = search rules in
     record {
-      room = record { across_is = refl; long = long };
+      space = record { across_is = refl; long = long };
       across = c.groups_across-across.ensures.value;
       starts = record { long = c.loop-j.invariant.long ∙ all; each = λ j d lt. c.loop-j.invariant.each j d (omega (arith, lt, all)) };
     }

@@ -10,8 +10,8 @@ use Rattle.jr_rows.specs.Rows.{coded_before}
 use Rattle.jr_rows.proofs.RowStarts.{all_before, mcu_there, row_starts}
 use Rattle.jr_rows.proofs.rows.Rows.at.Goals as goal
 
-pub skip_mcus-requires-clause-stands : goal.skip_mcus-requires-clause-stands
-skip_mcus-requires-clause-stands c =
+pub skip_mcus-requires-clause-lies : goal.skip_mcus-requires-clause-lies
+skip_mcus-requires-clause-lies c =
     let t = c.args.part.now.scan in
     let h = t.head in
     let some = subst (λ (n : ℕ). 0 < n) (c.mcus.ensures.value ∙ ap (λ (x : HeadValue). mcus_of x) (c.head.ensures.value ∙ ap (λ (s : ScanValue). s.head) c.scan-scan.ensures)) c.mcus.ensures.some in
@@ -46,9 +46,9 @@ returns-clause-rows c =
     let count : length t.intervals ≡ intervals_of h = subst (λ (s : ScanValue). length s.intervals ≡ intervals_of s.head) c.scan-scan.ensures (sym c.intervals.ensures.value ∙ c.intervals.ensures.count) in
     let to = start_to h (interval_number h (c.args.row * mcus_across h)) start (c.at_start-cursor.ensures ∙ ap interval_start number) in
     let before = ap (λ (s : ScanValue). mcus_to s.head start) c.scan-scan.ensures in
-    let behind = ap (λ (s : ScanValue). mcus_to s.head next) c.scan-scan.ensures in
-    let at : mcus_to h next ≡ c.args.row * mcus_across h = omega (arith, c.skip_mcus.ensures.moved, before, behind, to, within, whole) in
+    let after = ap (λ (s : ScanValue). mcus_to s.head next) c.scan-scan.ensures in
+    let at : mcus_to h next ≡ c.args.row * mcus_across h = omega (arith, c.skip_mcus.ensures.moved, before, after, to, within, whole) in
     record {
-      stands = subst (λ (s : ScanValue). IsCursorOf s next) c.scan-scan.ensures c.skip_mcus.ensures.stands;
+      lies = subst (λ (s : ScanValue). IsCursorOf s next) c.scan-scan.ensures c.skip_mcus.ensures.lies;
       at = at ∙ sym (all_before h c.args.row some c.requires.row) ∙ ap (λ (n : ℕ). coded_before h n c.args.row) (sym (c.requires.all ∙ count));
     }

@@ -1,6 +1,6 @@
 use Rattle.std.proofs.Common.{◌≡◌, ◌+◌, ◌-◌, ◌≤◌, length}
 use Rattle.jr_rows.specs.Cursors.{IsCursorOf, mcus_to}
-use Rattle.jr_rows.specs.MarkBytes.{HasMarkRoom, PutsMcus}
+use Rattle.jr_rows.specs.MarkBytes.{HasMarkSpace, StoresMcus}
 use Rattle.jr_rows.specs.Groups.{units_in}
 use Rattle.jr_rows.specs.RowLines.{HasLines}
 use Rattle.jr_rows.specs.Rows.{CountsMcus, ShowsFirstUnits}
@@ -13,14 +13,14 @@ invariant-parts l =
     let from = mcus_to t.head l.initial.self.cursor in record {
       within : l.done ≤ l.coded;
       near : length l.blocks ≡ length l.initial.blocks;
-      room : HasLines t.head l.lines;
+      space : HasLines t.head l.lines;
       row : l.self.row ≡ l.initial.self.row;
-      stands : IsCursorOf t l.self.cursor;
+      lies : IsCursorOf t l.self.cursor;
       moved : mcus_to t.head l.self.cursor ≡ from + l.done;
       shows : ShowsFirstUnits t n from l.done (units_in t.head l.lines.groups);
       counts : CountsMcus t n from (mcus_to t.head l.self.cursor) l.marked;
-      places : HasMarkRoom t l.marks;
-      puts : PutsMcus t n from (mcus_to t.head l.self.cursor) l.initial.marks l.marks;
+      places : HasMarkSpace t l.marks;
+      stores : StoresMcus t n from (mcus_to t.head l.self.cursor) l.initial.marks l.marks;
     }
 
 abbrev pub decreases-parts : goal.decreases-parts

@@ -23,7 +23,7 @@ returns-clause-rows c =
     let there = row_there h c.args.row c.args.intervals some c.requires.row c.requires.whole in
     let number : c.min-number.result ≡ min (c.args.row * c.args.intervals) c.args.part.now.limit = search rules in
     record {
-      stands = starts t c.min-number.result c.at_start.result (omega (arith, number, there, count)) c.at_start.ensures;
+      lies = starts t c.min-number.result c.at_start.result (omega (arith, number, there, count)) c.at_start.ensures;
       at = start_to h (min (c.args.row * c.args.intervals) c.args.part.now.limit) c.at_start.result (c.at_start.ensures ∙ ap interval_start number)
           ∙ row_at h c.args.row c.args.intervals some c.requires.row c.requires.whole c.args.part.now.limit (omega (arith, few, count));
     }

@@ -9,6 +9,6 @@ returns-clause-rows c =
     let some : 0 < length t.intervals = search (arith, c.scan.ensures, c.intervals-some.ensures.value, c.intervals-some.ensures.some) in
     let none : 0 ≡ coded_before t.head c.args.part.now.limit 0 = omega arith in
     record {
-      stands = starts t 0 c.at_start.result some c.at_start.ensures;
+      lies = starts t 0 c.at_start.result some c.at_start.ensures;
       at = omega (arith, start_to t.head 0 c.at_start.result c.at_start.ensures, none);
     }

@@ -23,14 +23,14 @@ returns-clause-read c b first k lt =
     let across : c.shape_of.result.across ≡ mcus_across h = c.shape_of.ensures.across ∙ ap (λ (x : HeadValue). mcus_across x) head in
     let per_is : length c.order.result.now ≡ per = c.order.ensures.count ∙ ap (λ (x : HeadValue). blocks_of x) head in
     let whole = ap (λ (n : ℕ). n * length c.order.result.now) across ∙ ap (λ (n : ℕ). mcus_across h * n) per_is in
-    let inside : c.units_to-end.result ≤ length c.args.blocks.now = omega (arith, c.units_to-end.ensures.within, whole, c.requires.room) in
+    let inside : c.units_to-end.result ≤ length c.args.blocks.now = omega (arith, c.units_to-end.ensures.within, whole, c.requires.space) in
     let end : c.units_to-end.result ≡ c.coded_of_row-coded.result * per = c.units_to-end.ensures.value ∙ ap (λ (n : ℕ). c.coded_of_row-coded.result * n) per_is in
     let long : length new ≡ c.coded_of_row-coded.result * per = c.read_mcus-marked.auto.blocks ∙ length-take-le c.units_to-end.result c.args.blocks.now inside ∙ end in
     let block : slice_index_or (new ++ drop c.units_to-end.result c.args.blocks.now) k [] ≡ slice_index_or new k [] = get_or_append_left new (drop c.units_to-end.result c.args.blocks.now) [] k (omega (arith, lt, long, times)) in
-    ap (λ z. samples z (quantiser_of h (component h k))) block ∙ c.read_mcus-marked.ensures.gives b first k (omega (arith, lt, times)) ∙ ap (λ (m : ℕ). unit_shown b (m + k / per) (k % per)) c.requires.rows.at
+    ap (λ z. samples z (quantiser_of h (component h k))) block ∙ c.read_mcus-marked.ensures.returned b first k (omega (arith, lt, times)) ∙ ap (λ (m : ℕ). unit_shown b (m + k / per) (k % per)) c.requires.rows.at
 
-pub read_mcus-marked-requires-clause-stands : goal.read_mcus-marked-requires-clause-stands
-read_mcus-marked-requires-clause-stands c = c.requires.rows.stands
+pub read_mcus-marked-requires-clause-lies : goal.read_mcus-marked-requires-clause-lies
+read_mcus-marked-requires-clause-lies c = c.requires.rows.lies
 
 pub read_mcus-marked-requires-clause-same : goal.read_mcus-marked-requires-clause-same
 read_mcus-marked-requires-clause-same c = c.requires.same
@@ -43,7 +43,7 @@ returns-clause-rows c =
     let coded = c.coded_of_row-coded.result in
     let here = subst (λ (s : ScanValue). coded_before s.head c.limit.result row + coded ≡ coded_before s.head c.limit.result (row + 1)) c.scan-2.ensures c.coded_of_row-coded.ensures.moved in
     let rest = subst (λ (k : ℕ). coded_before h k row + coded ≡ coded_before h k (row + 1)) c.limit.ensures.value here in
-    record { stands = c.read_mcus-marked.ensures.stands; at = omega (arith, c.read_mcus-marked.ensures.moved, c.requires.rows.at, rest) }
+    record { lies = c.read_mcus-marked.ensures.lies; at = omega (arith, c.read_mcus-marked.ensures.moved, c.requires.rows.at, rest) }
 
 pub returns-clause-counts : goal.returns-clause-counts
 returns-clause-counts c =
@@ -79,7 +79,7 @@ slice_bounds-read_mcus-end c =
     let across = c.shape_of.ensures.across ∙ ap (λ (x : HeadValue). mcus_across x) head in
     let per_is = c.order.ensures.count ∙ ap (λ (x : HeadValue). blocks_of x) head in
     let whole = ap (λ (n : ℕ). n * length c.order.result.now) across ∙ ap (λ (n : ℕ). mcus_across h * n) per_is in
-    omega (arith, c.units_to-end.ensures.within, whole, c.requires.room)
+    omega (arith, c.units_to-end.ensures.within, whole, c.requires.space)
 
 pub read_mcus-marked-requires-clause-few : goal.read_mcus-marked-requires-clause-few
 read_mcus-marked-requires-clause-few c =
@@ -90,12 +90,12 @@ read_mcus-marked-requires-clause-few c =
     let inside = subst (λ (k : ℕ). coded_before h k row + coded ≤ mcus_before h k) c.limit.ensures.value near in
     subst (λ (n : ℕ). n + coded ≤ mcus_before h c.args.part.now.limit) (sym c.requires.rows.at) inside
 
-pub read_mcus-marked-requires-clause-room : goal.read_mcus-marked-requires-clause-room
-read_mcus-marked-requires-clause-room c =
+pub read_mcus-marked-requires-clause-space : goal.read_mcus-marked-requires-clause-space
+read_mcus-marked-requires-clause-space c =
     let h = c.args.part.now.scan.head in
     let head = c.head-head.ensures.value ∙ ap (λ (s : ScanValue). s.head) c.scan.ensures in
     let across = c.shape_of.ensures.across ∙ ap (λ (x : HeadValue). mcus_across x) head in
     let per_is = c.order.ensures.count ∙ ap (λ (x : HeadValue). blocks_of x) head in
     let whole = ap (λ (n : ℕ). n * length c.order.result.now) across ∙ ap (λ (n : ℕ). mcus_across h * n) per_is in
-    let inside : c.units_to-end.result ≤ length c.args.blocks.now = omega (arith, c.units_to-end.ensures.within, whole, c.requires.room) in
+    let inside : c.units_to-end.result ≤ length c.args.blocks.now = omega (arith, c.units_to-end.ensures.within, whole, c.requires.space) in
     length-take-le c.units_to-end.result c.args.blocks.now inside ∙ c.units_to-end.ensures.value ∙ ap (λ (n : ℕ). c.coded_of_row-coded.result * n) per_is

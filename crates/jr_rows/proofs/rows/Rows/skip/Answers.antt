@@ -15,8 +15,8 @@ skip_mcus-requires-clause-few c =
     let few = first_few h c.args.part.now.limit some in
     search (rules, arith, few, c.requires.rows.at)
 
-pub skip_mcus-requires-clause-stands : goal.skip_mcus-requires-clause-stands
-skip_mcus-requires-clause-stands c = subst (λ (s : ScanValue). IsCursorOf s c.args.self.now.cursor) (sym c.scan-scan.ensures) c.requires.rows.stands
+pub skip_mcus-requires-clause-lies : goal.skip_mcus-requires-clause-lies
+skip_mcus-requires-clause-lies c = subst (λ (s : ScanValue). IsCursorOf s c.args.self.now.cursor) (sym c.scan-scan.ensures) c.requires.rows.lies
 
 pub skip_mcus-requires-clause-same : goal.skip_mcus-requires-clause-same
 skip_mcus-requires-clause-same c = subst (λ (s : ScanValue). IfSome c.args.guesses (λ g. AreGuessesIn s g.now)) (sym c.scan-scan.ensures) c.requires.same
@@ -32,8 +32,8 @@ returns-clause-rows c =
     let here = subst (λ (s : ScanValue). coded_before s.head c.limit.result row + coded ≡ coded_before s.head c.limit.result (row + 1)) c.scan-scan.ensures c.coded_of_row-coded.ensures.moved in
     let rest = subst (λ (k : ℕ). coded_before h k row + coded ≡ coded_before h k (row + 1)) c.limit.ensures.value here in
     let before = ap (λ (s : ScanValue). mcus_to s.head at) c.scan-scan.ensures in
-    let behind = ap (λ (s : ScanValue). mcus_to s.head next) c.scan-scan.ensures in
+    let after = ap (λ (s : ScanValue). mcus_to s.head next) c.scan-scan.ensures in
     record {
-      stands = subst (λ (s : ScanValue). IsCursorOf s next) c.scan-scan.ensures c.skip_mcus.ensures.stands;
-      at = omega (arith, c.skip_mcus.ensures.moved, before, behind, c.requires.rows.at, rest);
+      lies = subst (λ (s : ScanValue). IsCursorOf s next) c.scan-scan.ensures c.skip_mcus.ensures.lies;
+      at = omega (arith, c.skip_mcus.ensures.moved, before, after, c.requires.rows.at, rest);
     }

@@ -1,29 +1,29 @@
 use Rattle.std.proofs.Common.{sym, subst, ap, ◌∙◌, ◌≡◌, ℕ, List, length, le_of_eq}
-use Rattle.jr_rows.specs.Rows.{HasSampleRoom, PaintsRowLines}
+use Rattle.jr_rows.specs.Rows.{HasSampleSpace, PaintsRowLines}
 use Rattle.jr_rows.specs.RowsValue.{SampleRowValue}
 use Rattle.jr_rows.proofs.Lent.{all_back}
 use Rattle.jr_rows.proofs.sample_row.SampleRow.paint_row.Goals as goal
 
 pub paint_row-requires-clause-lines : goal.paint_row-requires-clause-lines
 paint_row-requires-clause-lines c =
-    let had = subst (HasSampleRoom c.args.head.now) (sym c.self.view_is) c.requires.room in
-    le_of_eq (sym (ap (λ (l : List ℕ). length l) c.deref_mut.ensures.value ∙ had.room))
+    let had = subst (HasSampleSpace c.args.head.now) (sym c.self.view_is) c.requires.space in
+    le_of_eq (sym (ap (λ (l : List ℕ). length l) c.deref_mut.ensures.value ∙ had.space))
 
-pub paint_row-requires-clause-room : goal.paint_row-requires-clause-room
-paint_row-requires-clause-room c =
-    let had = subst (HasSampleRoom c.args.head.now) (sym c.self.view_is) c.requires.room in
+pub paint_row-requires-clause-space : goal.paint_row-requires-clause-space
+paint_row-requires-clause-space c =
+    let had = subst (HasSampleSpace c.args.head.now) (sym c.self.view_is) c.requires.space in
     had.lines
 
-pub returns-clause-room : goal.returns-clause-room
-returns-clause-room c =
-    let had = subst (HasSampleRoom c.args.head.now) (sym c.self.view_is) c.requires.room in
-    let held = c.self.inside.room in
-    let room = c.paint_row.new.room in
-    let same : length room ≡ length held.items = c.paint_row.auto.room ∙ ap (λ (l : List ℕ). length l) c.deref_mut.ensures.value in
+pub returns-clause-space : goal.returns-clause-space
+returns-clause-space c =
+    let had = subst (HasSampleSpace c.args.head.now) (sym c.self.view_is) c.requires.space in
+    let held = c.self.inside.space in
+    let space = c.paint_row.new.space in
+    let same : length space ≡ length held.items = c.paint_row.auto.space ∙ ap (λ (l : List ℕ). length l) c.deref_mut.ensures.value in
     record {
       blocks = had.blocks;
       lines = had.lines;
-      room = ap length (all_back held.len room held.items (held.ok.0 ∙ sym same)) ∙ same ∙ had.room;
+      space = ap length (all_back held.len space held.items (held.ok.0 ∙ sym same)) ∙ same ∙ had.space;
     }
 
 pub paint_row-requires-clause-row : goal.paint_row-requires-clause-row

@@ -1,8 +1,8 @@
 use Rattle.std.proofs.Common.{sym, subst, ap, ◌∙◌, ◌≡◌, ℕ, ◌+◌, ◌*◌, ◌≤◌, List, length, le_of_eq}
-use Rattle.jr_paint.specs.Lines.{line_room, line_size, next_lines_of}
+use Rattle.jr_paint.specs.Lines.{line_space, line_size, next_lines_of}
 use Rattle.jr_rows.specs.BandValue.{BandValue}
 use Rattle.jr_rows.specs.Bands.{samples_in}
-use Rattle.jr_rows.specs.Rows.{HasSampleRoom}
+use Rattle.jr_rows.specs.Rows.{HasSampleSpace}
 use Rattle.jr_rows.specs.RowsValue.{SampleRowValue}
 use Rattle.jr_rows.proofs.Lent.{all_back}
 use Rattle.jr_rows.proofs.sample_row.SampleRow.paint_some.Goals as goal
@@ -10,25 +10,25 @@ use Rattle.jr_rows.proofs.sample_row.SampleRow.paint_some.Goals as goal
 pub paint_lines-requires-clause-down : goal.paint_lines-requires-clause-down
 paint_lines-requires-clause-down c = subst (λ (v : BandValue). c.args.y + c.args.count ≤ v.head.height) (sym c.of-band.ensures.value) c.requires.inside
 
-pub paint_lines-requires-clause-room : goal.paint_lines-requires-clause-room
-paint_lines-requires-clause-room c =
-    let had = subst (HasSampleRoom c.args.head.now) (sym c.self.view_is) c.requires.room in
-    let long : length c.deref_mut.result.now ≡ line_room c.args.head.now = ap (λ (l : List ℕ). length l) c.deref_mut.ensures.value ∙ had.room in
-    subst (λ (v : BandValue). line_room v.head ≤ length c.deref_mut.result.now) (sym c.of-band.ensures.value) (le_of_eq (sym long))
+pub paint_lines-requires-clause-space : goal.paint_lines-requires-clause-space
+paint_lines-requires-clause-space c =
+    let had = subst (HasSampleSpace c.args.head.now) (sym c.self.view_is) c.requires.space in
+    let long : length c.deref_mut.result.now ≡ line_space c.args.head.now = ap (λ (l : List ℕ). length l) c.deref_mut.ensures.value ∙ had.space in
+    subst (λ (v : BandValue). line_space v.head ≤ length c.deref_mut.result.now) (sym c.of-band.ensures.value) (le_of_eq (sym long))
 
 pub paint_lines-requires-clause-pixels : goal.paint_lines-requires-clause-pixels
 paint_lines-requires-clause-pixels c = subst (λ (v : BandValue). length c.args.pixels.now ≡ c.args.count * line_size v.head) (sym c.of-band.ensures.value) c.requires.pixels
 
-pub returns-clause-room : goal.returns-clause-room
-returns-clause-room c =
-    let had = subst (HasSampleRoom c.args.head.now) (sym c.self.view_is) c.requires.room in
-    let held = c.self.inside.room in
-    let room = c.paint_lines.new.room in
-    let same : length room ≡ length held.items = c.paint_lines.auto.room ∙ ap (λ (l : List ℕ). length l) c.deref_mut.ensures.value in
+pub returns-clause-space : goal.returns-clause-space
+returns-clause-space c =
+    let had = subst (HasSampleSpace c.args.head.now) (sym c.self.view_is) c.requires.space in
+    let held = c.self.inside.space in
+    let space = c.paint_lines.new.space in
+    let same : length space ≡ length held.items = c.paint_lines.auto.space ∙ ap (λ (l : List ℕ). length l) c.deref_mut.ensures.value in
     record {
       blocks = had.blocks;
       lines = had.lines;
-      room = ap length (all_back held.len room held.items (held.ok.0 ∙ sym same)) ∙ same ∙ had.room;
+      space = ap length (all_back held.len space held.items (held.ok.0 ∙ sym same)) ∙ same ∙ had.space;
     }
 
 pub returns-clause-kept : goal.returns-clause-kept

@@ -4,7 +4,7 @@ use Rattle.jr_head.specs.HeadValue.{HeadValue}
 use Rattle.jr_head.specs.Geometry.{mcus_down}
 use Rattle.jr_paint.specs.Lines.{line_size}
 use Rattle.jr_scan.specs.ScanValue.{ScanValue}
-use Rattle.jr_rows.specs.Rows.{CountsRow, HasSampleRoom, PaintsRowLines, ShowsLines, line_count}
+use Rattle.jr_rows.specs.Rows.{CountsRow, HasSampleSpace, PaintsRowLines, ShowsLines, line_count}
 use Rattle.jr_rows.specs.RowsValue.{RowsValue}
 use Rattle.jr_rows.proofs.Lent.{all_back, front_kept, part_back}
 use Rattle.jr_rows.proofs.PaintedRows.{shows}
@@ -31,7 +31,7 @@ returns-clause-lines g c b first =
     let ys = c.paint_row.new.pixels in
     let mid = put_mid from (to - from) xs ys in
     let same : length xs ≡ length c.args.pixels.now.items = ap (λ (l : List ℕ). length l) c.deref_mut.ensures.value in
-    let inside = part_within from to _ _ (length xs) c.requires.room c.requires.within same in
+    let inside = part_within from to _ _ (length xs) c.requires.space c.requires.within same in
     let long : length ys ≡ to - from = c.paint_row.auto.pixels ∙ mid_len from to xs (all_within to _ (length xs) c.requires.within same) in
     let len : c.args.pixels.now.len ≡ length mid = c.args.pixels.now.ok.0 ∙ sym (same_len_mid from (to - from) xs ys c.paint_row.auto.pixels ∙ same) in
     let t = c.self.inside.part.scan in
@@ -64,7 +64,7 @@ returns-clause-kept g c =
     let mid = put_mid from size xs ys in
     let same : length xs ≡ length c.args.pixels.now.items = ap (λ (l : List ℕ). length l) c.deref_mut.ensures.value in
     let len : c.args.pixels.now.len ≡ length mid = c.args.pixels.now.ok.0 ∙ sym (same_len_mid from size xs ys c.paint_row.auto.pixels ∙ same) in
-    let inside = part_within from c.args.to _ _ (length xs) c.requires.room c.requires.within same in
+    let inside = part_within from c.args.to _ _ (length xs) c.requires.space c.requires.within same in
     ap (λ (l : List ℕ). take from l) (all_back c.args.pixels.now.len mid c.args.pixels.now.items len) ∙ front_kept from size xs ys inside ∙ ap (λ (l : List ℕ). take from l) c.deref_mut.ensures.value
 
 pub announce-requires : goal.announce-requires
@@ -80,8 +80,8 @@ decode-marked-requires-clause-rows g c = c.self.invariant.0
 pub decode-marked-requires-clause-row : goal.decode-marked-requires-clause-row
 decode-marked-requires-clause-row g c = subst (λ (r : RowsValue). r.row < mcus_down r.scan.head) (sym c.self.view_is) c.requires.row
 
-pub decode-marked-requires-clause-room : goal.decode-marked-requires-clause-room
-decode-marked-requires-clause-room g c = c.self.invariant.1
+pub decode-marked-requires-clause-space : goal.decode-marked-requires-clause-space
+decode-marked-requires-clause-space g c = c.self.invariant.1
 
 pub slice_bounds-paint_row-end : goal.slice_bounds-paint_row-end
 slice_bounds-paint_row-end g c = all_within c.args.to _ _ c.requires.within (ap (λ (l : List ℕ). length l) c.deref_mut.ensures.value)
@@ -94,10 +94,10 @@ paint_row-requires-clause-row g c =
     let there = subst (λ (h : HeadValue). row < mcus_down h) (sym head) below in
     subst (λ (n : ℕ). n < mcus_down c.head-head.result.now) (sym c.row-row.ensures) there
 
-pub paint_row-requires-clause-room : goal.paint_row-requires-clause-room
-paint_row-requires-clause-room g c =
+pub paint_row-requires-clause-space : goal.paint_row-requires-clause-space
+paint_row-requires-clause-space g c =
     let head = c.head-head.ensures.value ∙ ap (λ (s : ScanValue). s.head) c.scan-2.ensures in
-    subst (λ (h : HeadValue). HasSampleRoom h c.decode-marked.new.work) (sym head) c.decode-marked.ensures.room
+    subst (λ (h : HeadValue). HasSampleSpace h c.decode-marked.new.work) (sym head) c.decode-marked.ensures.space
 
 pub paint_row-requires-clause-pixels : goal.paint_row-requires-clause-pixels
 paint_row-requires-clause-pixels g c =
@@ -105,15 +105,15 @@ paint_row-requires-clause-pixels g c =
     let row = c.self.inside.rows.row in
     let xs = c.deref_mut.result.now in
     let head = c.head-head.ensures.value ∙ ap (λ (s : ScanValue). s.head) c.scan-2.ensures in
-    let room = subst (λ (r : RowsValue). c.args.to ≡ c.args.from + line_count r.scan.head r.row * line_size r.scan.head) (sym c.self.view_is) c.requires.room in
+    let space = subst (λ (r : RowsValue). c.args.to ≡ c.args.from + line_count r.scan.head r.row * line_size r.scan.head) (sym c.self.view_is) c.requires.space in
     let within = all_within c.args.to _ (length xs) c.requires.within (ap (λ (l : List ℕ). length l) c.deref_mut.ensures.value) in
-    mid_len c.args.from c.args.to xs within ∙ size_is c.args.from c.args.to _ room ∙ ap (λ (h : HeadValue). line_count h row * line_size h) (sym head)
+    mid_len c.args.from c.args.to xs within ∙ size_is c.args.from c.args.to _ space ∙ ap (λ (h : HeadValue). line_count h row * line_size h) (sym head)
     ∙ ap (λ (n : ℕ). line_count c.head-head.result.now n * line_size c.head-head.result.now) (sym c.row-row.ensures)
 
 pub invariant_of-self : goal.invariant_of-self
 invariant_of-self g c =
     let head = c.head-head.ensures.value ∙ ap (λ (s : ScanValue). s.head) c.scan-2.ensures in
-    (c.decode-marked.ensures.rows, subst (λ (h : HeadValue). HasSampleRoom h c.paint_row.new.self) head c.paint_row.ensures.room)
+    (c.decode-marked.ensures.rows, subst (λ (h : HeadValue). HasSampleSpace h c.paint_row.new.self) head c.paint_row.ensures.space)
 
 pub returns-clause-moved : goal.returns-clause-moved
 returns-clause-moved g c =

@@ -3,7 +3,7 @@ use Rattle.std.specs.Prelude.{ℤ}
 use Rattle.std.proofs.Math.Nat.{mul-le-mul_right}
 use Rattle.std.proofs.lemmas.Nat.{mul-le}
 use Rattle.jr_head.specs.HeadValue.{HeadValue}
-use Rattle.jr_head.specs.Geometry.{IsLawful, order_of}
+use Rattle.jr_head.specs.Geometry.{IsValid, order_of}
 use Rattle.jr_scan.specs.Guesses.{AreGuessesOf}
 use Rattle.jr_scan.specs.McuReader.{HasEnded, HasRead, McuReaderValue, per_mcu}
 use Rattle.jr_scan.specs.Run.{RunOf}
@@ -22,15 +22,15 @@ per_is c = ap (λ (o : RunOf). length (order_of o.interval.head)) c.at-reader.en
 len_is : (c : Taken) → length c.order-per_mcu.result.now ≡ length (order_of c.args.interval.head)
 len_is c = search rules
 
-lawful : (c : Taken) → IsLawful c.args.interval.head
-lawful c = subst IsLawful c.head.ensures.value c.head.ensures.lawful
+valid : (c : Taken) → IsValid c.args.interval.head
+valid c = subst IsValid c.head.ensures.value c.head.ensures.valid
 
 -- the blocks of a further MCU have space if fewer are taken than there is space for
 one_more : (n mcus per own long : ℕ) → n < mcus → per ≡ own → long ≡ mcus * own → (n + 1) * per ≤ long
-one_more n mcus per own long lt e room =
+one_more n mcus per own long lt e space =
     let more : (n + 1) * own ≤ mcus * own = mul-le-mul_right {m = n + 1} {n = mcus} own (omega (arith, lt)) in
     let same = ap (λ (k : ℕ). (n + 1) * k) e in
-    omega (arith, more, room, same)
+    omega (arith, more, space, same)
 
 most_of : (r r' : McuReaderValue) (o : RunOf) (n : ℕ) → r.run ≡ o → r.mcu ≡ 0 → r'.run ≡ r.run → r'.mcu ≡ r.mcu + n → r'.mcu ≤ r'.run.mcus → n ≤ o.mcus
 most_of r r' o n run start on mcu few = let same = ap (λ (q : RunOf). q.mcus) (on ∙ run) in omega (arith, start, mcu, few, same)
@@ -54,14 +54,14 @@ done c =
             mcu = e.mcus;
             few = most_of r w.read_by-whole.new.self _ w.read_by-whole.result c.at-reader.ensures.run c.at-reader.ensures.mcu e.run e.mcus e.few;
             read = e.read [] c.at-reader.ensures.read;
-            ended = λ lt. e.ended (one_more w.read_by-whole.result c.args.mcus (per_mcu r) _ (length w.read_by-whole.new.blocks) lt (per_is c) (w.read_by-whole.auto.blocks ∙ c.requires.room));
+            ended = λ lt. e.ended (one_more w.read_by-whole.result c.args.mcus (per_mcu r) _ (length w.read_by-whole.new.blocks) lt (per_is c) (w.read_by-whole.auto.blocks ∙ c.requires.space));
           } in
           subst (λ (x : McuReaderValue). Done r x c.match-guesses.whole c.args.mcus c.match-guesses.blocks) (sym w.reader-is)
           (subst (λ (k : ℕ). Done r w.read_by-whole.new.self k c.args.mcus c.match-guesses.blocks) (sym w.whole-is)
           (subst (λ (l : List (List ℤ)). Done r w.read_by-whole.new.self w.read_by-whole.result c.args.mcus l) (sym w.blocks-is) here))
       | in-None w ↦
           let e = w.take_mcus-whole.ensures in
-          let law : IsLawful r.run.interval.head = subst (λ (o : RunOf). IsLawful o.interval.head) (sym c.at-reader.ensures.run) (lawful c) in
+          let law : IsValid r.run.interval.head = subst (λ (o : RunOf). IsValid o.interval.head) (sym c.at-reader.ensures.run) (valid c) in
           let here : Done r w.take_mcus-whole.new.self w.take_mcus-whole.result c.args.mcus w.take_mcus-whole.new.blocks = record {
             run = e.run;
             mcu = e.mcus;
@@ -85,7 +85,7 @@ whole_at : (c : Taken) → IsPlaceAfter c.args.interval (c.args.self.now.mcu + c
 whole_at c =
     let next = c.requires.at.next c.in-Some.from c.in-Some.is in
     let e = c.place_after-self.ensures in
-    after c.args.interval (lawful c) c.args.self.now.mcu c.args.mcus c.match-guesses.whole c.in-Some.from next.0 next.1 c.requires.few (done c).few (blocks c) c.at-reader.result c.match-guesses.reader (on c)
+    after c.args.interval (valid c) c.args.self.now.mcu c.args.mcus c.match-guesses.whole c.in-Some.from next.0 next.1 c.requires.few (done c).few (blocks c) c.at-reader.result c.match-guesses.reader (on c)
     c.place_after-self.result e.place e.can e.none
 
 stuck : (c : Taken) → c.match-guesses.whole < c.args.mcus → c.args.self.now.mcu + c.match-guesses.whole < c.args.interval.mcus → c.place_after-self.result ≡ None
@@ -105,14 +105,14 @@ returns-clause-blocks c = λ front zs longest.
     let us = c.zero_from-2.new.blocks in
     let per = length (order_of c.args.interval.head) in
     let first : n * length c.order-per_mcu.result.now ≡ n * per = ap (λ (k : ℕ). n * k) (len_is c) in
-    let long : length us ≡ c.args.mcus * per = c.zero_from-2.auto.blocks ∙ c.match-guesses.auto.blocks ∙ c.requires.room in
+    let long : length us ≡ c.args.mcus * per = c.zero_from-2.auto.blocks ∙ c.match-guesses.auto.blocks ∙ c.requires.space in
     let next = c.requires.at.next c.in-Some.from c.in-Some.is in
     let q = c.place_after-self.ensures in
     reads c.args.interval c.args.self.now.mcu c.args.mcus n (c.args.self.now.mcu + n) c.place_after-self.result refl (whole_at c) c.requires.few (done c).few (stuck c)
     c.args.self.now.place new us (λ none. let z = sym none ∙ c.in-Some.is in absurd cc) long
     (λ p there.
     let same : c.in-Some.from ≡ p = let two = sym c.in-Some.is ∙ there in cc in
-    let took = takes c.args.interval (lawful c) c.args.self.now.mcu c.args.mcus n c.in-Some.from next.0 next.1 c.requires.few (done c).few (blocks c) c.at-reader.result c.match-guesses.reader (on c)
+    let took = takes c.args.interval (valid c) c.args.self.now.mcu c.args.mcus n c.in-Some.from next.0 next.1 c.requires.few (done c).few (blocks c) c.at-reader.result c.match-guesses.reader (on c)
     c.place_after-self.result q.place q.can q.none c.args.mcus (omega (arith, c.requires.few)) in
     (blocks c, subst (λ x. TakesMcus c.args.interval c.args.self.now.mcu x c.args.mcus n (blocks c) c.place_after-self.result) same took, λ t. ap (λ (k : ℕ). take (n * k) new) (sym (per_is c))))
     (λ k lt. c.zero_from-2.ensures.kept k (omega (arith, lt, first))) (λ k ge lt. c.zero_from-2.ensures.zeros k (omega (arith, ge, first)) lt) front zs longest
@@ -129,7 +129,7 @@ returns-in_default-clause-blocks c = λ front zs longest.
     let none = c.in_default.is in
     let us = c.zero_from.new.blocks in
     reads c.args.interval c.args.self.now.mcu c.args.mcus 0 c.args.self.now.mcu c.args.self.now.place (omega arith) c.requires.at c.requires.few (omega arith) (λ lt more. none)
-    c.args.self.now.place us us (λ n. refl) (c.zero_from.auto.blocks ∙ c.requires.room) (λ p there. let z = sym none ∙ there in absurd cc)
+    c.args.self.now.place us us (λ n. refl) (c.zero_from.auto.blocks ∙ c.requires.space) (λ p there. let z = sym none ∙ there in absurd cc)
     (λ k lt. refl) (λ k ge lt. c.zero_from.ensures.zeros k (omega arith) lt) front zs longest
 
 pub at-reader-requires-clause-within : goal.at-reader-requires-clause-within
@@ -152,10 +152,10 @@ read_by-whole-requires c =
 pub take_mcus-whole-requires-clause-few : goal.take_mcus-whole-requires-clause-few
 take_mcus-whole-requires-clause-few c = omega (arith, c.at-reader.ensures.mcu, ap (λ (o : RunOf). o.mcus) c.at-reader.ensures.run)
 
-pub take_mcus-whole-requires-clause-room : goal.take_mcus-whole-requires-clause-room
-take_mcus-whole-requires-clause-room c t =
+pub take_mcus-whole-requires-clause-space : goal.take_mcus-whole-requires-clause-space
+take_mcus-whole-requires-clause-space c t =
     let per = ap (λ (o : RunOf). length (order_of o.interval.head)) c.at-reader.ensures.run in
-    fits c.args.mcus c.args.mcus _ _ _ (le_refl _) per c.requires.room
+    fits c.args.mcus c.args.mcus _ _ _ (le_refl _) per c.requires.space
 
 pub overflow_mul-whole : goal.overflow_mul-whole
 overflow_mul-whole c =
@@ -171,4 +171,4 @@ zero_from-requires-2 c =
           subst (λ (k : ℕ). k ≤ c.args.mcus) (sym w.whole-is) (most_of c.at-reader.result w.read_by-whole.new.self _ w.read_by-whole.result c.at-reader.ensures.run c.at-reader.ensures.mcu e.run e.mcus e.few)
       | in-None w ↦ subst (λ (k : ℕ). k ≤ c.args.mcus) (sym w.whole-is) w.take_mcus-whole.ensures.most
     ] in
-    fits c.match-guesses.whole c.args.mcus _ _ _ few per (c.match-guesses.auto.blocks ∙ c.requires.room)
+    fits c.match-guesses.whole c.args.mcus _ _ _ few per (c.match-guesses.auto.blocks ∙ c.requires.space)

@@ -1,6 +1,6 @@
 use Rattle.std.proofs.Common.{◌≡◌, ℕ, ◌+◌, ◌-◌, ◌*◌, ◌≤◌, min, length, take, sym, ap, subst, ◌∙◌, arith}
 use Rattle.std.proofs.Math.Nat.{mul-le-mul_right}
-use Rattle.jr_head.specs.Geometry.{IsLawful, order_of}
+use Rattle.jr_head.specs.Geometry.{IsValid, order_of}
 use Rattle.jr_scan.specs.declared.place.Place.{Place}
 use Rattle.jr_scan.specs.McuReader.{per_mcu}
 use Rattle.jr_scan.specs.Run.{RunOf}
@@ -11,8 +11,8 @@ use Rattle.jr_scan.proofs.cursor.Cursor.take.Goals as goal
 abbrev Taken : Type 0
 Taken = goal.After-self-2-1
 
-lawful : (c : Taken) → IsLawful c.args.interval.head
-lawful c = subst IsLawful c.head-lawful.ensures.value c.head-lawful.ensures.lawful
+valid : (c : Taken) → IsValid c.args.interval.head
+valid c = subst IsValid c.head-valid.ensures.value c.head-valid.ensures.valid
 
 asked : (c : Taken) → c.min-mcus.result ≡ min c.args.most (c.args.interval.mcus - c.args.self.now.mcu)
 asked c = c.min-mcus.ensures ∙ ap (λ (k : ℕ). min c.args.most (k - c.args.self.now.mcu)) c.mcus.ensures
@@ -29,7 +29,7 @@ pub returns-clause-at : goal.returns-clause-at
 returns-clause-at c =
     let next = c.requires.at.next c.in-Some.from c.in-Some.is in
     let e = c.place_after-self.ensures in
-    after c.args.interval (lawful c) c.args.self.now.mcu c.min-mcus.result c.take_all-whole.result c.in-Some.from next.0 next.1 (few c) c.take_all-whole.ensures.few c.take_all-whole.ensures.taken.0
+    after c.args.interval (valid c) c.args.self.now.mcu c.min-mcus.result c.take_all-whole.result c.in-Some.from next.0 next.1 (few c) c.take_all-whole.ensures.few c.take_all-whole.ensures.taken.0
     c.at-reader.result c.take_all-whole.new.reader (on c) c.place_after-self.result e.place e.can e.none
 
 pub returns-clause-stuck : goal.returns-clause-stuck
@@ -43,7 +43,7 @@ returns-clause-some c = λ from is.
     let same : c.in-Some.from ≡ from = let two = sym c.in-Some.is ∙ is in cc in
     let next = c.requires.at.next c.in-Some.from c.in-Some.is in
     let e = c.place_after-self.ensures in
-    let took = takes c.args.interval (lawful c) c.args.self.now.mcu c.min-mcus.result c.take_all-whole.result c.in-Some.from next.0 next.1 (few c) c.take_all-whole.ensures.few c.take_all-whole.ensures.taken.0
+    let took = takes c.args.interval (valid c) c.args.self.now.mcu c.min-mcus.result c.take_all-whole.result c.in-Some.from next.0 next.1 (few c) c.take_all-whole.ensures.few c.take_all-whole.ensures.taken.0
     c.at-reader.result c.take_all-whole.new.reader (on c) c.place_after-self.result e.place e.can e.none c.args.most (asked c) in
     let per : per_mcu c.at-reader.result ≡ length (order_of c.args.interval.head) = ap (λ (o : RunOf). length (order_of o.interval.head)) c.at-reader.ensures.run in (
       c.take_all-whole.ensures.taken.0,
@@ -57,12 +57,12 @@ at-reader-requires-clause-within c = (c.requires.at.next c.in-Some.from c.in-Som
 pub at-reader-requires-clause-in_range : goal.at-reader-requires-clause-in_range
 at-reader-requires-clause-in_range c = (c.requires.at.next c.in-Some.from c.in-Some.is).1.can.1
 
-pub take_all-whole-requires-clause-room : goal.take_all-whole-requires-clause-room
-take_all-whole-requires-clause-room c = λ t.
+pub take_all-whole-requires-clause-space : goal.take_all-whole-requires-clause-space
+take_all-whole-requires-clause-space c = λ t.
     let per : per_mcu c.at-reader.result ≡ length (order_of c.args.interval.head) = ap (λ (o : RunOf). length (order_of o.interval.head)) c.at-reader.ensures.run in
     let fits : c.min-mcus.result * length (order_of c.args.interval.head) ≤ c.args.most * length (order_of c.args.interval.head) = mul-le-mul_right (length (order_of c.args.interval.head)) (omega (arith, c.min-mcus.ensures)) in
     let same = ap (λ (n : ℕ). c.min-mcus.result * n) per in
-    omega (arith, c.requires.room t, fits, same)
+    omega (arith, c.requires.space t, fits, same)
 
-pub take_all-whole-requires-clause-lawful : goal.take_all-whole-requires-clause-lawful
-take_all-whole-requires-clause-lawful c = subst (λ (o : RunOf). IsLawful o.interval.head) (sym c.at-reader.ensures.run) (subst IsLawful c.head-lawful.ensures.value c.head-lawful.ensures.lawful)
+pub take_all-whole-requires-clause-valid : goal.take_all-whole-requires-clause-valid
+take_all-whole-requires-clause-valid c = subst (λ (o : RunOf). IsValid o.interval.head) (sym c.at-reader.ensures.run) (subst IsValid c.head-valid.ensures.value c.head-valid.ensures.valid)

@@ -23,8 +23,8 @@ returns-clause-image_end c =
     let place = c.in_ok-cut.cut.image_end in
     let segments = map (segment_data p.unstuffed.items) p.spans.items in
     let rest : c.of-scan.result.rest ≡ drop c.args.head.scan_at c.args.bytes.items = c.of-scan.ensures.rest ∙ ap (λ (k : ℕ). drop k c.args.bytes.items) c.scan_at-at.ensures.value in
-    let told = subst (λ (s : ScanValue). IsImageEndIn c.args.bytes.items s place) (sym c.in_ok-scan.ensures) (is_image_end c.args.head c.args.bytes.items c.of-scan.result.rest segments _ _ p.ended place c.intervals.ensures.value c.scan_at-at.ensures.value rest c.in_ok-cut.ensures.image_end) in
-    search (rules, told)
+    let stated = subst (λ (s : ScanValue). IsImageEndIn c.args.bytes.items s place) (sym c.in_ok-scan.ensures) (is_image_end c.args.head c.args.bytes.items c.of-scan.result.rest segments _ _ p.ended place c.intervals.ensures.value c.scan_at-at.ensures.value rest c.in_ok-cut.ensures.image_end) in
+    search (rules, stated)
 
 pub of_segments-requires-clause-count : goal.of_segments-requires-clause-count
 of_segments-requires-clause-count c =

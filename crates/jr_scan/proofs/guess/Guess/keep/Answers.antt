@@ -2,7 +2,7 @@ use Rattle.std.proofs.Common.{rules, ◌≡◌, ◌-◌, ◌*◌, ◌≤◌, ◌
 use Rattle.jr_head.specs.Geometry.{order_of}
 use Rattle.jr_scan.specs.declared.guessed.Guessed.{Guessed}
 use Rattle.jr_scan.specs.Guess.{GuessValue, IsGuessOf, TakesNext}
-use Rattle.jr_scan.proofs.KeptMcus.{either, guess_of, guessed, kept_more, last_few, last_behind}
+use Rattle.jr_scan.proofs.KeptMcus.{either, guess_of, guessed, kept_more, last_few, last_after}
 use Rattle.jr_scan.proofs.guess.Guess.keep.Goals as goal
 
 pub overflow_sub-from : goal.overflow_sub-from
@@ -14,13 +14,13 @@ pub overflow_sub-to : goal.overflow_sub-to
 overflow_sub-to c =
     let i = c.args.interval.now in
     let t = c.in_ok-predictions.ensures.taken in
-    let few = last_few i c.take_mcu.new.bits (last_behind i t.zs c.args.bits.now c.take_mcu.new.bits c.requires.bits t.taken) in
+    let few = last_few i c.take_mcu.new.bits (last_after i t.zs c.args.bits.now c.take_mcu.new.bits c.requires.bits t.taken) in
     omega (arith, few, c.left-2.ensures, ap (λ (b : List ℕ). length b) c.bytes.ensures.bytes)
 
 pub returns-clause-bits : goal.returns-clause-bits
 returns-clause-bits c =
     let t = c.in_ok-predictions.ensures.taken in
-    last_behind c.args.interval.now t.zs c.args.bits.now c.take_mcu.new.bits c.requires.bits t.taken
+    last_after c.args.interval.now t.zs c.args.bits.now c.take_mcu.new.bits c.requires.bits t.taken
 
 pub returns-clause-of : goal.returns-clause-of
 returns-clause-of c =

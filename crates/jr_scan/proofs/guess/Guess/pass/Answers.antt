@@ -1,12 +1,12 @@
 use Rattle.std.proofs.Common.{rules, ◌≡◌, ◌<◌, ℤ, List, length, sym, subst, arith}
 use Rattle.std.specs.List.{All}
-use Rattle.jr_head.specs.Geometry.{IsLawful}
+use Rattle.jr_head.specs.Geometry.{IsValid}
 use Rattle.jr_scan.specs.declared.place.Place.{Place}
 use Rattle.jr_scan.specs.declared.place.RunEnd.TheVariants.{AllRead}
 use Rattle.jr_scan.specs.Run.{IsRun, run_from}
 use Rattle.jr_mcu.specs.Shift.{AreShifted, IsSmall}
 use Rattle.jr_scan.specs.Guess.{GuessValue, IsMcuOf, IsGuessOf, KeepsBlocks, blocks_at}
-use Rattle.jr_scan.proofs.KeptMcus.{guess_of, behind_in_range, shifted_are, some_first, taken_over}
+use Rattle.jr_scan.proofs.KeptMcus.{guess_of, after_in_range, shifted_are, some_first, taken_over}
 use Rattle.jr_scan.proofs.guess.Guess.pass.Goals as goal
 
 pub sums-requires-clause-a : goal.sums-requires-clause-a
@@ -17,7 +17,7 @@ sums-requires-clause-a c =
     let mcu = c.index-mcu.result.now in
     let lt : c.args.k < length g.mcus = search (rules, arith) in
     let e = subst (IsMcuOf i g c.args.k) (sym c.index-mcu.ensures) (of.each c.args.k mcu lt) in
-    let within = behind_in_range i mcu e.zs e.is in
+    let within = after_in_range i mcu e.zs e.is in
     search (rules, within)
 
 pub returns-clause-run : goal.returns-clause-run
@@ -36,7 +36,7 @@ returns-clause-run c =
     let small : All IsSmall p.predictions = search (rules, c.if-not-all_small.ensures) in
     let three' : length c.sums.result ≡ 3 = search rules in
     let s = shifted_are i.head p.predictions e.zs (some_first i mcu e.zs e.is) in
-    (s.0, taken_over i mcu p to e.zs s.0 (subst IsLawful c.head-head.ensures.value c.head-head.ensures.lawful) e.is from three small (search rules) three' (search (rules, c.sums.ensures.sums)) s.1)
+    (s.0, taken_over i mcu p to e.zs s.0 (subst IsValid c.head-head.ensures.value c.head-head.ensures.valid) e.is from three small (search rules) three' (search (rules, c.sums.ensures.sums)) s.1)
 
 pub returns-clause-shifted : goal.returns-clause-shifted
 returns-clause-shifted c =
@@ -54,5 +54,5 @@ returns-clause-shifted c =
     let small : All IsSmall p.predictions = search (rules, c.if-not-all_small.ensures) in
     let three' : length c.sums.result ≡ 3 = search rules in
     let here : KeepsBlocks g → (zs : List (List ℤ)) → AreShifted i.head p.predictions (blocks_at i g k) zs → IsRun (run_from i p 1) zs to AllRead
-    = λ keeps zs s. taken_over i mcu p to e.zs zs (subst IsLawful c.head-head.ensures.value c.head-head.ensures.lawful) e.is from three small (search rules) three' (search (rules, c.sums.ensures.sums)) (subst (λ (bs : List (List ℤ)). AreShifted i.head p.predictions bs zs) (e.kept keeps) s) in
+    = λ keeps zs s. taken_over i mcu p to e.zs zs (subst IsValid c.head-head.ensures.value c.head-head.ensures.valid) e.is from three small (search rules) three' (search (rules, c.sums.ensures.sums)) (subst (λ (bs : List (List ℤ)). AreShifted i.head p.predictions bs zs) (e.kept keeps) s) in
     subst (λ (v : GuessValue). KeepsBlocks v → (zs : List (List ℤ)) → AreShifted i.head p.predictions (blocks_at i v k) zs → IsRun (run_from i p 1) zs to AllRead) c.self.view_is here

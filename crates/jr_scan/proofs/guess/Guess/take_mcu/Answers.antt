@@ -55,13 +55,13 @@ returns-clause-taken c =
     let taken : TakesMcu i.head no_predictions zs old left = subst (λ (h : HeadValue). TakesMcu h no_predictions zs old left) head s.1 in
     let last : ps ≡ predicted i.head no_predictions zs = subst (λ (h : HeadValue). ps ≡ predicted h no_predictions zs) head s.2 in
     let is : take (m * per + per) new ≡ take (m * per) xs ++ zs = ap (λ (n : ℕ). take (m * per + n) new) (size ∙ ap (λ (h : HeadValue). length (order_of h)) (sym head)) ∙ s.3 refl in
-    let room : m * per + per ≤ length xs = search (rules, arith) in
+    let space : m * per + per ≤ length xs = search (rules, arith) in
     let count : m ≡ length mcus = search rules in
-    let here0 : take per (drop (m * per) new) ≡ zs = kept_here m per xs new zs (omega (arith, room)) (omega (arith, taken.mcu.0, size)) is in
+    let here0 : take per (drop (m * per) new) ≡ zs = kept_here m per xs new zs (omega (arith, space)) (omega (arith, taken.mcu.0, size)) is in
     let here1 : take (length (order_of i.head)) (drop (m * length (order_of i.head)) new) ≡ zs = subst (λ (n : ℕ). take n (drop (m * n) new) ≡ zs) size here0 in
     let here = subst (λ (k : ℕ). take (length (order_of i.head)) (drop (k * length (order_of i.head)) new) ≡ zs) count here1 in
     let all : (length mcus + 1) * length (order_of i.head) ≡ m * per + per = ap (λ (n : ℕ). (length mcus + 1) * n) (sym size) ∙ ap (λ (n : ℕ). (n + 1) * per) (sym count) ∙ omega arith in
     let next : TakesNext i (guess_of c.self.inside.number mcus new) ps old left
-    = record { zs = zs; taken = taken; predicted_are = last; room = λ keeps. omega (arith, all, room, c.read_mcu-2.auto.blocks); kept = λ keeps. here } in
+    = record { zs = zs; taken = taken; predicted_are = last; space = λ keeps. omega (arith, all, space, c.read_mcu-2.auto.blocks); kept = λ keeps. here } in
     let back = with_items_is c.self.inside.blocks new (search rules) in
     subst (λ (bs : List (List ℤ)). TakesNext i (guess_of c.self.inside.number mcus bs) ps old left) (sym back) next

@@ -21,6 +21,6 @@ mcus-preserved c =
     let added : c.push_zigzag.new.blocks.items ≡ zs ++ take (c.read-count.result * length c.order-per_mcu.result.now) c.read-count.new.blocks = search (rules, c.in_ok-push_zigzag.ensures) in
     record {
       run = c.read-count.ensures.run ∙ c.mcus.invariant.run;
-      room = search (rules, c.mcus.invariant.room);
+      space = search (rules, c.mcus.invariant.space);
       read = subst (HasRead c.read-count.new.self) (sym added) here;
     }

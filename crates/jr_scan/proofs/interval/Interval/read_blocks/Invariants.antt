@@ -6,7 +6,7 @@ use Rattle.jr_scan.proofs.interval.Interval.read_blocks.Given as goal
 abbrev pub invariant-mcus : goal.invariant-mcus
 invariant-mcus l = record {
   run : l.reader.run ≡ whole_run l.self;
-  room : length l.next ≡ 10;
+  space : length l.next ≡ 10;
   read : HasRead l.reader l.blocks.items;
 }
 

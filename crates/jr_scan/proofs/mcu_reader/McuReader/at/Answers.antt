@@ -1,6 +1,6 @@
 use Rattle.std.proofs.Common.{◌≡◌, ◌-◌, ◌*◌, ℕ, List, [], length, drop, ap, subst, ◌∙◌, rules, arith}
 use Rattle.jr_code.specs.Bits.{bits}
-use Rattle.jr_head.specs.Geometry.{IsLawful}
+use Rattle.jr_head.specs.Geometry.{IsValid}
 use Rattle.jr_scan.specs.declared.place.RunEnd.TheVariants.{AllRead}
 use Rattle.jr_scan.specs.Run.{left_at, run_from, IsRun}
 use Rattle.jr_scan.proofs.McuReaders.{left_is, no_run}
@@ -13,7 +13,7 @@ invariant_of-result c =
     let is : c.bits_from-bits.result ≡ left_at i c.args.from = c.bits_from-bits.ensures ∙ ap (λ (b : List ℕ). drop c.args.from.bit (bits b)) c.bytes.ensures.bytes in
     let at : c.args.from.bit ≡ 8 * length i.bytes - length c.bits_from-bits.result = omega (arith, ap length is, left_is i c.args.from, c.requires.within) in
     record {
-      lawful = subst IsLawful c.head-head.ensures.value c.head-head.ensures.lawful;
+      valid = subst IsValid c.head-head.ensures.value c.head-head.ensures.valid;
       few = omega arith;
       small = c.ranges.mcus.fits;
       bits = is ∙ ap (λ (k : ℕ). drop k (bits i.bytes)) at;
@@ -30,5 +30,5 @@ returns-clause-read c =
     let three : length from.predictions ≡ 3 = search rules in
     record {
       few = omega arith;
-      run = let told = subst (λ (k : ℕ). IsRun (run_from i from 0) [] (record { bit = k; predictions = from.predictions }) AllRead) at (no_run i from three) in search (rules, told);
+      run = let stated = subst (λ (k : ℕ). IsRun (run_from i from 0) [] (record { bit = k; predictions = from.predictions }) AllRead) at (no_run i from three) in search (rules, stated);
     }

@@ -30,7 +30,7 @@ loop-done-preserved c =
     let size : per ≡ per_mcu r = size_of _ _ _ r c.order-per_mcu.ensures.value c.head.ensures.value c.interval.ensures in
     let same : per_mcu mid ≡ per_mcu r = ap (λ (o : RunOf). length (order_of o.interval.head)) i.run in
     let both = read_both r mid new c.loop-done.done c.read_some-some.result per c.loop-done.blocks c.read_some-some.new.blocks i.run size e.fits i.fits (record { read = i.read; in_range = i.in_range }) (record { read = e.read; in_range = e.in_range }) in
-    let room : length (put_mid (c.loop-done.done * per) (length c.loop-done.blocks - c.loop-done.done * per) c.loop-done.blocks c.read_some-some.new.blocks) ≡ length c.loop-done.blocks = same_len_mid _ _ _ _ c.read_some-some.auto.blocks in
+    let space : length (put_mid (c.loop-done.done * per) (length c.loop-done.blocks - c.loop-done.done * per) c.loop-done.blocks c.read_some-some.new.blocks) ≡ length c.loop-done.blocks = same_len_mid _ _ _ _ c.read_some-some.auto.blocks in
     let at : c.loop-done.done * per ≡ c.loop-done.done * per_mcu r = ap (λ (n : ℕ). c.loop-done.done * n) size in
     let on : c.read_some-some.result * per_mcu mid ≡ c.read_some-some.result * per_mcu r = ap (λ (n : ℕ). c.read_some-some.result * n) same in
     let sum : (c.loop-done.done + c.read_some-some.result) * per_mcu r ≡ c.loop-done.done * per_mcu r + c.read_some-some.result * per_mcu r = omega arith in
@@ -39,8 +39,8 @@ loop-done-preserved c =
       run = e.run ∙ i.run;
       mcu = omega (arith, e.mcus, i.mcu);
       few = e.few;
-      room = room ∙ i.room;
-      fits = omega (arith, sum, room, on, e.fits, long, at, i.fits);
+      space = space ∙ i.space;
+      fits = omega (arith, sum, space, on, e.fits, long, at, i.fits);
       read = both.read;
       in_range = both.in_range;
       stays = stays_both r mid new i.stays e.stays;
@@ -85,7 +85,7 @@ loop-done-init c =
       run = refl;
       mcu = omega arith;
       few = omega (arith, c.left.ensures);
-      room = refl;
+      space = refl;
       fits = omega arith;
       read = λ zs s. subst (HasRead r) (sym (ap (λ (l : List (List ℤ)). zs ++ l) none ∙ append-nil zs)) s;
       in_range = subst (All IsInRange) (sym none) (λ k d lt. absurd (omega (arith, lt)));
@@ -98,7 +98,7 @@ returns-clause-ended c fits =
     let i = c.loop-done.invariant in
     let per = length c.order-per_mcu.result.now in
     let size : per ≡ per_mcu r = size_of _ _ _ r c.order-per_mcu.ensures.value c.head.ensures.value c.interval.ensures in
-    let next : (c.loop-done.done + 1) * per ≤ length c.args.blocks.now = subst (λ (n : ℕ). (c.loop-done.done + 1) * n ≤ length c.args.blocks.now) (sym size) (omega (arith, fits, i.room)) in
+    let next : (c.loop-done.done + 1) * per ≤ length c.args.blocks.now = subst (λ (n : ℕ). (c.loop-done.done + 1) * n ≤ length c.args.blocks.now) (sym size) (omega (arith, fits, i.space)) in
     let more = le-div (c.loop-done.done + 1) (length c.args.blocks.now) per c.order-per_mcu.ensures.some next in
     inl (omega (arith, more, c.loop-done-test.false, c.left.ensures, i.mcu, i.few, ap (λ (o : RunOf). o.mcus) i.run))
 
@@ -124,10 +124,10 @@ pub returns-clause-stays : goal.returns-clause-stays
 returns-clause-stays c = c.loop-done.invariant.stays
 
 pub returns-clause-none : goal.returns-clause-none
-returns-clause-none c = λ room first.
+returns-clause-none c = λ space first.
     let r = c.args.self.now in
     let size : length c.order-per_mcu.result.now ≡ per_mcu r = size_of _ _ _ r c.order-per_mcu.ensures.value c.head.ensures.value c.interval.ensures in
-    returns-clause-ended c (omega (arith, room, size, ap (λ (n : ℕ). (n + 1) * per_mcu r) first, c.order-per_mcu.ensures.few))
+    returns-clause-ended c (omega (arith, space, size, ap (λ (n : ℕ). (n + 1) * per_mcu r) first, c.order-per_mcu.ensures.few))
 
 pub overflow_mul-start : goal.overflow_mul-start
 overflow_mul-start c =
@@ -150,8 +150,8 @@ slice_bounds-read_some-count c =
 pub read_some-some-requires-clause-same : goal.read_some-some-requires-clause-same
 read_some-some-requires-clause-same c = subst (λ (o : RunOf). AreGuessesOf o.interval c.args.guesses.now) (sym c.loop-done.invariant.run) c.requires.same
 
-pub read_some-some-requires-clause-room : goal.read_some-some-requires-clause-room
-read_some-some-requires-clause-room c =
+pub read_some-some-requires-clause-space : goal.read_some-some-requires-clause-space
+read_some-some-requires-clause-space c =
     let r = c.args.self.now in
     let i = c.loop-done.invariant in
     let blocks = c.loop-done.blocks in
@@ -162,7 +162,7 @@ read_some-some-requires-clause-room c =
     let some : c.loop-done.done + 1 ≤ length c.args.blocks.now / per = omega (arith, c.loop-done-test.true, c.min-most.ensures) in
     let next : (c.loop-done.done + 1) * per ≤ length c.args.blocks.now = (le-div_iff_mul-le c.order-per_mcu.ensures.some).0 some in
     let long : length (take (length blocks - a) (drop a blocks)) ≡ length blocks - a = length-take-le (length blocks - a) (drop a blocks) (omega (arith, length-drop a blocks)) in
-    omega (arith, mine, size, next, long, i.room)
+    omega (arith, mine, size, next, long, i.space)
 
 pub returns-then-some-eq0-clause-run : goal.returns-then-some-eq0-clause-run
 returns-then-some-eq0-clause-run c = c.read_some-some.ensures.run ∙ c.loop-done.invariant.run
@@ -176,8 +176,8 @@ returns-then-some-eq0-clause-few c = c.read_some-some.ensures.few
 pub returns-then-some-eq0-clause-fits : goal.returns-then-some-eq0-clause-fits
 returns-then-some-eq0-clause-fits c =
     let per = length c.order-per_mcu.result.now in
-    let room : length (put_mid (c.loop-done.done * per) (length c.loop-done.blocks - c.loop-done.done * per) c.loop-done.blocks c.read_some-some.new.blocks) ≡ length c.loop-done.blocks = same_len_mid _ _ _ _ c.read_some-some.auto.blocks in
-    omega (arith, room, c.loop-done.invariant.fits)
+    let space : length (put_mid (c.loop-done.done * per) (length c.loop-done.blocks - c.loop-done.done * per) c.loop-done.blocks c.read_some-some.new.blocks) ≡ length c.loop-done.blocks = same_len_mid _ _ _ _ c.read_some-some.auto.blocks in
+    omega (arith, space, c.loop-done.invariant.fits)
 
 pub returns-then-some-eq0-clause-ended : goal.returns-then-some-eq0-clause-ended
 returns-then-some-eq0-clause-ended c = λ _. c.read_some-some.ensures.ended c.if-some-eq0.true

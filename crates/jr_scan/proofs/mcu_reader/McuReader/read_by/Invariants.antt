@@ -9,7 +9,7 @@ invariant-loop-done l = record {
   run : l.self.run ≡ l.fn.self.run;
   mcu : l.self.mcu ≡ l.fn.self.mcu + l.done;
   few : l.self.mcu ≤ l.self.run.mcus;
-  room : length l.blocks ≡ length l.fn.blocks;
+  space : length l.blocks ≡ length l.fn.blocks;
   fits : l.done * per_mcu l.fn.self ≤ length l.blocks;
   read : (zs : List (List ℤ)) → HasRead l.fn.self zs → HasRead l.self (zs ++ take (l.done * per_mcu l.fn.self) l.blocks);
   in_range : All IsInRange (take (l.done * per_mcu l.fn.self) l.blocks);

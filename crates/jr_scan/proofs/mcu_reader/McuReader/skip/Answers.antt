@@ -1,6 +1,6 @@
 use Rattle.std.proofs.Common.{inl, inr, ◌≤◌, ◌+◌, refl, ap, subst, arith}
 use Rattle.std.proofs.lemmas.Bool.{cases_lt}
-use Rattle.jr_head.specs.Geometry.{IsLawful}
+use Rattle.jr_head.specs.Geometry.{IsValid}
 use Rattle.jr_scan.specs.Run.{RunOf}
 use Rattle.jr_scan.specs.McuReader.{McuReaderValue}
 use Rattle.jr_scan.proofs.McuReaders.{passed_on, takes_none}
@@ -10,9 +10,9 @@ pub returns-clause-passed : goal.returns-clause-passed
 returns-clause-passed c = λ zs s.
     let r = c.args.self.now in
     let new = c.take_mcus.new.self in
-    let lawful = subst (λ (x : McuReaderValue). IsLawful x.run.interval.head) c.self.view_is c.self.invariant.lawful in
+    let valid = subst (λ (x : McuReaderValue). IsValid x.run.interval.head) c.self.view_is c.self.invariant.valid in
     let t = c.take_mcus.ensures.taken in
-    passed_on r new new c.take_mcus.result zs t.0 lawful c.take_mcus.ensures.run c.take_mcus.ensures.mcus c.take_mcus.ensures.few t.1 refl s
+    passed_on r new new c.take_mcus.result zs t.0 valid c.take_mcus.ensures.run c.take_mcus.ensures.mcus c.take_mcus.ensures.few t.1 refl s
 
 pub returns-clause-stays : goal.returns-clause-stays
 returns-clause-stays c = λ ended.

@@ -1,7 +1,7 @@
 use Rattle.std.proofs.Common.{◌≡◌, ◌<◌, ◌≤◌, ◌+◌, ◌*◌, ◌-◌, ◌++◌, [], ℕ, ℤ, Bool, List, length, take, refl, ap, sym, subst, ◌∙◌, rules, arith}
 use Rattle.std.proofs.Math.Nat.{mul-le-mul_right}
 use Rattle.jr_head.specs.HeadValue.{HeadValue}
-use Rattle.jr_head.specs.Geometry.{IsLawful, order_of}
+use Rattle.jr_head.specs.Geometry.{IsValid, order_of}
 use Rattle.jr_mcu.specs.Mcus.{BeginsNoMcu, TakesMcu, predicted}
 use Rattle.jr_scan.specs.declared.place.Place.{Place}
 use Rattle.jr_scan.specs.declared.place.RunEnd.TheVariants.{AllRead}
@@ -21,7 +21,7 @@ loop-k-init g c =
       lasts = c.self.invariant;
       run = ap (λ (x : McuReaderValue). x.run) c.self.view_is;
       mcu = omega (arith, ap (λ (x : McuReaderValue). x.mcu) c.self.view_is);
-      room = refl;
+      space = refl;
       start = λ first. c.self.view_is;
       taken = (
         [],
@@ -51,7 +51,7 @@ loop-k-preserved g c =
     let next = next_mcu (value_of inside) inside.bits new.bits new.predictions t.0 keep.lasts more (omega arith) t1 last c.read_mcu.ensures.in_range in
     let q : Place = record { bit = 8 * length i.bytes - length new.bits; predictions = new.predictions } in
     let here = subst (λ (j : IntervalValue). IsRun (run_from j (value_of inside).place 1) t.0 q AllRead) (ap (λ (o : RunOf). o.interval) keep.run) next.1 in
-    let lawful = subst (λ (x : McuReaderValue). IsLawful x.run.interval.head) c.self.view_is c.self.invariant.lawful in
+    let valid = subst (λ (x : McuReaderValue). IsValid x.run.interval.head) c.self.view_is c.self.invariant.valid in
     let per = length c.order-per_mcu.result.now in
     let per_is : per ≡ length (order_of c.head-head.result.now) = ap (λ (o : List ℕ). length o) c.order-per_mcu.ensures.value in
     let size : (k + 1) * per ≡ k * per + length (order_of c.head-head.result.now) = omega (arith, per_is) in
@@ -59,11 +59,11 @@ loop-k-preserved g c =
       lasts = next.0;
       run = keep.run;
       mcu = omega (arith, keep.mcu);
-      room = search (rules, keep.room);
+      space = search (rules, keep.space);
       start = λ first. absurd (omega (arith, first));
       taken = (
         before.0 ++ t.0,
-        runs_meet r.run.interval r.place (value_of inside).place q k 1 before.0 t.0 AllRead (component_low r.run.interval.head lawful) before.1 here,
+        runs_meet r.run.interval r.place (value_of inside).place q k 1 before.0 t.0 AllRead (component_low r.run.interval.head valid) before.1 here,
         λ keeps. ap (λ (n : ℕ). take n new.blocks) size ∙ t.3 keeps ∙ ap (λ (zs : List (List ℤ)). zs ++ t.0) (before.2 keeps),
       );
     }
@@ -83,14 +83,14 @@ returns-in_default-clause-ended g c = λ less.
     let n3 = subst (λ (b : List Bool). HasNoMcu i (record { bit = 8 * length i.bytes - length b; predictions = ps })) (sym kept.0) n2 in
     subst (λ (qs : List ℤ). HasNoMcu i (record { bit = 8 * length i.bytes - length c.read_mcu.new.bits; predictions = qs })) (sym kept.1) n3
 
-pub read_mcu-requires-clause-room : goal.read_mcu-requires-clause-room
-read_mcu-requires-clause-room g c = λ keeps.
+pub read_mcu-requires-clause-space : goal.read_mcu-requires-clause-space
+read_mcu-requires-clause-space g c = λ keeps.
     let r = c.args.self.now in
     let k = c.loop-k.k in
     let per = length c.order-per_mcu.result.now in
     let per_is : per ≡ length (order_of c.head-head.result.now) = ap (λ (o : List ℕ). length o) c.order-per_mcu.ensures.value in
     let same : per ≡ per_mcu r = per_is ∙ ap (λ (h : HeadValue). length (order_of h)) c.head-head.ensures.value ∙ ap (λ (x : McuReaderValue). per_mcu x) c.self.view_is in
-    let room = subst (λ (n : ℕ). c.args.most * n ≤ length c.args.blocks.now) (sym same) (c.requires.room keeps) in
+    let space = subst (λ (n : ℕ). c.args.most * n ≤ length c.args.blocks.now) (sym same) (c.requires.space keeps) in
     let next : (k + 1) * per ≤ c.args.most * per = mul-le-mul_right {m = k + 1} {n = c.args.most} per (omega (arith, c.loop-k-test.true)) in
     let one : (k + 1) * per ≡ k * per + per = omega arith in
-    omega (arith, room, next, one, per_is, c.loop-k.invariant.room)
+    omega (arith, space, next, one, per_is, c.loop-k.invariant.space)

@@ -10,7 +10,7 @@ invariant-loop-k g l = record {
   lasts : IsMcuReader (value_of l.self-inside) l.self-inside.bits;
   run : (value_of l.self-inside).run ≡ l.fn.self.run;
   mcu : l.self-inside.mcu ≡ l.fn.self.mcu + l.k;
-  room : length l.blocks ≡ length l.fn.blocks;
+  space : length l.blocks ≡ length l.fn.blocks;
   start : l.k ≡ 0 → value_of l.self-inside ≡ l.fn.self;
   taken : (zs : List (List ℤ)) × IsRun (run_from l.fn.self.run.interval l.fn.self.place l.k) zs (value_of l.self-inside).place AllRead × (IsTrue g.S.BlockSink.keeps → take (l.k * l.per_mcu) l.blocks ≡ zs);
 }

@@ -2,7 +2,7 @@ use Rattle.std.proofs.Common.{rules, inl, inr, ◌≡◌, ◌+◌, ◌*◌, ◌�
 use Rattle.std.proofs.lemmas.Nat.{mul-le}
 use Rattle.jr_head.specs.Geometry.{blocks_of, mcus_of}
 use Rattle.jr_view.specs.Views.{AddsMcu, AddsMcus, has_seen, units_shown}
-use Rattle.jr_view.proofs.Showing.{show_all, show_more, show_seen, tells}
+use Rattle.jr_view.proofs.Showing.{show_all, show_more, show_seen, reports}
 use Rattle.jr_view.proofs.view.View.show.Goals as goal
 
 pub loop-j-preserved : goal.loop-j-preserved
@@ -13,7 +13,7 @@ loop-j-preserved c =
     let m = c.args.first + j in
     let units = units_shown c.args.shown.now in
     let per : length c.order-per_mcu.result.now ≡ blocks_of old.scan.head = search rules in
-    elim (tells (has_seen cur m)) [
+    elim (reports (has_seen cur m)) [
       | inl t ↦ subst (AddsMcus old c.args.first (j + 1) units) (sym (c.show_mcu.ensures.kept t)) (show_seen old cur c.args.first j m units refl c.loop-j.invariant t)
       | inr f ↦
           let one : AddsMcu cur m units (j * length c.order-per_mcu.result.now) c.show_mcu.new.self = search (rules, c.show_mcu.ensures.shown f) in

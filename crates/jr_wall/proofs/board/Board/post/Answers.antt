@@ -47,13 +47,13 @@ pub index-requires : goal.index-requires
 index-requires c =
     let for = for_of (arc_value c.self.inside.scan) c.deref-3.result.now (arc_value c.args.piece) c.deref-2.result.now c.is_for.result c.deref-3.ensures c.deref-2.ensures c.is_for.ensures c.if-not-is_for.false in
     let n = c.number-number.ensures ∙ ap (λ (p : PieceValue). p.interval.number) c.deref-4.ensures in
-    within_items c.number-number.result _ _ _ _ n for.0 c.self.invariant.lawful.places (length-map c.self.inside.pieces.items shared_piece ∙ sym c.self.inside.pieces.ok.0)
+    within_items c.number-number.result _ _ _ _ n for.0 c.self.invariant.valid.places (length-map c.self.inside.pieces.items shared_piece ∙ sym c.self.inside.pieces.ok.0)
 
 pub index_mut-requires : goal.index_mut-requires
 index_mut-requires c =
     let for = for_of (arc_value c.self.inside.scan) c.deref-3.result.now (arc_value c.args.piece) c.deref-2.result.now c.is_for.result c.deref-3.ensures c.deref-2.ensures c.is_for.ensures c.if-not-is_for.false in
     let n = c.number-number.ensures ∙ ap (λ (p : PieceValue). p.interval.number) c.deref-4.ensures in
-    within_items c.number-number.result _ _ _ _ n for.0 c.self.invariant.lawful.places (length-map c.self.inside.pieces.items shared_piece ∙ sym c.self.inside.pieces.ok.0)
+    within_items c.number-number.result _ _ _ _ n for.0 c.self.invariant.valid.places (length-map c.self.inside.pieces.items shared_piece ∙ sym c.self.inside.pieces.ok.0)
 
 pub overflow_add-sound : goal.overflow_add-sound
 overflow_add-sound c =
@@ -114,7 +114,7 @@ returns-then-is_some-clause-err c =
     let for = subst (λ (b : DecodedScan). IsFor i b.scan) c.self.view_is there in
     let n = c.number-number.ensures ∙ ap (λ (p : PieceValue). p.interval.number) c.deref-4.ensures in
     let items = c.self.inside.pieces.items in
-    let lt = within_items c.number-number.result i.number _ _ (length items) n there.0 c.self.invariant.lawful.places (length-map items shared_piece) in
+    let lt = within_items c.number-number.result i.number _ _ (length items) n there.0 c.self.invariant.valid.places (length-map items shared_piece) in
     let found : is_some (get_or items c.number-number.result None) ≡ true
     = ap is_some (sym (c.index.ensures ∙ get_or_default items c.number-number.result c.index.result.now None lt)) ∙ sym c.is_some.ensures ∙ c.if-is_some.true in
     let held : is_some (get_or c.self.inside.pieces.items i.number None) ≡ true = subst (λ (k : ℕ). is_some (get_or c.self.inside.pieces.items k None) ≡ true) n found in

@@ -2,7 +2,7 @@ use Rattle.std.proofs.Common.{◌≡◌, ◌∙◌, length, ap, sym, subst, rule
 use Rattle.std.specs.Arc.{arc_value}
 use Rattle.jr_scan.specs.IntervalValue.{IntervalValue}
 use Rattle.jr_scan.specs.ScanValue.{ScanValue, interval_of}
-use Rattle.jr_piece.specs.Strips.{AreOf, TellsEnd, shared_strips}
+use Rattle.jr_piece.specs.Strips.{AreOf, ReportsEnd, shared_strips}
 use Rattle.jr_wall.proofs.Gathering.{its_interval, piece_of, taken}
 use Rattle.jr_wall.proofs.job.Job.piece.Goals as goal
 
@@ -21,14 +21,14 @@ of_strips-requires-clause-of g c =
     let is : c.in_ok-interval.interval ≡ interval_of p.scan n = taken c.interval.result c.in_ok-interval.interval _ c.in_ok-interval.ensures.value c.interval.ensures ∙ ap (λ (s : ScanValue). interval_of s n) c.scan.ensures in
     subst (λ (i : IntervalValue). AreOf i (shared_strips c.in_ok-number.strips.items)) (it.1 ∙ sym is) e.strips
 
-pub of_strips-requires-clause-tells : goal.of_strips-requires-clause-tells
-of_strips-requires-clause-tells g c =
+pub of_strips-requires-clause-reports : goal.of_strips-requires-clause-reports
+of_strips-requires-clause-reports g c =
     let p = c.args.part.now in
     let n = c.in_ok-number.number in
     let e = c.in_ok-number.ensures in
     let it = its_interval g.S.OneScan.part p c.deref_mut.result.now.work.gathered n c.requires e.own e.number in
     let is : c.in_ok-interval.interval ≡ interval_of p.scan n = taken c.interval.result c.in_ok-interval.interval _ c.in_ok-interval.ensures.value c.interval.ensures ∙ ap (λ (s : ScanValue). interval_of s n) c.scan.ensures in
-    subst (λ (i : IntervalValue). TellsEnd i c.in_ok-number.end.front c.in_ok-number.end.is_sound) (it.1 ∙ sym is) e.end
+    subst (λ (i : IntervalValue). ReportsEnd i c.in_ok-number.end.front c.in_ok-number.end.is_sound) (it.1 ∙ sym is) e.end
 
 pub returns : goal.returns
 returns g c =

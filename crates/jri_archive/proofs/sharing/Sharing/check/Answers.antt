@@ -1,6 +1,6 @@
 use Rattle.std.proofs.Common.{subst}
 use Rattle.std.specs.Prelude.{IfSome}
-use Rattle.jri_archive.specs.Told.{HasRecord, IsRecordOf}
+use Rattle.jri_archive.specs.Reporting.{HasRecord, IsRecordOf}
 use Rattle.jri_archive.proofs.Claims.{check_of, found_of, map_of, recorded_of}
 use Rattle.jri_archive.proofs.sharing.Sharing.check.Goals as goal
 
@@ -12,7 +12,7 @@ returns-clause-outcome g c opened kept =
     let source = c.self.inside.source in
     let name = c.args.file.now.name.items in
     let p = c.judged.result.outcome in
-    let is = check_of (g.F.Folder.holds source.folder) (g.F.Folder.fails source.folder) (g.F.Folder.stamps source.folder) (HasRecord source.state) name _ c.content-bytes.result.bytes
+    let is = check_of (g.F.Directory.holds source.directory) (g.F.Directory.fails source.directory) (g.F.Directory.stamps source.directory) (HasRecord source.state) name _ c.content-bytes.result.bytes
     c.checked_file-checked.result.outcome p c.content-bytes.result.seal c.known-known.result
     c.content-bytes.ensures.bytes c.content-bytes.ensures.error opened c.checked_file-checked.ensures.bytes c.checked_file-checked.ensures.error
     c.content-bytes.ensures.sealed c.content-bytes.ensures.hash c.known-known.ensures c.judged.ensures.same c.judged.ensures.changed in
@@ -22,7 +22,7 @@ pub returns-clause-found : goal.returns-clause-found
 returns-clause-found g c unknown =
     let source = c.self.inside.source in
     let name = c.args.file.now.name.items in
-    found_of (g.F.Folder.holds source.folder) (g.F.Folder.fails source.folder) (g.F.Folder.stamps source.folder) (HasRecord source.state) name g.S.OneCheck.may_be (c.self.invariant.0 name) (c.self.invariant.1 unknown name).1
+    found_of (g.F.Directory.holds source.directory) (g.F.Directory.fails source.directory) (g.F.Directory.stamps source.directory) (HasRecord source.state) name g.S.OneCheck.may_be (c.self.invariant.0 name) (c.self.invariant.1 unknown name).1
     c.content-bytes.result.bytes c.checked_file-checked.result.outcome c.judged.result.outcome c.content-bytes.result.seal c.known-known.result
     c.content-bytes.ensures.bytes c.checked_file-checked.ensures.bytes c.checked_file-checked.ensures.error
     c.content-bytes.ensures.sealed c.content-bytes.ensures.hash c.known-known.ensures c.judged.ensures.same c.judged.ensures.changed
@@ -32,7 +32,7 @@ returns-clause-entry g c =
     let source = c.self.inside.source in
     let name = c.args.file.now.name.items in
     let p = c.judged.result.outcome in
-    let is = recorded_of (g.F.Folder.holds source.folder) (g.F.Folder.fails source.folder) (g.F.Folder.stamps source.folder) (HasRecord source.state) name c.content-bytes.result.bytes
+    let is = recorded_of (g.F.Directory.holds source.directory) (g.F.Directory.fails source.directory) (g.F.Directory.stamps source.directory) (HasRecord source.state) name c.content-bytes.result.bytes
     c.checked_file-checked.result.outcome p c.content-bytes.result.seal c.judged.result.entry
     c.content-bytes.ensures.bytes c.checked_file-checked.ensures.bytes c.content-bytes.ensures.sealed c.content-bytes.ensures.stamp c.content-bytes.ensures.hash c.judged.ensures.entry in
-    subst (λ s. IfSome c.judged.result.entry (λ f. IsRecordOf (g.F.Folder.holds s.folder) (g.F.Folder.stamps s.folder) name f p)) c.self.view_is is
+    subst (λ s. IfSome c.judged.result.entry (λ f. IsRecordOf (g.F.Directory.holds s.directory) (g.F.Directory.stamps s.directory) name f p)) c.self.view_is is
