@@ -13,11 +13,11 @@ import subprocess
 import time
 
 
-def snapshot(folder):
+def snapshot(directory):
     """Returns what is below a directory but for parts: the bytes of files, the targets of links, None for directories."""
-    found, root = {}, os.fsencode(folder)
-    for at, folders, names in os.walk(root):
-        for name in [*folders, *names]:
+    found, root = {}, os.fsencode(directory)
+    for at, directories, names in os.walk(root):
+        for name in [*directories, *names]:
             path = os.path.join(at, name)
             if name.startswith(b".jri-") and name.endswith(b".part"):
                 continue
@@ -31,20 +31,20 @@ def snapshot(folder):
     return found
 
 
-def files_of(folder):
+def files_of(directory):
     """Returns the names of the files below a directory, as text, and their bytes."""
-    return {os.fsdecode(name): data for name, data in snapshot(folder).items() if data is not None}
+    return {os.fsdecode(name): data for name, data in snapshot(directory).items() if data is not None}
 
 
-def plant(folder, files):
+def plant(directory, files):
     """Makes a directory with these files, and returns its name."""
-    os.makedirs(folder, exist_ok=True)
+    os.makedirs(directory, exist_ok=True)
     for name, data in files.items():
-        path = os.path.join(os.fsencode(folder), os.fsencode(name))
+        path = os.path.join(os.fsencode(directory), os.fsencode(name))
         os.makedirs(os.path.dirname(path), exist_ok=True)
         with open(path, "wb") as file:
             file.write(data)
-    return folder
+    return directory
 
 
 class Archive:
@@ -133,7 +133,7 @@ def try_odd_names(trials, photos, spoil):
     os.chmod(os.path.join(b, "shut"), 0)
     status, output, errors = trials.mend("--trees", "--copy-equal", "-o", target, a, b)
     os.chmod(os.path.join(b, "shut"), 0o755)
-    told, found = output.decode(), files_of(target)
+    printed, found = output.decode(), files_of(target)
     wanted = {"both.jpg": data, "kind.jpg": data, "only.jpg": one, "line\nfeed.jpg": data, "cut.jpg": data, "full.jpg": b"mine"}
     wanted["shut/x.jpg"] = data if is_root else one
     trials.see("odd names: the status", (status, errors) == (4, b""), f"{status}, {errors.decode(errors='replace')}")
@@ -155,7 +155,7 @@ def try_odd_names(trials, photos, spoil):
         "shut/x.jpg: mended, " if is_root else "shut: copy 2: cannot be read: permission denied\n",
     ]
     for line in lines:
-        trials.see(f"odd names: {line.strip()}", f"\n{line}" in f"\n{told}", told)
+        trials.see(f"odd names: {line.strip()}", f"\n{line}" in f"\n{printed}", printed)
     objects = [json.loads(line) for line in trials.mend("--trees", "--json", "-o", target, a, b)[1].splitlines()[:-1]]
     names = {os.fsencode(it["file"]) for it in objects}
     trials.see("odd names: names come back", {b"caf\xe9.jpg", b"caf\xe9.txt", b"line\nfeed.jpg"} <= names, f"{names}")
