@@ -148,7 +148,7 @@ class Trials:
         name, state = os.path.join(directory, "image.jpg"), os.path.join(directory, "used")
         write(name, data)
         os.mkfifo(os.path.join(directory, "fifo"))
-        cases = [(name, "line 1 is damaged"), (directory, "a directory"), ("/dev/null", "not a regular file"), (os.path.join(directory, "fifo"), "not a regular file"),
+        cases = [(name, "line 1 is damaged"), (directory, "a folder"), ("/dev/null", "not a regular file"), (os.path.join(directory, "fifo"), "not a regular file"),
                  (os.path.join(directory, "none", "state"), "no such file"), ("/dev/stdin", "not a regular file")]
         for target, why in cases:
             run = subprocess.run([self.program, "--state", target, name], capture_output=True, stdin=subprocess.DEVNULL, timeout=60)
