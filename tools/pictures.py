@@ -2,7 +2,6 @@
 
 import struct
 import subprocess
-import zlib
 
 
 class Random:
@@ -56,14 +55,16 @@ def markers(data):
     return count, width, height
 
 
-def png(channels, rows):
-    """A PNG file of rows of grey or RGB pixels."""
+def exif(order, entries, rest=b""):
+    """An Exif segment whose directory has entries of a tag, a type, a count and a value, `little` or `big` end first."""
 
-    def chunk(kind, data):
-        return struct.pack(">I", len(data)) + kind + data + struct.pack(">I", zlib.crc32(kind + data))
+    def number(value, size):
+        return value.to_bytes(size, order)
 
-    width = len(rows[0]) // channels
-    header = struct.pack(">IIBBBBB", width, len(rows), 8, 0 if channels == 1 else 2, 0, 0, 0)
-    # Each row begins with the number of its filter, here none.
-    data = zlib.compress(b"".join(b"\0" + row for row in rows), 1)
-    return b"\x89PNG\r\n\x1a\n" + chunk(b"IHDR", header) + chunk(b"IDAT", data) + chunk(b"IEND", b"")
+    fields = b""
+    for tag, kind, count, value in entries:
+        value = value if isinstance(value, bytes) else number(value, 2 if kind == 3 else 4)
+        fields += number(tag, 2) + number(kind, 2) + number(count, 4) + value.ljust(4, b"\0")
+    payload = b"Exif\0\0" + (b"II" if order == "little" else b"MM") + number(42, 2) + number(8, 4)
+    payload += number(len(entries), 2) + fields + bytes(4) + rest
+    return b"\xff\xe1" + (len(payload) + 2).to_bytes(2, "big") + payload

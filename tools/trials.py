@@ -7,6 +7,9 @@ TOOLS = os.path.dirname(os.path.abspath(__file__))
 ROOT = os.path.dirname(TOOLS)
 # Seconds after which a program is stopped.
 SECONDS = 60
+DJPEG = ["djpeg", "-dct", "int", "-nosmooth", "-pnm"]
+# A Python that has what python/README.md names.
+PYTHON = os.environ.get("PYTHON", "/usr/bin/python3")
 
 
 def program_path(name):
@@ -23,6 +26,12 @@ def build(*names):
 def build_library():
     """Builds libjri, unless it is built."""
     subprocess.run([os.path.join(TOOLS, "build-library")], check=True, stdout=subprocess.DEVNULL)
+
+
+def with_module():
+    """Returns the environment in which Python has the module over the library that is built here."""
+    paths = {"JRI_LIBRARY": os.path.join(ROOT, "crates", "jri_c", "out", "libjri.so"), "PYTHONPATH": os.path.join(ROOT, "python", "src")}
+    return {**os.environ, **paths, "PYTHONDONTWRITEBYTECODE": "1"}
 
 
 def run(words, data=None, **how):
@@ -49,6 +58,12 @@ def write(path, data, mode=None):
     return path
 
 
+def given_files(names):
+    """Yields the names and the bytes of files."""
+    for name in names:
+        yield name, read(name)
+
+
 class Trials:
     """Reports checks, one line each or only those that fail, and counts them."""
 
@@ -63,6 +78,10 @@ class Trials:
             print(f"WRONG: {name}: {found}" if found else f"WRONG: {name}", flush=True)
         elif self.shows_all:
             print(f"seen: {name}", flush=True)
+
+    def expect(self, name, found, wanted):
+        """Reports whether what was found is what was wanted."""
+        self.see(name, found == wanted, f"{found} instead of {wanted}")
 
     def conclude(self):
         """Prints the numbers of checks, and returns the exit status: 1 if one failed."""
