@@ -12,6 +12,8 @@ import signal
 import subprocess
 import time
 
+from trials import write
+
 
 def snapshot(directory):
     """Returns what is below a directory but for parts: the bytes of files, the targets of links, None for directories."""
@@ -42,8 +44,7 @@ def plant(directory, files):
     for name, data in files.items():
         path = os.path.join(os.fsencode(directory), os.fsencode(name))
         os.makedirs(os.path.dirname(path), exist_ok=True)
-        with open(path, "wb") as file:
-            file.write(data)
+        write(path, data)
     return directory
 
 
