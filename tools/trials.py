@@ -61,7 +61,8 @@ def write(path, data, mode=None):
 def given_files(names):
     """Yields the names and the bytes of files."""
     for name in names:
-        yield name, read(name)
+        with open(name, "rb") as file:
+            yield name, file.read()
 
 
 class Trials:
