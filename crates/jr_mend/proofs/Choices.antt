@@ -1,10 +1,11 @@
 -- The choice among some versions of an interval and one more.
-use Rattle.std.proofs.Common.{◌≡◌, ◌≢◌, ℕ, ◌+◌, ◌<◌, ◌≤◌, inl, inr, Bool, true, false, Option, Some, None, OnSome, IfSome, IfNone, List, [], ◌∷◌, ◌++◌, length, map, take, slice_range, get_or, refl, sym, ap, subst, ◌∙◌, append_assoc, length-append, arith}
-use Rattle.std.proofs.lemmas.List.{get_or-take, length-map, length-take, length-take-le, map_more}
+use Rattle.std.proofs.Common.{◌≡◌, ◌≢◌, ℕ, zero, suc, ◌+◌, ◌<◌, ◌≤◌, inl, inr, Bool, true, false, Option, Some, None, OnSome, IfSome, IfNone, List, [], ◌∷◌, ◌++◌, length, map, take, slice_range, get_or, refl, sym, ap, subst, ◌∙◌, length-append, arith}
+use Rattle.std.proofs.lemmas.List.{get_or-take, length-map, length-take, length-take-le, map_more, take-append-le}
+use Rattle.std.proofs.lemmas.Option.{get_or_from_slice_get, slice_get_read, slice_get_within}
 use Rattle.std.proofs.Math.ListN.{get_or-map}
-use Rattle.std.proofs.Math.Seq.{get_or-append_seam, take-length}
-use Rattle.std.specs.List.{All, Contains}
-use Rattle.std.proofs.lemmas.List.Elements.{All-append, All-cons, All-contains, All-nil, All-push, All-weaker, Contains-append_left, Contains-append_right, Contains-push, Contains-push_cases}
+use Rattle.std.proofs.Math.Seq.{get_or-append_seam, take-append_seam, take-length}
+use Rattle.std.specs.List.{All, Contains, slice_get}
+use Rattle.std.proofs.lemmas.List.Elements.{All-contains, All-nil, All-push, All-weaker, Contains-append_left, Contains-push, Contains-push_cases}
 use Rattle.jr_cut.proofs.Spellings.{same_found}
 use Rattle.jr_cut.specs.Cut.{IsRaw}
 use Rattle.jr_cut.specs.declared.file_segments.CodedSpan.{CodedSpan}
@@ -12,28 +13,31 @@ use Rattle.jr_damage.specs.Coded.{IsSegmentOf}
 use Rattle.jr_scan.specs.IntervalValue.{IntervalValue}
 use Rattle.jr_scan.specs.Mcus.{HasDecoding, HasNoDecoding, HasLongestFront}
 use Rattle.jr_mend.specs.declared.choice.Choice.{Choice}
-use Rattle.jr_mend.specs.Choice.{Differ, HasAtMost, HasFewer, IsBest, IsChoice, IsChoiceOf, Split, ReportsDiffer}
-use Rattle.jr_mend.specs.Copies.{CopyValue, version_of, versions_of}
-use Rattle.jr_mend.proofs.ScanOfCopies.{same_interval}
+use Rattle.jr_mend.specs.Choice.{Differ, IsBest, IsChoiceOf, ReportsDiffer}
+use Rattle.jr_mend.specs.Copies.{CopyValue, versions_of}
+use Rattle.jr_mend.proofs.ScanOfCopies.{same_interval, version_of}
 
--- one version is chosen from itself alone
-abbrev pub one_split : (v : IntervalValue) → Split (v ∷ []) v 0
-one_split v = record { before = []; after = []; are = refl; number = refl }
+abbrev HasFewer : ℕ → IntervalValue → Type 0
+HasFewer mcus v = (k : ℕ) → HasLongestFront v k → k < mcus
 
-abbrev pub split_more : (vs : List IntervalValue) (chosen next : IntervalValue) (n : ℕ) → Split vs chosen n → Split (vs ++ next ∷ []) chosen n
-split_more vs chosen next n s = record {
-  before = s.before;
-  after = s.after ++ next ∷ [];
-  are = ap (λ (l : List IntervalValue). l ++ next ∷ []) s.are ∙ append_assoc s.before (chosen ∷ s.after) (next ∷ []);
-  number = s.number;
-}
+abbrev HasAtMost : ℕ → IntervalValue → Type 0
+HasAtMost mcus v = (k : ℕ) → HasLongestFront v k → k ≤ mcus
 
-abbrev pub split_last : (vs : List IntervalValue) (next : IntervalValue) (n : ℕ) → length vs ≡ n → Split (vs ++ next ∷ []) next n
-split_last vs next n long = record { before = vs; after = []; are = refl; number = sym long }
+-- a version keeps its number among more versions
+get_more : (vs : List IntervalValue) (next v : IntervalValue) (n : ℕ) → slice_get vs n ≡ Some v → slice_get (vs ++ next ∷ []) n ≡ Some v
+get_more [] next v n is = absurd cc
+get_more (x ∷ vs) next v zero is = is
+get_more (x ∷ vs) next v (suc n) is = get_more vs next v n is
 
-has_chosen : (vs : List IntervalValue) (chosen : IntervalValue) (n : ℕ) → Split vs chosen n → Contains vs chosen
-has_chosen vs chosen n s =
-    subst (λ (l : List IntervalValue). Contains l chosen) (sym s.are ∙ refl) (Contains-append_right s.before (chosen ∷ s.after) chosen (0, omega arith, refl))
+get_last : (vs : List IntervalValue) (next : IntervalValue) (n : ℕ) → length vs ≡ n → slice_get (vs ++ next ∷ []) n ≡ Some next
+get_last vs next n long = slice_get_read (vs ++ next ∷ []) (n + 1) n next (omega (arith, long, length-append vs (next ∷ []))) (omega arith) (sym (ap (λ (k : ℕ). get_or (vs ++ next ∷ []) k next) (sym long) ∙ get_or-append_seam vs next [] next))
+
+-- all others are before the last
+take_last : (vs : List IntervalValue) (next : IntervalValue) (n : ℕ) → length vs ≡ n → take n (vs ++ next ∷ []) ≡ vs
+take_last vs next n long = ap (λ (k : ℕ). take k (vs ++ next ∷ [])) (sym long) ∙ take-append_seam vs (next ∷ [])
+
+has_chosen : (vs : List IntervalValue) (chosen : IntervalValue) (n : ℕ) → slice_get vs n ≡ Some chosen → Contains vs chosen
+has_chosen vs chosen n is = (n, slice_get_within vs n chosen is, get_or_from_slice_get vs n chosen chosen is)
 
 -- two of them that differ still differ
 pub still_differ : (vs : List IntervalValue) (next : IntervalValue) → Differ vs → Differ (vs ++ next ∷ [])
@@ -111,15 +115,11 @@ module _ (vs : List IntervalValue) (chosen next : IntervalValue) (has : Contains
 at_most : (v : IntervalValue) (mcus : ℕ) → HasLongestFront v mcus → HasAtMost mcus v
 at_most v mcus has = λ n h. has.1.longest n h.0 h.1.front
 
--- a version before the last of some, by its number
-split_below : (vs : List IntervalValue) (v : IntervalValue) (n : ℕ) → Split vs v n → n < length vs
-split_below vs v n s = omega (arith, s.number, ap length s.are, length-append s.before (v ∷ s.after))
-
 -- the chosen version among those of the first k copies is that of the copy of its number
-module _ (copies : List CopyValue) (i k n : ℕ) (v : IntervalValue) (s : Split (versions_of (take k copies) i) v n) where
+module _ (copies : List CopyValue) (i k n : ℕ) (v : IntervalValue) (s : slice_get (versions_of (take k copies) i) n ≡ Some v) where
   below : n < length (take k copies)
   below =
-      let l = split_below (versions_of (take k copies) i) v n s in
+      let l = slice_get_within (versions_of (take k copies) i) n v s in
       omega (arith, l, length-map (take k copies) (version_of i))
 
   pub below_first : n < k
@@ -132,9 +132,7 @@ module _ (copies : List CopyValue) (i k n : ℕ) (v : IntervalValue) (s : Split 
   chosen_is c is =
       let f = version_of i in
       let first = take k copies in
-      let at_split : get_or (map f first) n (f c) ≡ v =
-      ap (λ (l : List IntervalValue). get_or l n (f c)) s.are ∙ ap (λ (m : ℕ). get_or (s.before ++ (v ∷ s.after)) m (f c)) s.number ∙ get_or-append_seam s.before v s.after (f c) in
-      ap f is ∙ ap f (sym (get_or-take k copies n c below_first)) ∙ sym (get_or-map f first n c) ∙ at_split
+      ap f is ∙ ap f (sym (get_or-take k copies n c below_first)) ∙ sym (get_or-map f first n c) ∙ get_or_from_slice_get (map f first) n v (f c) s
 
 -- the versions after one more copy
 pub versions_more : (copies : List CopyValue) (i k : ℕ) (c : CopyValue) → k < length copies → c ≡ get_or copies k c → versions_of (take (k + 1) copies) i ≡ versions_of (take k copies) i ++ version_of i c ∷ []
@@ -150,118 +148,95 @@ reports_more vs next false t back = λ d. t (back d)
 
 -- the choice among some versions and one more
 module _ (vs : List IntervalValue) (chosen next : IntervalValue) (b : Choice) (is : IsChoiceOf vs chosen b) where
-  abbrev after : List IntervalValue
-  after = is.split.after ++ next ∷ []
+  abbrev all : List IntervalValue
+  all = vs ++ next ∷ []
+
+  before_is : take b.copy all ≡ take b.copy vs
+  before_is =
+      let within = slice_get_within vs b.copy chosen is.is in
+      take-append-le b.copy vs (next ∷ []) (omega (arith, within))
 
   -- if the chosen one is sound it stays
   module _ (sound : b.front ≡ None) where
-    its_best : All HasNoDecoding is.split.before × HasDecoding chosen
-    its_best = subst (IsBest is.split.before is.split.after chosen) sound is.best
+    its_best : All HasNoDecoding (take b.copy vs) × HasDecoding chosen
+    its_best = subst (IsBest vs b.copy chosen) sound is.best
 
-    still_best : IsBest is.split.before after chosen b.front
-    still_best = subst (IsBest is.split.before after chosen) (sym sound) its_best
+    best_more : IsBest all b.copy chosen None
+    best_more = (subst (All HasNoDecoding) (sym before_is) its_best.0, its_best.1)
 
-    pub stays_sound : HasNoDecoding next → IsChoice (vs ++ next ∷ []) b
-    stays_sound none = record {
-      chosen = chosen;
-      is = record {
-        split = split_more vs chosen next b.copy is.split;
-        best = still_best;
-        differs = reports_more vs next b.differs is.differs (differ_before vs next none);
-      };
-    }
+    still_best : IsBest all b.copy chosen b.front
+    still_best = subst (IsBest all b.copy chosen) (sym sound) best_more
 
-    pub stays_same : chosen.bytes ≡ next.bytes → IsChoice (vs ++ next ∷ []) b
+    pub stays_sound : HasNoDecoding next → IsChoiceOf all chosen b
+    stays_sound none = record { is = get_more vs next chosen b.copy is.is; best = still_best; differs = reports_more vs next b.differs is.differs (differ_before vs next none) }
+
+    pub stays_same : chosen.bytes ≡ next.bytes → IsChoiceOf all chosen b
     stays_same same = record {
-      chosen = chosen;
-      is = record {
-        split = split_more vs chosen next b.copy is.split;
-        best = still_best;
-        differs = reports_more vs next b.differs is.differs (same_differ vs chosen next (has_chosen vs chosen b.copy is.split) its_best.1 same);
-      };
+      is = get_more vs next chosen b.copy is.is;
+      best = still_best;
+      differs = reports_more vs next b.differs is.differs (same_differ vs chosen next (has_chosen vs chosen b.copy is.is) its_best.1 same);
     }
 
-    pub stays_other : HasDecoding next → chosen.bytes ≢ next.bytes → IsChoice (vs ++ next ∷ []) (record { copy = b.copy; front = None; differs = true })
+    pub stays_other : HasDecoding next → chosen.bytes ≢ next.bytes → IsChoiceOf all chosen (record { copy = b.copy; front = None; differs = true })
     stays_other sound_next other = record {
-      chosen = chosen;
-      is = record {
-        split = split_more vs chosen next b.copy is.split;
-        best = its_best;
-        differs = record {
-          one = chosen;
-          other = next;
-          has_one = Contains-append_left vs (next ∷ []) chosen (has_chosen vs chosen b.copy is.split);
-          has_other = Contains-push vs next;
-          one_sound = its_best.1;
-          other_sound = sound_next;
-          are = other;
-        };
+      is = get_more vs next chosen b.copy is.is;
+      best = best_more;
+      differs = record {
+        one = chosen;
+        other = next;
+        has_one = Contains-append_left vs (next ∷ []) chosen (has_chosen vs chosen b.copy is.is);
+        has_other = Contains-push vs next;
+        one_sound = its_best.1;
+        other_sound = sound_next;
+        are = other;
       };
     }
 
   -- if it is damaged all of them are
   module _ (m : ℕ) (damaged : b.front ≡ Some m) where
-    longest : IsBest is.split.before is.split.after chosen (Some m)
-    longest = subst (IsBest is.split.before is.split.after chosen) damaged is.best
+    longest : IsBest vs b.copy chosen (Some m)
+    longest = subst (IsBest vs b.copy chosen) damaged is.best
 
-    all_damaged : All HasNoDecoding vs
-    all_damaged = subst (All HasNoDecoding) (sym is.split.are) longest.0
-
-    pub first_sound : (n : ℕ) → length vs ≡ n → HasDecoding next → IsChoice (vs ++ next ∷ []) (record { copy = n; front = None; differs = false })
+    pub first_sound : (n : ℕ) → length vs ≡ n → HasDecoding next → IsChoiceOf all next (record { copy = n; front = None; differs = false })
     first_sound n long sound = record {
-      chosen = next;
-      is = record {
-        split = split_last vs next n long;
-        best = (all_damaged, sound);
-        differs = one_differs vs next all_damaged;
-      };
+      is = get_last vs next n long;
+      best = (subst (All HasNoDecoding) (sym (take_last vs next n long)) longest.0, sound);
+      differs = one_differs vs next longest.0;
     }
 
     module _ (k : ℕ) (none : HasNoDecoding next) (has : HasLongestFront next k) where
-      none_sound : All HasNoDecoding (vs ++ next ∷ [])
-      none_sound = All-push HasNoDecoding vs next all_damaged none
+      none_sound : All HasNoDecoding all
+      none_sound = All-push HasNoDecoding vs next longest.0 none
 
-      at_most_all : All (HasAtMost m) vs
-      at_most_all =
-          let before = All-weaker (HasFewer m) (HasAtMost m) (λ v fewer. λ n h. omega (arith, fewer n h)) is.split.before longest.2 in
-          let rest = All-cons (HasAtMost m) chosen is.split.after (at_most chosen m longest.1) longest.3 in
-          subst (All (HasAtMost m)) (sym is.split.are) (All-append (HasAtMost m) is.split.before (chosen ∷ is.split.after) before rest)
-
-      pub longer_front : (n : ℕ) → length vs ≡ n → m < k → IsChoice (vs ++ next ∷ []) (record { copy = n; front = Some k; differs = false })
-      longer_front n long more = record {
-        chosen = next;
-        is = record {
-          split = split_last vs next n long;
-          best = (none_sound, has, All-weaker (HasAtMost m) (HasFewer k) (λ v most. λ j h. omega (arith, most j h, more)) vs at_most_all, All-nil (HasAtMost k));
-          differs = none_differ (vs ++ next ∷ []) none_sound;
-        };
-      }
+      pub longer_front : (n : ℕ) → length vs ≡ n → m < k → IsChoiceOf all next (record { copy = n; front = Some k; differs = false })
+      longer_front n long more =
+          let fewer = All-weaker (HasAtMost m) (HasFewer k) (λ v most. λ j h. omega (arith, most j h, more)) vs longest.3 in
+          let at_most_k = All-weaker (HasFewer k) (HasAtMost k) (λ v few. λ j h. omega (arith, few j h)) vs fewer in
+          record {
+            is = get_last vs next n long;
+            best = (none_sound, has, subst (All (HasFewer k)) (sym (take_last vs next n long)) fewer, All-push (HasAtMost k) vs next at_most_k (at_most next k has));
+            differs = none_differ all none_sound;
+          }
 
       next_at_most : k ≤ m → HasAtMost m next
       next_at_most few = λ n h. omega (arith, at_most next k has n h, few)
 
-      pub stays_longest : k ≤ m → IsChoice (vs ++ next ∷ []) b
-      stays_longest few =
-          let split = split_more vs chosen next b.copy is.split in
-          record {
-            chosen = chosen;
-            is = record {
-              split = split;
-              best = subst (IsBest is.split.before after chosen) (sym damaged)
-                  (subst (All HasNoDecoding) split.are none_sound, longest.1, longest.2, All-push (HasAtMost m) is.split.after next longest.3 (next_at_most few));
-              differs = reports_more vs next b.differs is.differs (differ_before vs next none);
-            };
-          }
+      pub stays_longest : k ≤ m → IsChoiceOf all chosen b
+      stays_longest few = record {
+        is = get_more vs next chosen b.copy is.is;
+        best = subst (IsBest all b.copy chosen) (sym damaged) (none_sound, longest.1, subst (All (HasFewer m)) (sym before_is) longest.2, All-push (HasAtMost m) vs next longest.3 (next_at_most few));
+        differs = reports_more vs next b.differs is.differs (differ_before vs next none);
+      }
 
   -- the chosen one again
-  stays_itself_by : (front : Option ℕ) → b.front ≡ front → chosen ≡ next → IsChoice (vs ++ next ∷ []) b
+  stays_itself_by : (front : Option ℕ) → b.front ≡ front → chosen ≡ next → IsChoiceOf all chosen b
   stays_itself_by None sound same = stays_same sound (ap (λ (v : IntervalValue). v.bytes) same)
   stays_itself_by (Some m) damaged same =
-      let none = All-contains HasNoDecoding vs chosen (all_damaged m damaged) (has_chosen vs chosen b.copy is.split) in
+      let none = All-contains HasNoDecoding vs chosen (longest m damaged).0 (has_chosen vs chosen b.copy is.is) in
       let has = (longest m damaged).1 in
       stays_longest m damaged m (subst HasNoDecoding same none) (subst (λ (v : IntervalValue). HasLongestFront v m) same has) (omega arith)
 
-  pub stays_itself : chosen ≡ next → IsChoice (vs ++ next ∷ []) b
+  pub stays_itself : chosen ≡ next → IsChoiceOf all chosen b
   stays_itself same = stays_itself_by b.front refl same
 
 -- copies with one header and equal bytes have one version
@@ -272,28 +247,14 @@ same_version one other i its span raw head a b =
     same_interval one.scan other.scan i head (same_found (slice_range other.file span.start span.end) (get_or one.scan.intervals i []) (get_or other.scan.intervals i []) is b.spelled.raw)
 
 -- the choice among one
-pub one_choice : (v : IntervalValue) (front : Option ℕ) → IfNone front (HasDecoding v) → OnSome front (HasNoDecoding v) → IfSome front (λ m. HasLongestFront v m) → IsChoice (v ∷ []) (record { copy = 0; front = front; differs = false })
-one_choice v None sound damaged front = record {
-  chosen = v;
-  is = record {
-    split = one_split v;
-    best = (All-nil HasNoDecoding, sound);
-    differs = one_differs [] v (All-nil HasNoDecoding);
-  };
-}
+pub one_choice : (v : IntervalValue) (front : Option ℕ) → IfNone front (HasDecoding v) → OnSome front (HasNoDecoding v) → IfSome front (λ m. HasLongestFront v m) → IsChoiceOf (v ∷ []) v (record { copy = 0; front = front; differs = false })
+one_choice v None sound damaged front = record { is = refl; best = (All-nil HasNoDecoding, sound); differs = one_differs [] v (All-nil HasNoDecoding) }
 one_choice v (Some m) sound damaged front =
     let none = All-push HasNoDecoding [] v (All-nil HasNoDecoding) damaged in
-    record {
-      chosen = v;
-      is = record {
-        split = one_split v;
-        best = (none, front, All-nil (HasFewer m), All-nil (HasAtMost m));
-        differs = none_differ (v ∷ []) none;
-      };
-    }
+    record { is = refl; best = (none, front, All-nil (HasFewer m), All-push (HasAtMost m) [] v (All-nil (HasAtMost m)) (at_most v m front)); differs = none_differ (v ∷ []) none }
 
 pub versions_long : (copies : List CopyValue) (i k : ℕ) → k < length copies → length (versions_of (take k copies) i) ≡ k
 versions_long copies i k lt = length-map (take k copies) (version_of i) ∙ length-take-le k copies (omega (arith, lt))
 
-pub chosen_in : (copies : List CopyValue) (i n : ℕ) (v : IntervalValue) (c : CopyValue) → Split (versions_of copies i) v n → c ≡ get_or copies n c → version_of i c ≡ v
-chosen_in copies i n v c s is = chosen_is copies i (length copies) n v (subst (λ (l : List IntervalValue). Split l v n) (sym (versions_all copies i)) s) c is
+pub chosen_in : (copies : List CopyValue) (i n : ℕ) (v : IntervalValue) (c : CopyValue) → slice_get (versions_of copies i) n ≡ Some v → c ≡ get_or copies n c → version_of i c ≡ v
+chosen_in copies i n v c s is = chosen_is copies i (length copies) n v (subst (λ (l : List IntervalValue). slice_get l n ≡ Some v) (sym (versions_all copies i)) s) c is

@@ -1,9 +1,9 @@
 -- The bytes of a file that is combined of copies, as one more run is chosen.
-use Rattle.std.proofs.Common.{◌≡◌, ◌∙◌, ℕ, suc, ◌<◌, ◌≤◌, ◌⊎◌, inl, inr, Bool, true, false, cond, List, [], ◌∷◌, ◌++◌, length, get_or, refl, sym, ap, subst, arith}
-use Rattle.std.specs.Prelude.{◌&&◌, nat_le}
+use Rattle.std.proofs.Common.{◌≡◌, ◌∙◌, ℕ, suc, ◌<◌, ◌≤◌, ◌⊎◌, inl, inr, Bool, true, false, cond, List, [], ◌∷◌, ◌++◌, length, get_or, Some, refl, ap, arith}
+use Rattle.std.specs.Prelude.{◌&&◌, nat_le, slice_get}
 use Rattle.std.proofs.lemmas.Bool.{cases_lt, cond-true, cond-false}
 use Rattle.jr_mend.specs.declared.byte_runs.ByteRun.{ByteRun}
-use Rattle.jr_mend.specs.Combined.{AreBetween, AreBytesByRuns, IsByteOf, copy_at}
+use Rattle.jr_mend.specs.Combined.{AreBetween, AreBytesByRuns, copy_at}
 use Rattle.jr_mend.specs.Copies.{CopyValue}
 
 abbrev is_in : ByteRun → ℕ → Bool
@@ -52,21 +52,21 @@ between_longer from to end [] is le = omega (arith, is, le)
 between_longer from to end (q ∷ runs) is le = (is.0, is.1, between_longer q.end to end runs is.2 le)
 
 -- the bytes in a further run are those of its copy, all others stay
-pub bytes_more : (copies : List CopyValue) (runs : List ByteRun) (r : ByteRun) (copy : CopyValue) (from to : ℕ) (old new : List ℕ) → AreBetween from to runs → to ≤ r.start → r.copy < length copies → copy ≡ get_or copies r.copy copy
+pub bytes_more : (copies : List CopyValue) (runs : List ByteRun) (r : ByteRun) (copy : CopyValue) (from to : ℕ) (old new : List ℕ) → AreBetween from to runs → to ≤ r.start → slice_get copies r.copy ≡ Some copy
     → length new ≡ length old → ((p : ℕ) → r.start ≤ p → p < r.end → get_or new p 0 ≡ get_or copy.file p 0) → ((p : ℕ) → (p < r.start) ⊎ (r.end ≤ p) → get_or new p 0 ≡ get_or old p 0)
     → AreBytesByRuns copies runs old → AreBytesByRuns copies (runs ++ r ∷ []) new
-bytes_more copies runs r copy from to old new between start there is long inner outer bytes p lt = elim (cases_lt p r.start) [
+bytes_more copies runs r copy from to old new between start is long inner outer bytes p lt = elim (cases_lt p r.start) [
   | inl less ↦ kept (inl less)
   | inr from_start ↦ elim (cases_lt p r.end) [
     | inl within ↦
         let after : r.start ≤ p = omega (arith, from_start) in
         let here = becomes from to runs r p between (omega (arith, start, after)) after within in
-        subst (λ (k : ℕ). IsByteOf copies k p (get_or new p 0)) (sym here) (record { there = there; copy = copy; is = is; byte = inner p after within })
+        (copy, ap (slice_get copies) here ∙ is, inner p after within)
     | inr past ↦ kept (inr (omega (arith, past)))
   ]
 ]
   where
-    kept : (p < r.start) ⊎ (r.end ≤ p) → IsByteOf copies (copy_at (runs ++ r ∷ []) p) p (get_or new p 0)
+    kept : (p < r.start) ⊎ (r.end ≤ p) → (c : CopyValue) × (slice_get copies (copy_at (runs ++ r ∷ []) p) ≡ Some c) × (get_or new p 0 ≡ get_or c.file p 0)
     kept out =
-        subst (λ (k : ℕ). IsByteOf copies k p (get_or new p 0)) (sym (stays runs r p out))
-        (subst (λ (b : ℕ). IsByteOf copies (copy_at runs p) p b) (sym (outer p out)) (bytes p (omega (arith, lt, long))))
+        let before = bytes p (omega (arith, lt, long)) in
+        (before.0, ap (slice_get copies) (stays runs r p out) ∙ before.1, outer p out ∙ before.2)

@@ -155,7 +155,7 @@ module _ (n size since k at : ℕ) (tail : List ℕ) (few : k < n) (small : All 
     | inl over ↦ last n size since k at tail EndOfImage (h, inr (inl (refl, over)))
     | inr on ↦ elim (cases_eq (k + 1) n) [
       | inl all ↦ last n size since k at tail EndOfImage (h, inr (inr all))
-      | inr further ↦ on_by EOI None h (inr (record { further = omega (arith, few, further); eoi = refl; on = on; none = refl }))
+      | inr further ↦ on_by EOI None h (inr (omega (arith, few, further), refl, on, refl))
     ]
   ]
   follows o (ExtraRestart at') h = restart h.0 h.1 h.2

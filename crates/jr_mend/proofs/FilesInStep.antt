@@ -1,5 +1,5 @@
 -- A file whose restart markers are in step keeps its scan.
-use Rattle.std.proofs.Common.{◌≡◌, ℕ, ◌-◌, inr, List, [], ◌++◌, length, drop, replicate, sym, ap, subst, ◌∙◌}
+use Rattle.std.proofs.Common.{◌≡◌, ℕ, ◌-◌, inr, List, [], ◌++◌, length, drop, replicate, sym, ap, subst, true, ◌∙◌}
 use Rattle.jr_cut.specs.declared.scan_end.ScanEnd.TheVariants.{EndOfImage}
 use Rattle.jr_cut.specs.Cut.{IsCut}
 use Rattle.jr_cut.proofs.CutLaw.{one_cut}
@@ -7,7 +7,8 @@ use Rattle.jr_head.specs.HeadValue.{HeadValue}
 use Rattle.jr_scan.specs.ScanValue.{IsSameScan, IsScanOf, ScanValue, intervals_of}
 use Rattle.jr_mend.specs.declared.resync.Resynced.{Resynced}
 use Rattle.jr_mend.specs.Reading.{IsResynced}
-use Rattle.jr_mend.specs.Resync.{HasNoFalseEnd, IsInStep}
+use Rattle.jr_mend.specs.Markers.{is_over, markers_in}
+use Rattle.jr_mend.specs.Resync.{IsInStep}
 use Rattle.jr_mend.proofs.InStep.{in_step_stays, over_by}
 
 -- the intervals by their segments: interval i is segment i, and further ones have no data
@@ -21,7 +22,7 @@ module _ (file : List ℕ) (h : HeadValue) (s : ScanValue) (same : s.head ≡ h)
   intervals_are : s.intervals ≡ filled h is.segments
   intervals_are = is.intervals ∙ ap (λ (x : HeadValue). filled x is.segments) same
 
-pub file_in_step_stays : (file : List ℕ) (h : HeadValue) (r : Resynced) (s t : ScanValue) → IsResynced file h r → s.head ≡ h → t.head ≡ h → IsScanOf file s → IsInStep s.ended → HasNoFalseEnd (intervals_of h) (drop h.scan_at file) → IsScanOf r.file.items t → IsSameScan s t
+pub file_in_step_stays : (file : List ℕ) (h : HeadValue) (r : Resynced) (s t : ScanValue) → IsResynced file h r → s.head ≡ h → t.head ≡ h → IsScanOf file s → IsInStep s.ended → ((k : ℕ) → is_over (intervals_of h) (markers_in 0 (drop k (drop h.scan_at file))) ≡ true) → IsScanOf r.file.items t → IsSameScan s t
 file_in_step_stays file h r s t is hs ht old in_step none new =
     let n = intervals_of h in
     let cut = cut_of file h s hs old in

@@ -5,22 +5,33 @@ use Rattle.std.proofs.Math.Seq.{drop-append_seam}
 use Rattle.std.proofs.lemmas.List.{length-map}
 use Rattle.jr_base.specs.declared.marker.TheConstants.{RST0}
 use Rattle.jr_cut.specs.declared.scan_end.ScanEnd.{ScanEnd}
-use Rattle.jr_cut.specs.declared.scan_end.ScanEnd.TheVariants.{EndOfImage, OtherMarker, OutOfStep, ExtraRestart, EndOfFile}
 use Rattle.jr_cut.specs.Cut.{CodedSegment, IsCut, IsEnding, IsRaw, marker, with_markers}
 use Rattle.jr_mend.specs.Markers.{is_over, markers_in, scan_bytes, scan_markers}
-use Rattle.jr_mend.specs.Resync.{AreParts, EndsResync, HasNoFalseEnd, IsInStep, IsResync, Part, PartsFrom, Resync, breaks_of, last_number, new_segments, part_bytes, since_after}
+use Rattle.jr_mend.specs.Resync.{AreParts, EndsResync, IsInStep, IsResync, Part, PartsFrom, Resync, breaks_of, new_segments, part_bytes, since_after}
 use Rattle.jr_mend.proofs.ResyncLaw.{one_resync}
 
 unfoldable pub parts_of : ℕ → List CodedSegment → List Part
 parts_of k [] = []
 parts_of k (p ∷ ps) = (record { more = p.more; code = RST0 + k % 8; missing = Some 0; raw = p.raw; bytes = p.bytes }) ∷ parts_of (suc k) ps
 
-are_parts : (n size since j k : ℕ) (tail : List ℕ) (ps : List CodedSegment) → j ≡ k → AllByRecursion (λ p. IsRaw p.raw p.bytes) ps → k + length ps < n → AreParts n size since j tail (parts_of k ps)
+are_parts : (n size since j k at : ℕ) (tail : List ℕ) (end : ScanEnd) (ps : List CodedSegment) → j ≡ k → AllByRecursion (λ p. IsRaw p.raw p.bytes) ps → k + length ps < n
+    → EndsResync n (k + length ps) (at + length (flat_map part_bytes (parts_of k ps))) tail end → AreParts n size since j at tail end (parts_of k ps)
 unfolding parts_of
-are_parts n size since j k tail [] same each few = tt
-are_parts n size since j k tail (p ∷ ps) same each few =
+are_parts n size since j k at tail end [] same each few ends =
+    let number : k + 0 ≡ j = omega (arith, same) in
+    let place : at + 0 ≡ at = omega arith in
+    subst (λ (o : ℕ). EndsResync n j o tail end) place (subst (λ (i : ℕ). EndsResync n i (at + 0) tail end) number ends)
+are_parts n size since j k at tail end (p ∷ ps) same each few ends =
+    let here = marker p.more (RST0 + k % 8) ++ p.raw in
+    let rest = flat_map part_bytes (parts_of (suc k) ps) in
     let due : k ≡ j + 0 = omega (arith, same) in
-    (inl (omega (arith, same, few), ap (λ (i : ℕ). RST0 + i % 8) due, inl refl), each.0, are_parts n size (since_after since (Some 0) (length (marker p.more (RST0 + k % 8) ++ p.raw))) (suc (j + 0)) (suc k) tail ps (omega (arith, same)) each.1 (omega (arith, few)))
+    let number : k + suc (length ps) ≡ suc k + length ps = omega arith in
+    let place : at + length (here ++ rest) ≡ at + length here + length rest = omega (arith, length-append here rest) in
+    let last = subst (λ (o : ℕ). EndsResync n (suc k + length ps) o tail end) place (subst (λ (i : ℕ). EndsResync n i (at + length (here ++ rest)) tail end) number ends) in (
+      inl (omega (arith, same, few), ap (λ (i : ℕ). RST0 + i % 8) due, inl refl),
+      each.0,
+      are_parts n size (since_after since (Some 0) (length here)) (suc (j + 0)) (suc k) (at + length here) tail end ps (omega (arith, same)) each.1 (omega (arith, few)) last,
+    )
 
 bytes_are : (k : ℕ) (ps : List CodedSegment) → flat_map part_bytes (parts_of k ps) ≡ with_markers k ps
 unfolding parts_of
@@ -39,18 +50,11 @@ unfolding parts_of
 breaks_are at j k [] = refl
 breaks_are at j k (p ∷ ps) = breaks_are (at + length (marker p.more (RST0 + k % 8) ++ p.raw)) (suc (j + 0)) (suc k) ps
 
-last_is : (j k : ℕ) (ps : List CodedSegment) → j ≡ k → last_number j (parts_of k ps) ≡ k + length ps
-unfolding parts_of
-last_is j k [] same = omega (arith, same)
-last_is j k (p ∷ ps) same = let e = last_is (suc (j + 0)) (suc k) ps (omega (arith, same)) in omega (arith, e)
-
 ends_in_step : (n k at : ℕ) (tail : List ℕ) (end : ScanEnd) → IsInStep end → (k + 1 ≡ n) ⊎ (is_over n (markers_in 0 tail) ≡ true) → IsEnding n k at tail end → EndsResync n k at tail end
-ends_in_step n k at tail EndOfFile in_step over h = (h, inl refl)
-ends_in_step n k at tail EndOfImage in_step (inl all) h = (h, inr (inr all))
-ends_in_step n k at tail EndOfImage in_step (inr over) h = (h, inr (inl (refl, over)))
-ends_in_step n k at tail (ExtraRestart o) in_step over h = (h, inr (inr h.3))
-ends_in_step n k at tail (OutOfStep f x o) in_step over h = absurd in_step
-ends_in_step n k at tail (OtherMarker c o) in_step over h = absurd in_step
+ends_in_step n k at tail end (inl file) over h = (h, inl file)
+ends_in_step n k at tail end (inr (inl image)) (inl all) h = (h, inr (inr all))
+ends_in_step n k at tail end (inr (inl image)) (inr over) h = (h, inr (inl (image, over)))
+ends_in_step n k at tail end (inr (inr extra)) over h = (h, inr (inr (subst (IsEnding n k at tail) extra.1 h).3))
 
 module _ (n at : ℕ) (bytes : List ℕ) (datas : List (List ℕ)) (end : ScanEnd) (c : IsCut n at bytes datas end) (in_step : IsInStep end) (over : (0 + length c.segments + 1 ≡ n) ⊎ (is_over n (markers_in 0 c.tail) ≡ true)) where
   abbrev pub parts : List Part
@@ -74,12 +78,11 @@ module _ (n at : ℕ) (bytes : List ℕ) (datas : List (List ℕ)) (end : ScanEn
       record {
         parts = parts;
         tail = c.tail;
-        are = are_parts n (scan_bytes (scan_markers n bytes)) (length c.raw) 0 0 c.tail c.segments refl c.each c.few;
+        are = are_parts n (scan_bytes (scan_markers n bytes)) (length c.raw) 0 0 (at + length c.raw) c.tail end c.segments refl c.each c.few here;
         spelled = ap (λ (x : List ℕ). x ++ c.tail) (sym spelled);
         raws = refl;
         datas = sym (datas_are 0 c.segments);
         breaks = sym (breaks_are (at + length c.raw) 0 0 c.segments);
-        ends = subst (λ (k : ℕ). EndsResync n k (at + length c.raw + length (flat_map part_bytes parts)) c.tail end) (sym (last_is 0 0 c.segments refl)) here;
       }
 
   pub resync : IsResync n at bytes whole
@@ -106,7 +109,7 @@ pub all_segments : (n at : ℕ) (bytes : List ℕ) (datas : List (List ℕ)) (en
 all_segments n at bytes datas end c all = omega (arith, all, ap length c.means, length-map c.segments (λ (p : CodedSegment). p.bytes))
 
 -- what ends them
-pub over_by : (n at : ℕ) (bytes : List ℕ) (datas : List (List ℕ)) (end : ScanEnd) (c : IsCut n at bytes datas end) → (length datas ≡ n) ⊎ HasNoFalseEnd n bytes → (0 + length c.segments + 1 ≡ n) ⊎ (is_over n (markers_in 0 c.tail) ≡ true)
+pub over_by : (n at : ℕ) (bytes : List ℕ) (datas : List (List ℕ)) (end : ScanEnd) (c : IsCut n at bytes datas end) → (length datas ≡ n) ⊎ ((k : ℕ) → is_over n (markers_in 0 (drop k bytes)) ≡ true) → (0 + length c.segments + 1 ≡ n) ⊎ (is_over n (markers_in 0 c.tail) ≡ true)
 over_by n at bytes datas end c (inl all) = inl (all_segments n at bytes datas end c all)
 over_by n at bytes datas end c (inr none) =
     let front = c.raw ++ with_markers 0 c.segments in

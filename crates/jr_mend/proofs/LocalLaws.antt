@@ -1,5 +1,6 @@
 -- Images of scans that have the same data in an interval.
-use Rattle.std.proofs.Common.{◌≡◌, ℕ, ◌+◌, ◌-◌, ◌*◌, ◌/◌, ◌<◌, ◌≤◌, inl, inr, List, get_or, min, cond, refl, sym, ap, subst, ◌∙◌, arith}
+use Rattle.std.proofs.Common.{◌≡◌, ℕ, ◌+◌, ◌-◌, ◌*◌, ◌/◌, ◌<◌, ◌≤◌, inl, inr, List, Some, get_or, min, cond, refl, sym, ap, subst, ◌∙◌, arith}
+use Rattle.std.specs.List.{slice_get}
 use Rattle.std.proofs.lemmas.Bool.{cases_lt}
 use Rattle.std.proofs.lemmas.Bool.Decides.{eqb_tells}
 use Rattle.std.proofs.lemmas.Nat.{div-add-mod', div-mul-add, mod_below}
@@ -21,7 +22,6 @@ use Rattle.jr_picture.specs.Headline.{Holds, Shows, ShowsFirst, mark_in}
 use Rattle.jr_picture.proofs.Pictures.{line_same, same_mark, same_shown}
 use Rattle.jr_mend.specs.declared.choice.Choice.{Choice}
 use Rattle.jr_mend.specs.Copies.{CopyValue}
-use Rattle.jr_mend.specs.Locality.{AreTwoImages, HasSameData, HasSameDataAt, IsTakenFrom}
 use Rattle.jr_mend.specs.Mended.{HasChosen}
 use Rattle.jr_mend.proofs.Choices.{chosen_in}
 use Rattle.jr_mend.proofs.ScanOfCopies.{same_interval}
@@ -68,23 +68,20 @@ row_of_line line a m some =
     div-div-eq-div-mul (line * a) m (8 * a) ∙ ap (λ (d : ℕ). line * a / d) whole ∙ mul-div-mul_right line (8 * m) some
 
 -- a line that intervals with the same data touch
-module _ (s t : ScanValue) (n : ℕ) (k m : List Mark) (f g : ℕ → ℕ → ℕ → ℕ) (are : AreTwoImages s t n k m f g) where
+module _ (s t : ScanValue) (n : ℕ) (k m : List Mark) (f g : ℕ → ℕ → ℕ → ℕ) (head : s.head ≡ t.head) (one : ShowsFirst s n k f) (other : ShowsFirst t n m g) where
   abbrev h : HeadValue
   h = s.head
-
-  pub shared : (i : ℕ) → HasSameData s t i → interval_of s i ≡ interval_of t i
-  shared i same = same_interval s t i are.head same
 
   touched : (line mcu : ℕ) → line < h.height → mcu < mcus_of h → mcu / mcus_across h ≡ line / (8 * vertical_max h) → Touches h (interval_number h mcu) line
   touched line mcu high inside row =
       let own = own_mcu h mcu inside in
       record { mcu = mcu; from = own.0; before = own.1; covers = record { row = row; within = high } }
 
-  pub same_line : (line : ℕ) → line < h.height → HasSameDataAt s t line → line_of h f line ≡ line_of t.head g line
+  pub same_line : (line : ℕ) → line < h.height → ((i : ℕ) → Touches h i line → (interval_of s i).bytes ≡ (interval_of t i).bytes) → line_of h f line ≡ line_of t.head g line
   same_line line high same =
-      line_same h are.one.valid f g line
+      line_same h one.valid f g line
       (λ c x p left.
-      let l = are.one.valid in
+      let l = one.valid in
       let down = vertical_of h c in
       let q = sampled_at h c l p in
       let deep : 0 < 8 * vertical_max h = omega (arith, l.components.down) in
@@ -97,8 +94,8 @@ module _ (s t : ScanValue) (n : ℕ) (k m : List Mark) (f g : ℕ → ℕ → �
       let inside : (spot_of h c x y).mcu < mcus_of h = in_image row (mcus_across h) (x / (8 * horizontal_of h c)) (mcus_down h) (spot_of h c x y).mcu mcu column (in_div_ceil row h.height (8 * vertical_max h) deep (omega (arith, high, div-add-mod' line (8 * vertical_max h)))) in
       let there : (spot_of h c x y).mcu / mcus_across h ≡ row = ap (λ (j : ℕ). j / mcus_across h) mcu ∙ div-mul-add row (mcus_across h) (x / (8 * horizontal_of h c)) column in
       let i = interval_number h (spot_of h c x y).mcu in
-      one_sample s t n i k m f g (shared i (same i (touched line (spot_of h c x y).mcu high inside there))) are.one are.other c x y (record { component = p; column = left; line = top; interval = refl }))
-      ∙ ap (λ (v : HeadValue). line_of v g line) are.head
+      one_sample s t n i k m f g (same_interval s t i head (same i (touched line (spot_of h c x y).mcu high inside there))) one other c x y (record { component = p; column = left; line = top; interval = refl }))
+      ∙ ap (λ (v : HeadValue). line_of v g line) head
     where
       in_image : (row across column down mcu : ℕ) → mcu ≡ row * across + column → column < across → row < down → mcu < across * down
       in_image row across column down mcu is left high =
@@ -108,12 +105,11 @@ module _ (s t : ScanValue) (n : ℕ) (k m : List Mark) (f g : ℕ → ℕ → �
           omega (arith, is, left, next, more, turned)
 
 -- an interval of a mended file is that of the copy from which it is taken
-pub taken_from : (copies : List CopyValue) (choices : List Choice) (file : List ℕ) (m : HasChosen copies choices file) (i : ℕ) (copy : CopyValue) → IsTakenFrom copies choices i copy → interval_of m.scan i ≡ interval_of copy.scan i
-taken_from copies choices file m i copy is =
-    let within = slice_get_within choices i is.choice is.chosen in
-    let choice : get_or choices i is.choice ≡ is.choice = get_or_from_slice_get choices i is.choice is.choice is.chosen in
-    let chosen = m.chosen i is.choice within in
-    let number : (get_or choices i is.choice).copy ≡ is.choice.copy = ap (λ (c : Choice). c.copy) choice in
-    let there : get_or copies is.choice.copy copy ≡ copy = get_or_from_slice_get copies is.choice.copy copy copy is.is in
-    let at : copy ≡ get_or copies (get_or choices i is.choice).copy copy = sym there ∙ ap (λ (j : ℕ). get_or copies j copy) (sym number) in
-    sym (chosen_in copies i (get_or choices i is.choice).copy (interval_of m.scan i) copy chosen.split at)
+pub taken_from : (copies : List CopyValue) (choices : List Choice) (file : List ℕ) (m : HasChosen copies choices file) (i : ℕ) (c : Choice) (copy : CopyValue) → slice_get choices i ≡ Some c → slice_get copies c.copy ≡ Some copy → interval_of m.scan i ≡ interval_of copy.scan i
+taken_from copies choices file m i c copy chosen is =
+    let there : get_or choices i c ≡ c = get_or_from_slice_get choices i c c chosen in
+    let choice = m.chosen i c (slice_get_within choices i c chosen) in
+    let copy_is : slice_get copies (get_or choices i c).copy ≡ Some copy = ap (λ (d : Choice). slice_get copies d.copy) there ∙ is in
+    let number = (get_or choices i c).copy in
+    let at : copy ≡ get_or copies number copy = sym (get_or_from_slice_get copies number copy copy copy_is) in
+    sym (chosen_in copies i number (interval_of m.scan i) copy choice.is at)

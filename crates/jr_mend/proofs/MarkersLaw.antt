@@ -13,25 +13,29 @@ use Rattle.jr_mend.specs.declared.markers.ScanMarker.{ScanMarker}
 use Rattle.jr_mend.specs.declared.outlook.Outlook.{Outlook}
 use Rattle.jr_mend.specs.Reading.{IsOutlook}
 use Rattle.jr_mend.specs.declared.markers.TheConstants.{TEM}
-use Rattle.jr_mend.specs.Markers.{as_read, counted_back, goes_on, has_end, is_back, is_false_end, is_marker, is_over, is_restart, markers_in, most_missing, restarts, scan_markers}
+use Rattle.jr_mend.specs.Markers.{as_read, counted_back, goes_on, has_end, is_back, is_false_end, is_over, is_restart, markers_in, most_missing, restarts, scan_markers}
 use Rattle.jr_mend.specs.Resync.{MeansIn}
 use Rattle.jr_mend.proofs.ResyncLaw.{means, not_end}
 
+-- FF and a byte other than 00 and FF are a marker
+abbrev pub is_marker : (prefix code : ℕ) → Bool
+is_marker prefix code = (prefix == PREFIX) && (not (code == 0) && not (code == PREFIX))
+
 -- ---- bytes without markers
 
--- one that is not FF
+-- a byte other than FF, before others
 pub plain_on : (before b : ℕ) (bytes : List ℕ) → b ≢ PREFIX → markers_in before (b ∷ bytes) ≡ markers_in (suc before) bytes
 plain_on before b [] ne = refl
 plain_on before b (c ∷ bytes) ne =
     cond-false (is_marker b c) _ _ (and_left (b == PREFIX) (not (c == 0) && not (c == PREFIX)) (ne_eqb b PREFIX ne))
 
--- FF before others
+-- FF bytes before an FF
 pub fill_on : (before more : ℕ) (bytes : List ℕ) → markers_in before (replicate more PREFIX ++ (PREFIX ∷ bytes)) ≡ markers_in (before + more) (PREFIX ∷ bytes)
 fill_on before zero bytes = let e : before ≡ before + 0 = omega arith in ap (λ (n : ℕ). markers_in n (PREFIX ∷ bytes)) e
 fill_on before (suc zero) bytes = let e : suc before ≡ before + 1 = omega arith in ap (λ (n : ℕ). markers_in n (PREFIX ∷ bytes)) e
 fill_on before (suc (suc more)) bytes = let e : suc before + suc more ≡ before + suc (suc more) = omega arith in fill_on (suc before) (suc more) bytes ∙ ap (λ (n : ℕ). markers_in n (PREFIX ∷ bytes)) e
 
--- they alone
+-- FF bytes alone
 pub fill_none : (before more : ℕ) → markers_in before (replicate more PREFIX) ≡ []
 fill_none before zero = refl
 fill_none before (suc zero) = refl
@@ -72,9 +76,9 @@ marker_on before more code bytes some other =
     let is : is_marker PREFIX code ≡ true = and_from (PREFIX == PREFIX) (not (code == 0) && not (code == PREFIX)) refl (and_from (not (code == 0)) (not (code == PREFIX)) (ap not (ne_eqb code 0 some)) (ap not (ne_eqb code PREFIX other))) in
     ap (markers_in before) begins ∙ fill_on before more (code ∷ bytes) ∙ cond-true (is_marker PREFIX code) _ _ is
 
--- ---- the first marker in bytes that are read
+-- ---- the first marker in the bytes of a slice
 
--- a segment up to an offset, and FF after it
+-- a segment ends at an offset, and `fill` FF bytes follow it
 pub record Found (bytes : List ℕ) (at fill : ℕ) : Type 0 where
   pub within : at ≤ length bytes
   pub data' : (found : List ℕ) × IsRaw (take at bytes) found
@@ -82,7 +86,7 @@ pub record Found (bytes : List ℕ) (at fill : ℕ) : Type 0 where
   pub full : take fill (drop at bytes) ≡ replicate fill PREFIX
   pub next : fill < length (drop at bytes) → get_or (drop at bytes) fill 0 ≢ PREFIX
 
--- as they are read from a slice
+-- the same, by what the code finds in the slice after the segment
 pub found_in : (bytes : List ℕ) (at fill : ℕ) → at ≤ length bytes → (found : List ℕ) × IsRaw (take at bytes) found → IsStop (drop at bytes) → take fill (take (length bytes - at) (drop at bytes)) ≡ replicate fill PREFIX
     → (fill < length (take (length bytes - at) (drop at bytes)) → get_or (take (length bytes - at) (drop at bytes)) fill 0 ≢ PREFIX) → Found bytes at fill
 found_in bytes at fill within data' stop full next =
@@ -125,7 +129,7 @@ module _ (bytes : List ℕ) (at fill : ℕ) (f : Found bytes at fill) where
 
 -- ---- the bytes before the first marker
 
--- the same markers, but for the bytes before the first of them
+-- two lists of markers are equal but for the number of bytes before the first
 abbrev Rebased : List ScanMarker → List ScanMarker → Type 0
 Rebased [] [] = Unit {0}
 Rebased [] (y ∷ ys) = ⊥
@@ -142,7 +146,7 @@ rebased a b (x ∷ c ∷ bytes) = go (is_marker x c) (rebased (suc a) (suc b) (c
     go true others = (refl, refl)
     go false others = others
 
--- so are they as they are read
+-- they remain so if TEM replaces each EOI after which the scan continues
 read_rebased : (n : ℕ) (xs ys : List ScanMarker) → Rebased xs ys → Rebased (as_read n xs) (as_read n ys)
 read_rebased n [] [] r = tt
 read_rebased n [] (y ∷ ys) r = absurd r
@@ -171,26 +175,26 @@ outlook_same n (x ∷ xs) (y ∷ ys) o r is =
 pub outlook_rebased : (n before : ℕ) (bytes : List ℕ) (o : Outlook) → IsOutlook n (as_read n (markers_in before bytes)) o → IsOutlook n (scan_markers n bytes) o
 outlook_rebased n before bytes o is = outlook_same n (as_read n (markers_in before bytes)) (scan_markers n bytes) o (read_rebased n (markers_in before bytes) (markers_in 0 bytes) (rebased before 0 bytes)) is
 
--- ---- a marker as it is read
+-- ---- the first marker of a scan
 
--- another than EOI
+-- a marker other than EOI
 pub other_on : (n before more code : ℕ) (bytes : List ℕ) → code ≢ 0 → code ≢ PREFIX → code ≢ EOI → as_read n (markers_in before (marker more code ++ bytes)) ≡ (record { before = before + more; code = code }) ∷ scan_markers n bytes
 other_on n before more code bytes some other goes =
     let m : ScanMarker = record { before = before + more; code = code } in
     let no : is_false_end n m (markers_in 0 bytes) ≡ false = and_left (code == EOI) (goes_on n (markers_in 0 bytes)) (ne_eqb code EOI goes) in
     ap (as_read n) (marker_on before more code bytes some other) ∙ ap (λ (x : ScanMarker). x ∷ scan_markers n bytes) (cond-false (is_false_end n m (markers_in 0 bytes)) _ m no)
 
--- what comes after EOI says whether it is the end
+-- the bytes after an EOI decide whether the scan is over
 pub over_is : (n before more : ℕ) (bytes : List ℕ) → is_over n (markers_in before (marker more EOI ++ bytes)) ≡ not (goes_on n (markers_in 0 bytes))
 over_is n before more bytes = ap (is_over n) (marker_on before more EOI bytes (λ e. omega arith) (λ e. omega arith))
 
--- EOI after which the scan continues
+-- TEM replaces an EOI after which the scan continues
 pub false_end_on : (n before more : ℕ) (bytes : List ℕ) → goes_on n (markers_in 0 bytes) ≡ true → as_read n (markers_in before (marker more EOI ++ bytes)) ≡ (record { before = before + more; code = TEM }) ∷ scan_markers n bytes
 false_end_on n before more bytes on =
     let m : ScanMarker = record { before = before + more; code = EOI } in
     ap (as_read n) (marker_on before more EOI bytes (λ e. omega arith) (λ e. omega arith)) ∙ ap (λ (x : ScanMarker). x ∷ scan_markers n bytes) (cond-true (is_false_end n m (markers_in 0 bytes)) _ m on)
 
--- a marker that does not end the scan, as it is read
+-- a marker that does not end the scan, or the TEM that replaces it, and the markers after it
 pub record Passed (n code : ℕ) (bytes rest : List ℕ) : Type 0 where
   pub m : ScanMarker
   pub first : scan_markers n bytes ≡ m ∷ scan_markers n rest
@@ -208,12 +212,12 @@ passed_on n size since k more code missing bytes rest spelled (inl x) =
       goes = goes;
     }
 passed_on n size since k more code missing bytes rest spelled (inr p) =
-    let here : bytes ≡ marker more EOI ++ rest = spelled ∙ ap (λ (c : ℕ). marker more c ++ rest) p.eoi in
-    let over : not (goes_on n (markers_in 0 rest)) ≡ false = sym (over_is n 0 more rest) ∙ ap (λ (b : List ℕ). is_over n (markers_in 0 b)) (sym here) ∙ p.on in
+    let here : bytes ≡ marker more EOI ++ rest = spelled ∙ ap (λ (c : ℕ). marker more c ++ rest) p.1 in
+    let over : not (goes_on n (markers_in 0 rest)) ≡ false = sym (over_is n 0 more rest) ∙ ap (λ (b : List ℕ). is_over n (markers_in 0 b)) (sym here) ∙ p.2 in
     record {
       m = record { before = 0 + more; code = TEM };
       first = ap (scan_markers n) here ∙ false_end_on n 0 more rest (not_false (goes_on n (markers_in 0 rest)) over);
-      restart = ap is_restart (sym p.eoi);
+      restart = ap is_restart (sym p.1);
       goes = λ e. omega (arith, e);
     }
   where
@@ -236,7 +240,7 @@ pub counted_few : (n : ℕ) (ms : List ScanMarker) → counted_back n ms ≤ res
 counted_few n [] = omega arith
 counted_few n (m ∷ ms) = few_ends (counted_back n ms) (restarts ms) (m.code == EOI) (is_restart m.code) ((counted_back n ms == restarts ms) && is_back n (suc (restarts ms)) m.code) (counted_few n ms)
 
--- markers that are counted back, of which `run` are before these
+-- the number of markers that are counted back, if `run` markers in step come before these
 abbrev pub joined : (n run : ℕ) → List ScanMarker → ℕ
 joined n run ms = cond (counted_back n ms == restarts ms) (run + restarts ms) (counted_back n ms)
 
@@ -248,7 +252,7 @@ joined_none n ms = elim (cases_Bool (counted_back n ms == restarts ms)) [
   | inr other ↦ sym (cond-false (counted_back n ms == restarts ms) (0 + restarts ms) (counted_back n ms) other)
 ]
 
--- the next restart marker is counted back, or not
+-- one more restart marker, which is counted back or is not
 module _ (n run : ℕ) (m : ScanMarker) (ms : List ScanMarker) (on : (m.code == EOI) ≡ false) (restart : is_restart m.code ≡ true) where
   abbrev all : Bool
   all = counted_back n ms == restarts ms
@@ -261,7 +265,7 @@ module _ (n run : ℕ) (m : ScanMarker) (ms : List ScanMarker) (on : (m.code == 
       let r : (is_restart m.code && (all && is_back n (suc (restarts ms)) m.code)) ≡ b = ap (λ (x : Bool). x && (all && is_back n (suc (restarts ms)) m.code)) restart ∙ e in
       cond-false (m.code == EOI) _ _ on ∙ ap (λ (x : Bool). cond x (suc (counted_back n ms)) (counted_back n ms)) r
 
-  -- this marker is not counted back, so the number stays that of the markers after it, which are not all counted back
+  -- if this marker is not counted back, the number is that of the markers after it, and not all of them are counted back
   stays : counted_back n (m ∷ ms) ≡ counted_back n ms → joined n run (m ∷ ms) ≡ counted_back n ms
   stays e =
       let less : counted_back n (m ∷ ms) ≡ restarts (m ∷ ms) → ⊥ = λ z. omega (arith, z, e, some, counted_few n ms) in
@@ -284,7 +288,7 @@ module _ (n run : ℕ) (m : ScanMarker) (ms : List ScanMarker) (on : (m.code == 
       let is : is_back n (suc (restarts ms)) m.code ≡ false = subst (λ (x : ℕ). is_back n x m.code ≡ false) some back in
       stays (counts false (and_right all (is_back n (suc (restarts ms)) m.code) is)) ∙ joined_none n ms
 
--- what is known after a restart marker
+-- the outlook after a restart marker
 module _ (n : ℕ) (m : ScanMarker) (ms : List ScanMarker) (goes : m.code ≢ EOI) (restart : is_restart m.code ≡ true) where
   abbrev is_counted : Bool
   is_counted = (counted_back n ms == restarts ms) && is_back n (suc (restarts ms)) m.code

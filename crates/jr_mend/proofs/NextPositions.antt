@@ -1,13 +1,46 @@
 -- The segments of an interval in copies, one copy after the other.
-use Rattle.std.proofs.Common.{◌≡◌, ◌≢◌, ℕ, ◌+◌, ◌<◌, ◌≤◌, List, [], ◌∷◌, ◌++◌, length, get_or, set, sym, ap, subst, ◌∙◌, inl, inr, get_or-set_other, get_or-set_same, arith}
+use Rattle.std.proofs.Common.{◌≡◌, ◌≢◌, ℕ, zero, suc, ◌+◌, ◌<◌, ◌≤◌, List, [], ◌∷◌, ◌++◌, length, get_or, set, sym, ap, subst, ◌∙◌, inl, inr, get_or-set_other, get_or-set_same, arith}
+use Rattle.std.specs.List.{All, AllZip}
 use Rattle.std.proofs.lemmas.Bool.{cases_lt}
 use Rattle.std.proofs.lemmas.List.{get_or_default}
+use Rattle.std.proofs.lemmas.Slice.Zip.{AllZip-long}
 use Rattle.std.proofs.Math.ListN.{get_or-append}
 use Rattle.std.proofs.Math.Seq.{get_or-append_seam}
 use Rattle.jr_cut.specs.declared.file_segments.Segment.{Segment}
 use Rattle.jr_damage.specs.Coded.{IsNextAt, IsSegmentOf}
 use Rattle.jr_scan.specs.ScanValue.{ScanValue}
-use Rattle.jr_mend.specs.Copies.{AreSegmentsOf, CopyValue, HasSpace}
+use Rattle.jr_mend.specs.Copies.{CopyValue}
+
+-- in each copy the segment is that of interval i
+abbrev pub AreSegmentsOf : List CopyValue → List Segment → (i : ℕ) → Type 0
+AreSegmentsOf copies segments i = AllZip (λ (c : CopyValue) (s : Segment). IsSegmentOf c.file c.scan i s.bytes) copies segments
+
+-- in each copy interval i is next after the segment
+abbrev pub AreNextAt : List CopyValue → List Segment → (i : ℕ) → Type 0
+AreNextAt copies segments i = AllZip (λ (c : CopyValue) (s : Segment). IsNextAt c.file c.scan i s.next) copies segments
+
+-- a buffer of this capacity has space for the data of any segment of the copies
+abbrev pub HasSpace : List CopyValue → ℕ → Type 0
+HasSpace copies capacity = All (λ (c : CopyValue). length c.file < capacity) copies
+
+-- what holds for the elements of two lists holds by their index
+pub zip_at : {A B : Type 0} (R : A → B → Type 0) (xs : List A) (ys : List B) (k : ℕ) (d : A) (e : B) → AllZip R xs ys → k < length xs → R (get_or xs k d) (get_or ys k e)
+zip_at R [] ys k d e all lt = absurd (omega (arith, lt))
+zip_at R (x ∷ xs) [] k d e all lt = absurd all
+zip_at R (x ∷ xs) (y ∷ ys) zero d e all lt = all.0
+zip_at R (x ∷ xs) (y ∷ ys) (suc k) d e all lt = zip_at R xs ys k d e all.1 (omega (arith, lt))
+
+pub zip_from : {A B : Type 0} (R : A → B → Type 0) (xs : List A) (ys : List B) → length ys ≡ length xs → ((k : ℕ) (d : A) (e : B) → k < length xs → R (get_or xs k d) (get_or ys k e)) → AllZip R xs ys
+zip_from R [] [] long each = tt
+zip_from R [] (y ∷ ys) long each = absurd (omega (arith, long))
+zip_from R (x ∷ xs) [] long each = absurd (omega (arith, long))
+zip_from R (x ∷ xs) (y ∷ ys) long each = (each 0 x y (omega arith), zip_from R xs ys (omega (arith, long)) (λ k d e lt. each (suc k) d e (omega (arith, lt))))
+
+pub segments_long : (copies : List CopyValue) (segments : List Segment) (i : ℕ) → AreSegmentsOf copies segments i → length segments ≡ length copies
+segments_long copies segments i are = AllZip-long (λ (c : CopyValue) (s : Segment). IsSegmentOf c.file c.scan i s.bytes) copies segments are
+
+pub nexts_long : (copies : List CopyValue) (segments : List Segment) (i : ℕ) → AreNextAt copies segments i → length segments ≡ length copies
+nexts_long copies segments i are = AllZip-long (λ (c : CopyValue) (s : Segment). IsNextAt c.file c.scan i s.next) copies segments are
 
 pub next_within : (file : List ℕ) (s : ScanValue) (i at : ℕ) → IsNextAt file s i at → at ≤ length file
 next_within file s i at (inl b) = b.within
@@ -32,7 +65,8 @@ abbrev pub no_segment : Segment
 no_segment = record { bytes = record { start = 0; end = 0 }; next = 0 }
 
 pub segment_of : (copies : List CopyValue) (segments : List Segment) (i k : ℕ) (copy : CopyValue) → AreSegmentsOf copies segments i → k < length copies → copy ≡ get_or copies k copy → IsSegmentOf copy.file copy.scan i (get_or segments k no_segment).bytes
-segment_of copies segments i k copy are lt is = subst (λ (d : CopyValue). IsSegmentOf d.file d.scan i (get_or segments k no_segment).bytes) (sym is) (are.each k copy no_segment lt)
+segment_of copies segments i k copy are lt is =
+    subst (λ (d : CopyValue). IsSegmentOf d.file d.scan i (get_or segments k no_segment).bytes) (sym is) (zip_at (λ (c : CopyValue) (s : Segment). IsSegmentOf c.file c.scan i s.bytes) copies segments k copy no_segment are lt)
 
 pub space_of : (copies : List CopyValue) (capacity k : ℕ) (copy : CopyValue) → HasSpace copies capacity → k < length copies → copy ≡ get_or copies k copy → length copy.file < capacity
 space_of copies capacity k copy space lt is = subst (λ (d : CopyValue). length d.file < capacity) (sym is) (space k copy lt)

@@ -15,7 +15,7 @@ use Rattle.jr_scan.specs.ScanValue.{intervals_of}
 use Rattle.jr_cut.specs.declared.breaks.Break.{Break}
 use Rattle.jr_mend.specs.declared.following.FoundMarker.{FoundMarker}
 use Rattle.jr_mend.specs.declared.reading.Reading.{Reading}
-use Rattle.jr_mend.specs.Reading.{Becomes, HasResyncedTo, IsOutlook, IsTooLong, Meets, Takes}
+use Rattle.jr_mend.specs.Reading.{Becomes, HasResyncedTo, IsOutlook, IsTooLong, Meets}
 use Rattle.jr_mend.specs.declared.markers.ScanMarker.{ScanMarker}
 use Rattle.jr_mend.specs.Markers.{as_read, is_restart, markers_in, scan_bytes, scan_markers}
 use Rattle.jr_mend.specs.Resync.{EndsResync, IsResync, Part, PartsFrom, Resync, break_at, new_segments, number_after, part_bytes, since_after}
@@ -86,7 +86,7 @@ module _ (file : List ℕ) (h : HeadValue) (w : Reading) (len : ℕ) (s : Segmen
       ap (scan_markers (intervals_of h)) (split_at file h.scan_at len) ∙ ap (as_read (intervals_of h)) (raw_on 0 first s.found (drop (h.scan_at + len) file) s.raw) ∙ ap (λ (k : ℕ). as_read (intervals_of h) (markers_in (0 + length first) (drop k file))) (sym at) in
       outlook_rebased (intervals_of h) (0 + length first) (drop w.at file) w.outlook (subst (λ (ms : List ScanMarker). IsOutlook (intervals_of h) ms w.outlook) here is)
 
-  pub read_first : 0 < intervals_of h → w.k ≡ 0 → w.at ≡ h.scan_at + len → w.breaks.items ≡ [] → w.since ≡ len → w.outlook.size ≡ whole → IsOutlook (intervals_of h) (scan_markers (intervals_of h) (drop h.scan_at file)) w.outlook → w.bytes.items ≡ take h.scan_at file ++ joined_intervals (first ∷ []) → HasResyncedTo file h w
+  pub read_first : 0 < intervals_of h → w.k ≡ 0 → w.at ≡ h.scan_at + len → w.breaks.items ≡ [] → w.since ≡ len → w.outlook.size ≡ whole → IsOutlook (intervals_of h) (scan_markers (intervals_of h) (drop h.scan_at file)) w.outlook → w.bytes.items ≡ take h.scan_at file ++ joined_intervals 0 (first ∷ []) → HasResyncedTo file h w
   read_first some number at none since size is written = record {
     raws = first ∷ [];
     datas = s.found ∷ [];
@@ -108,10 +108,25 @@ near_after : (since : ℕ) (a : Option ℕ) (low at part : ℕ) → low + since 
 near_after since None low at part near = omega (arith, near)
 near_after since (Some d) low at part near = omega (arith, near)
 
+-- the marker and the bytes after it are read, and these are written if they are a segment's
+pub record Takes (file : List ℕ) (old new : Reading) (m : FoundMarker) : Type 0 where
+  pub len : ℕ
+  pub data' : List ℕ
+  pub raw : IsRaw (take len (drop (old.at + m.length) file)) data'
+  pub within : old.at + m.length + len ≤ length file
+  pub at : new.at ≡ old.at + m.length + len
+  pub stop : IsStop (drop new.at file)
+  pub number : new.k ≡ number_after old.k m.missing
+  pub since : new.since ≡ since_after old.since m.missing (m.length + len)
+  pub size : new.outlook.size ≡ old.outlook.size
+  pub outlook : (n : ℕ) (x : ScanMarker) (ms : List ScanMarker) → is_restart x.code ≡ is_restart m.code → x.code ≢ EOI → IsOutlook n (x ∷ ms) old.outlook → IsOutlook n ms new.outlook
+  pub breaks : new.breaks.items ≡ old.breaks.items ++ break_at old.at old.k m.code m.missing
+  pub written : (front : List ℕ) (raws : List (List ℕ)) → length raws ≡ suc old.k → old.bytes.items ≡ front ++ joined_intervals 0 raws → new.bytes.items ≡ front ++ joined_intervals 0 (raws ++ new_segments m.missing (take len (drop (old.at + m.length) file)))
+
 pub takes : (file : List ℕ) (old mid v : Reading) (m : FoundMarker) (len : ℕ) (raw : List ℕ) → Segment file (mid.at + m.length) len → mid.breaks.items ≡ old.breaks.items ++ break_at old.at old.k m.code m.missing → mid.bytes ≡ old.bytes → mid.k ≡ old.k → mid.since ≡ old.since → mid.outlook ≡ old.outlook → mid.at ≡ old.at
     → v.at ≡ mid.at + m.length + len → v.k ≡ number_after mid.k m.missing → v.since ≡ since_after mid.since m.missing (m.length + len) → v.outlook.size ≡ mid.outlook.size
     → ((n : ℕ) (x : ScanMarker) (ms : List ScanMarker) → is_restart x.code ≡ is_restart m.code → x.code ≢ EOI → IsOutlook n (x ∷ ms) mid.outlook → IsOutlook n ms v.outlook) → v.breaks ≡ mid.breaks
-    → ((front : List ℕ) (raws : List (List ℕ)) → length raws ≡ suc mid.k → mid.bytes.items ≡ front ++ joined_intervals raws → v.bytes.items ≡ front ++ joined_intervals (raws ++ new_segments m.missing raw))
+    → ((front : List ℕ) (raws : List (List ℕ)) → length raws ≡ suc mid.k → mid.bytes.items ≡ front ++ joined_intervals 0 raws → v.bytes.items ≡ front ++ joined_intervals 0 (raws ++ new_segments m.missing raw))
     → raw ≡ take len (drop (mid.at + m.length) file) → Takes file old v m
 takes file old mid v m len raw s noted bytes number since outlook at place next counted size ahead breaks written slice =
     let start : mid.at + m.length ≡ old.at + m.length = ap (λ a. a + m.length) at in
@@ -131,7 +146,7 @@ takes file old mid v m len raw s noted bytes number since outlook at place next 
       breaks = ap (λ b. b.items) breaks ∙ noted;
       written = λ front raws count e.
           written front raws (count ∙ ap suc (sym number)) (ap (λ b. b.items) bytes ∙ e)
-          ∙ ap (λ (x : List ℕ). front ++ joined_intervals (raws ++ new_segments m.missing x)) (slice ∙ ap (λ (a : ℕ). take len (drop a file)) start);
+          ∙ ap (λ (x : List ℕ). front ++ joined_intervals 0 (raws ++ new_segments m.missing x)) (slice ∙ ap (λ (a : ℕ). take len (drop a file)) start);
     }
 
 module _ (file : List ℕ) (h : HeadValue) (w v : Reading) (m : FoundMarker) (has : HasResyncedTo file h w) (meets : Meets (intervals_of h) w.outlook.size w.since w.k (drop w.at file) m) (t : Takes file w v m) where

@@ -10,7 +10,7 @@ use Rattle.jr_cut.proofs.CutLaw.{ending_stop, marker_stop, one_cut, run_of, same
 use Rattle.jr_cut.proofs.Cuts.{cut_last, raw_none, run_end, run_same}
 use Rattle.jr_cut.proofs.Spellings.{one_stop}
 use Rattle.jr_mend.specs.Markers.{is_over, markers_in, most_missing, scan_bytes, scan_markers}
-use Rattle.jr_mend.specs.Resync.{AreParts, EndsResync, IsAhead, IsMeaning, IsResync, MeansIn, Part, PartsFrom, Resync, breaks_of, last_number, new_segments, number_after, part_bytes, since_after}
+use Rattle.jr_mend.specs.Resync.{AreParts, EndsResync, IsAhead, IsMeaning, IsResync, MeansIn, Part, PartsFrom, Resync, breaks_of, new_segments, number_after, part_bytes, since_after}
 
 -- ---- the meaning of a marker
 
@@ -42,9 +42,9 @@ not_end n k limit code (Some d) m = λ e. omega (arith, e, m.1)
 
 same_meaning_in : (n size since k : ℕ) (bytes : List ℕ) (code : ℕ) (a b : Option ℕ) → MeansIn n size since k bytes code a → MeansIn n size since k bytes code b → a ≡ b
 same_meaning_in n size since k bytes code a b (inl x) (inl y) = same_meaning n k (most_missing n size since k (scan_markers n bytes)) code a b x y
-same_meaning_in n size since k bytes code a b (inl x) (inr q) = absurd (not_end n k (most_missing n size since k (scan_markers n bytes)) code a x q.eoi)
-same_meaning_in n size since k bytes code a b (inr p) (inl y) = absurd (not_end n k (most_missing n size since k (scan_markers n bytes)) code b y p.eoi)
-same_meaning_in n size since k bytes code a b (inr p) (inr q) = p.none ∙ sym q.none
+same_meaning_in n size since k bytes code a b (inl x) (inr q) = absurd (not_end n k (most_missing n size since k (scan_markers n bytes)) code a x q.1)
+same_meaning_in n size since k bytes code a b (inr p) (inl y) = absurd (not_end n k (most_missing n size since k (scan_markers n bytes)) code b y p.1)
+same_meaning_in n size since k bytes code a b (inr p) (inr q) = p.3 ∙ sym q.3
 
 -- it has a code, and is not after the last segment
 pub record Means (n k code : ℕ) : Type 0 where
@@ -53,7 +53,7 @@ pub record Means (n k code : ℕ) : Type 0 where
   pub further : k + 1 < n
 
 pub means : (n size since k : ℕ) (bytes : List ℕ) (code : ℕ) (a : Option ℕ) → MeansIn n size since k bytes code a → Means n k code
-means n size since k bytes code a (inr p) = record { some = omega (arith, p.eoi); less = omega (arith, p.eoi); further = p.further }
+means n size since k bytes code a (inr p) = record { some = omega (arith, p.1); less = omega (arith, p.1); further = p.0 }
 means n size since k bytes code None (inl m) = record { some = m.0; less = m.1; further = m.3 }
 means n size since k bytes code (Some d) (inl m) = record { some = omega (arith, m.1); less = omega (arith, m.1); further = omega (arith, m.0) }
 
@@ -71,7 +71,7 @@ not_ended n size since k at code a tail end ends meaning m = go ends.1
 
     goes : MeansIn n size since k tail code a → code ≡ EOI → is_over n (markers_in 0 tail) ≡ true → ⊥
     goes (inl x) eoi over = not_end n k (most_missing n size since k (scan_markers n tail)) code a x eoi
-    goes (inr p) eoi over = not_both (is_over n (markers_in 0 tail)) over p.on
+    goes (inr p) eoi over = not_both (is_over n (markers_in 0 tail)) over p.2
 
     go : (end ≡ EndOfFile) ⊎ (((end ≡ EndOfImage) × (is_over n (markers_in 0 tail) ≡ true)) ⊎ (k + 1 ≡ n)) → ⊥
     go (inl e) =
@@ -81,50 +81,6 @@ not_ended n size since k at code a tail end ends meaning m = go ends.1
         let h = subst (λ (x : ScanEnd). IsEnding n k at tail x) e.0 ends.0 in
         goes meaning (same_marker tail code EOI m h not_ff (λ z. omega arith)) e.1
     go (inr (inr e)) = omega (arith, e, has.further)
-
--- ---- the parts
-
-first_part : (p : Part) (ps : List Part) (tail : List ℕ) → flat_map part_bytes (p ∷ ps) ++ tail ≡ marker p.more p.code ++ (p.raw ++ (flat_map part_bytes ps ++ tail))
-first_part p ps tail = append_assoc (part_bytes p) (flat_map part_bytes ps) tail ∙ append_assoc (marker p.more p.code) p.raw (flat_map part_bytes ps ++ tail)
-
-parts_stop : (n size since k : ℕ) (ps : List Part) (tail : List ℕ) → AreParts n size since k tail ps → IsStop tail → IsStop (flat_map part_bytes ps ++ tail)
-parts_stop n size since k [] tail are stop = stop
-parts_stop n size since k (p ∷ ps) tail are stop =
-    let has = means n size since k (flat_map part_bytes (p ∷ ps) ++ tail) p.code p.missing are.0 in
-    marker_stop _ p.code (p.more, p.raw ++ (flat_map part_bytes ps ++ tail), first_part p ps tail) (λ e. omega (arith, e, has.some)) (λ e. omega (arith, e, has.less))
-
-same_parts : (n size since k at o : ℕ) (ps qs : List Part) (s t : List ℕ) (a b : ScanEnd) → AreParts n size since k s ps → AreParts n size since k t qs → EndsResync n (last_number k ps) at s a → EndsResync n (last_number k qs) o t b
-    → flat_map part_bytes ps ++ s ≡ flat_map part_bytes qs ++ t → (ps ≡ qs) × (s ≡ t)
-same_parts n size since k at o [] [] s t a b hp hq ha hb e = (refl, e)
-same_parts n size since k at o [] (q ∷ qs) s t a b hp hq ha hb e = absurd (not_ended n size since k at q.code q.missing s a ha (subst (λ (z : List ℕ). MeansIn n size since k z q.code q.missing) (sym e) hq.0) (q.more, _, e ∙ first_part q qs t))
-same_parts n size since k at o (p ∷ ps) [] s t a b hp hq ha hb e = absurd (not_ended n size since k o p.code p.missing t b hb (subst (λ (z : List ℕ). MeansIn n size since k z p.code p.missing) e hp.0) (p.more, _, sym e ∙ first_part p ps s))
-same_parts n size since k at o (p ∷ ps) (q ∷ qs) s t a b hp hq ha hb e =
-    let x = p.raw ++ (flat_map part_bytes ps ++ s) in
-    let y = q.raw ++ (flat_map part_bytes qs ++ t) in
-    let here = flat_map part_bytes (q ∷ qs) ++ t in
-    let means_p : MeansIn n size since k here p.code p.missing = subst (λ (z : List ℕ). MeansIn n size since k z p.code p.missing) e hp.0 in
-    let has_p = means n size since k here p.code p.missing means_p in
-    let has_q = means n size since k here q.code q.missing hq.0 in
-    let mark = run_same (suc p.more) (suc q.more) p.code q.code x y (λ z. omega (arith, z, has_p.less)) (λ z. omega (arith, z, has_q.less))
-    (sym (run_of p.more p.code x) ∙ sym (first_part p ps s) ∙ e ∙ first_part q qs t ∙ run_of q.more q.code y) in
-    let more : p.more ≡ q.more = omega (arith, mark.0) in
-    let code : p.code ≡ q.code = mark.1 in
-    let missing : p.missing ≡ q.missing = same_meaning_in n size since k here q.code p.missing q.missing (subst (λ (c : ℕ). MeansIn n size since k here c p.missing) code means_p) hq.0 in
-    let number = number_after k p.missing in
-    let ends = subst (λ (m : Option ℕ). EndsResync n (last_number (number_after k m) qs) o t b) (sym missing) hb in
-    let after_p = since_after since p.missing (length (part_bytes p)) in
-    let after_q = since_after since q.missing (length (part_bytes q)) in
-    let stop_s = parts_stop n size after_p number ps s hp.2 (ending_stop n (last_number number ps) at s a ha.0) in
-    let stop_t = parts_stop n size after_q (number_after k q.missing) qs t hq.2 (ending_stop n (last_number number qs) o t b ends.0) in
-    let data' = one_stop p.raw p.bytes q.raw q.bytes (flat_map part_bytes ps ++ s) (flat_map part_bytes qs ++ t) hp.1 hq.1 mark.2 stop_s stop_t in
-    let bytes : p.bytes ≡ q.bytes = sym data'.0 in
-    let raw : p.raw ≡ q.raw = append_cancel_right p.raw q.raw (flat_map part_bytes qs ++ t) (ap (λ (z : List ℕ). p.raw ++ z) (sym data'.1) ∙ mark.2) in
-    let one : Part = record { more = p.more; code = p.code; missing = p.missing; raw = p.raw; bytes = p.bytes } in
-    let other : Part = record { more = q.more; code = q.code; missing = q.missing; raw = q.raw; bytes = q.bytes } in
-    let equal : one ≡ other = cc (more, code, missing, raw, bytes) in
-    let are : AreParts n size after_p number t qs = subst (λ (r : Part). AreParts n size (since_after since r.missing (length (part_bytes r))) (number_after k r.missing) t qs) (sym equal) hq.2 in
-    let others = same_parts n size after_p number at o ps qs s t a b hp.2 are ha ends data'.1 in
-    (ap (λ (r : Part). r ∷ ps) equal ∙ ap (λ (rs : List Part). q ∷ rs) others.0, others.1)
 
 -- ---- the end
 
@@ -150,26 +106,64 @@ same_end n k at tail a b ha hb = (one_cut 1 at tail ([] ∷ []) ([] ∷ []) a b 
     cut : (end : ScanEnd) → EndsResync n k at tail end → IsCut 1 at tail ([] ∷ []) end
     cut end h = cut_last 1 0 at tail [] [] tail end (omega arith) raw_none refl (subst (λ (o : ℕ). IsEnding 1 0 o tail end) here (to_one n k at tail end h))
 
+-- ---- the parts
+
+first_part : (p : Part) (ps : List Part) (tail : List ℕ) → flat_map part_bytes (p ∷ ps) ++ tail ≡ marker p.more p.code ++ (p.raw ++ (flat_map part_bytes ps ++ tail))
+first_part p ps tail = append_assoc (part_bytes p) (flat_map part_bytes ps) tail ∙ append_assoc (marker p.more p.code) p.raw (flat_map part_bytes ps ++ tail)
+
+parts_stop : (n size since k at : ℕ) (ps : List Part) (tail : List ℕ) (end : ScanEnd) → AreParts n size since k at tail end ps → IsStop (flat_map part_bytes ps ++ tail)
+parts_stop n size since k at [] tail end are = ending_stop n k at tail end are.0
+parts_stop n size since k at (p ∷ ps) tail end are =
+    let has = means n size since k (flat_map part_bytes (p ∷ ps) ++ tail) p.code p.missing are.0 in
+    marker_stop _ p.code (p.more, p.raw ++ (flat_map part_bytes ps ++ tail), first_part p ps tail) (λ e. omega (arith, e, has.some)) (λ e. omega (arith, e, has.less))
+
+same_parts : (n size since k at : ℕ) (ps qs : List Part) (s t : List ℕ) (a b : ScanEnd) → AreParts n size since k at s a ps → AreParts n size since k at t b qs → flat_map part_bytes ps ++ s ≡ flat_map part_bytes qs ++ t → (ps ≡ qs) × (s ≡ t) × (a ≡ b)
+same_parts n size since k at [] [] s t a b hp hq e = (refl, e, same_end n k at t a b (subst (λ (x : List ℕ). EndsResync n k at x a) e hp) hq)
+same_parts n size since k at [] (q ∷ qs) s t a b hp hq e = absurd (not_ended n size since k at q.code q.missing s a hp (subst (λ (z : List ℕ). MeansIn n size since k z q.code q.missing) (sym e) hq.0) (q.more, _, e ∙ first_part q qs t))
+same_parts n size since k at (p ∷ ps) [] s t a b hp hq e = absurd (not_ended n size since k at p.code p.missing t b hq (subst (λ (z : List ℕ). MeansIn n size since k z p.code p.missing) e hp.0) (p.more, _, sym e ∙ first_part p ps s))
+same_parts n size since k at (p ∷ ps) (q ∷ qs) s t a b hp hq e =
+    let x = p.raw ++ (flat_map part_bytes ps ++ s) in
+    let y = q.raw ++ (flat_map part_bytes qs ++ t) in
+    let here = flat_map part_bytes (q ∷ qs) ++ t in
+    let means_p : MeansIn n size since k here p.code p.missing = subst (λ (z : List ℕ). MeansIn n size since k z p.code p.missing) e hp.0 in
+    let has_p = means n size since k here p.code p.missing means_p in
+    let has_q = means n size since k here q.code q.missing hq.0 in
+    let mark = run_same (suc p.more) (suc q.more) p.code q.code x y (λ z. omega (arith, z, has_p.less)) (λ z. omega (arith, z, has_q.less))
+    (sym (run_of p.more p.code x) ∙ sym (first_part p ps s) ∙ e ∙ first_part q qs t ∙ run_of q.more q.code y) in
+    let more : p.more ≡ q.more = omega (arith, mark.0) in
+    let code : p.code ≡ q.code = mark.1 in
+    let missing : p.missing ≡ q.missing = same_meaning_in n size since k here q.code p.missing q.missing (subst (λ (c : ℕ). MeansIn n size since k here c p.missing) code means_p) hq.0 in
+    let stop_s = parts_stop n size (since_after since p.missing (length (part_bytes p))) (number_after k p.missing) (at + length (part_bytes p)) ps s a hp.2 in
+    let stop_t = parts_stop n size (since_after since q.missing (length (part_bytes q))) (number_after k q.missing) (at + length (part_bytes q)) qs t b hq.2 in
+    let data' = one_stop p.raw p.bytes q.raw q.bytes (flat_map part_bytes ps ++ s) (flat_map part_bytes qs ++ t) hp.1 hq.1 mark.2 stop_s stop_t in
+    let bytes : p.bytes ≡ q.bytes = sym data'.0 in
+    let raw : p.raw ≡ q.raw = append_cancel_right p.raw q.raw (flat_map part_bytes qs ++ t) (ap (λ (z : List ℕ). p.raw ++ z) (sym data'.1) ∙ mark.2) in
+    let one : Part = record { more = p.more; code = p.code; missing = p.missing; raw = p.raw; bytes = p.bytes } in
+    let other : Part = record { more = q.more; code = q.code; missing = q.missing; raw = q.raw; bytes = q.bytes } in
+    let equal : one ≡ other = cc (more, code, missing, raw, bytes) in
+    let are = subst (λ (r : Part). AreParts n size (since_after since r.missing (length (part_bytes r))) (number_after k r.missing) (at + length (part_bytes r)) t b qs) (sym equal) hq.2 in
+    let others = same_parts n size (since_after since p.missing (length (part_bytes p))) (number_after k p.missing) (at + length (part_bytes p)) ps qs s t a b hp.2 are data'.1 in
+    (ap (λ (r : Part). r ∷ ps) equal ∙ ap (λ (rs : List Part). q ∷ rs) others.0, others.1, others.2)
+
 -- ---- the whole
 
 module _ (n size since k at : ℕ) (bytes : List ℕ) (r s : Resync) (f : PartsFrom n size since k at bytes r) (g : PartsFrom n size since k at bytes s) where
-  same : (f.parts ≡ g.parts) × (f.tail ≡ g.tail)
-  same = same_parts n size since k (at + length (flat_map part_bytes f.parts)) (at + length (flat_map part_bytes g.parts)) f.parts g.parts f.tail g.tail r.end s.end f.are g.are f.ends g.ends (sym f.spelled ∙ g.spelled)
+  same : (f.parts ≡ g.parts) × (f.tail ≡ g.tail) × (r.end ≡ s.end)
+  same = same_parts n size since k at f.parts g.parts f.tail g.tail r.end s.end f.are g.are (sym f.spelled ∙ g.spelled)
 
   pub one_following : r ≡ s
   one_following =
       let raws : r.raws ≡ s.raws = f.raws ∙ ap (flat_map (λ (p : Part). new_segments p.missing p.raw)) same.0 ∙ sym g.raws in
       let datas : r.datas ≡ s.datas = f.datas ∙ ap (flat_map (λ (p : Part). new_segments p.missing p.bytes)) same.0 ∙ sym g.datas in
       let breaks : r.breaks ≡ s.breaks = f.breaks ∙ ap (breaks_of at k) same.0 ∙ sym g.breaks in
-      let ends = subst (λ (ps : List Part). EndsResync n (last_number k ps) (at + length (flat_map part_bytes ps)) g.tail r.end) same.0 (subst (λ (x : List ℕ). EndsResync n (last_number k f.parts) (at + length (flat_map part_bytes f.parts)) x r.end) same.1 f.ends) in
-      let end : r.end ≡ s.end = same_end n (last_number k g.parts) (at + length (flat_map part_bytes g.parts)) g.tail r.end s.end ends g.ends in
+      let end = same.2 in
       let one : Resync = record { raws = r.raws; datas = r.datas; breaks = r.breaks; end = r.end } in
       let other : Resync = record { raws = s.raws; datas = s.datas; breaks = s.breaks; end = s.end } in
       let here : one ≡ other = cc (raws, datas, breaks, end) in
       here
 
 following_stop : (n size since k at : ℕ) (bytes : List ℕ) (r : Resync) → PartsFrom n size since k at bytes r → IsStop bytes
-following_stop n size since k at bytes r f = subst IsStop (sym f.spelled) (parts_stop n size since k f.parts f.tail f.are (ending_stop n (last_number k f.parts) (at + length (flat_map part_bytes f.parts)) f.tail r.end f.ends.0))
+following_stop n size since k at bytes r f = subst IsStop (sym f.spelled) (parts_stop n size since k at f.parts f.tail r.end f.are)
 
 pub one_resync : (n at : ℕ) (bytes : List ℕ) (a b : Resync) → IsResync n at bytes a → IsResync n at bytes b → a ≡ b
 one_resync n at bytes a b x y =

@@ -1,5 +1,5 @@
 -- A file whose restart markers are in step and whose scan ends with EOI becomes one with its own scan.
-use Rattle.std.proofs.Common.{◌≡◌, ℕ, suc, ◌+◌, ◌-◌, ◌%◌, ◌≤◌, ◌⊎◌, true, inl, List, [], ◌∷◌, ◌++◌, length, map, take, drop, replicate, refl, sym, ap, subst, ◌∙◌, length-append, arith}
+use Rattle.std.proofs.Common.{◌≡◌, ℕ, suc, ◌+◌, ◌-◌, ◌%◌, ◌≤◌, ◌⊎◌, true, inl, inr, List, [], ◌∷◌, ◌++◌, length, map, take, drop, replicate, refl, sym, ap, subst, ◌∙◌, length-append, arith}
 use Rattle.std.specs.List.{AllByRecursion, AllZip, flat_map}
 use Rattle.std.proofs.lemmas.List.{drop_at, length-take-le}
 use Rattle.std.proofs.Math.ListN.{length-drop}
@@ -17,7 +17,7 @@ use Rattle.jr_scan.specs.ScanValue.{IsScanOf, ScanValue, intervals_of}
 use Rattle.jr_mend.specs.Markers.{is_over, markers_in}
 use Rattle.jr_mend.specs.Reading.{Becomes, IsFileInStep}
 use Rattle.jr_mend.specs.Resync.{Part, Resync, new_segments}
-use Rattle.jr_mend.specs.Splice.{after_markers, coded_intervals, spliced}
+use Rattle.jr_mend.specs.Splice.{coded_intervals, joined_intervals, spliced}
 use Rattle.jr_mend.proofs.InStep.{after, all_segments, parts_of, resync, whole}
 use Rattle.jr_mend.proofs.Splices.{coded_cut, scan_is}
 
@@ -39,13 +39,13 @@ as_many k [] = refl
 as_many k (p ∷ ps) = ap suc (as_many (suc k) ps)
 
 -- without fill bytes before markers they are at most as long
-no_longer : (j k : ℕ) (ps : List CodedSegment) → length (after_markers k (raws_of j ps)) ≤ length (with_markers k ps)
+no_longer : (j k : ℕ) (ps : List CodedSegment) → length (joined_intervals (suc k) (raws_of j ps)) ≤ length (with_markers k ps)
 unfolding parts_of
 no_longer j k [] = omega arith
 no_longer j k (p ∷ ps) =
     let old = marker p.more (RST0 + k % 8) in
     let new = marker 0 (RST0 + k % 8) in
-    let rest = after_markers (suc k) (raws_of (suc j) ps) in
+    let rest = joined_intervals (suc (suc k)) (raws_of (suc j) ps) in
     omega (arith, no_longer (suc j) (suc k) ps, length-append old (p.raw ++ with_markers (suc k) ps), length-append p.raw (with_markers (suc k) ps), length-append new (p.raw ++ rest), length-append p.raw rest, length_marker p.more (RST0 + k % 8), length_marker 0 (RST0 + k % 8))
 
 module _ (file : List ℕ) (s : ScanValue) (head : HeadOf file s.head) (is : IsScanOf file s) (in_step : IsFileInStep file s.head) where
@@ -65,7 +65,7 @@ module _ (file : List ℕ) (s : ScanValue) (head : HeadOf file s.head) (is : IsS
   over = inl (all_segments n h.scan_at bytes in_step.0 EndOfImage c in_step.2)
 
   abbrev segments : Resync
-  segments = whole n h.scan_at bytes in_step.0 EndOfImage c tt over
+  segments = whole n h.scan_at bytes in_step.0 EndOfImage c (inr (inl refl)) over
 
   abbrev new : List ℕ
   new = spliced file h segments.raws
@@ -82,7 +82,7 @@ module _ (file : List ℕ) (s : ScanValue) (head : HeadOf file s.head) (is : IsS
   unfolding after
   small =
       let tail = c.ends in
-      let rest = after_markers 0 (raws_of 0 c.segments) in
+      let rest = joined_intervals 1 (raws_of 0 c.segments) in
       let eoi = marker 0 EOI in
       let end = ap length tail.2 ∙ length-append (marker tail.0 EOI) tail.1 in
       omega (
@@ -107,7 +107,7 @@ module _ (file : List ℕ) (s : ScanValue) (head : HeadOf file s.head) (is : IsS
   unfolding after
   become = record {
     segments = segments;
-    is = resync n h.scan_at bytes in_step.0 EndOfImage c tt over;
+    is = resync n h.scan_at bytes in_step.0 EndOfImage c (inr (inl refl)) over;
     bytes = refl;
     breaks = refl;
     ended = refl;

@@ -5,7 +5,7 @@ use Rattle.jr_cut.specs.declared.scan_end.ScanEnd.{ScanEnd}
 use Rattle.jr_cut.specs.Cut.{IsRaw}
 use Rattle.jr_cut.proofs.Cuts.{raw_none}
 use Rattle.jr_cut.specs.declared.breaks.Break.{Break}
-use Rattle.jr_mend.specs.Resync.{EndsResync, MeansIn, Part, PartsFrom, Resync, break_at, last_number, new_segments, number_after, part_bytes, since_after}
+use Rattle.jr_mend.specs.Resync.{EndsResync, MeansIn, Part, PartsFrom, Resync, break_at, new_segments, number_after, part_bytes, since_after}
 
 -- ---- segments of a part
 
@@ -18,7 +18,7 @@ count_after k (Some d) raws raw e = omega (arith, e, length-append raws (replica
     long (suc d) = ap suc (long d)
 
 pub few_after : (n size since k : ℕ) (bytes : List ℕ) (code : ℕ) (a : Option ℕ) → MeansIn n size since k bytes code a → number_after k a < n
-few_after n size since k bytes code a (inr p) = omega (arith, p.further, ap (number_after k) p.none)
+few_after n size since k bytes code a (inr p) = omega (arith, p.0, ap (number_after k) p.3)
 few_after n size since k bytes code None (inl m) = omega (arith, m.3)
 few_after n size since k bytes code (Some d) (inl m) = omega (arith, m.0)
 
@@ -45,18 +45,7 @@ break_some at k code (suc d) some = refl
 
 -- the end alone
 pub parts_last : (n size since k at : ℕ) (tail : List ℕ) (end : ScanEnd) → EndsResync n k at tail end → PartsFrom n size since k at tail (record { raws = []; datas = []; breaks = []; end = end })
-parts_last n size since k at tail end ends =
-    let here : at ≡ at + 0 = omega arith in
-    record {
-      parts = [];
-      tail = tail;
-      are = tt;
-      spelled = refl;
-      raws = refl;
-      datas = refl;
-      breaks = refl;
-      ends = subst (λ (o : ℕ). EndsResync n k o tail end) here ends;
-    }
+parts_last n size since k at tail end ends = record { parts = []; tail = tail; are = ends; spelled = refl; raws = refl; datas = refl; breaks = refl }
 
 -- one more part before others
 abbrev pub with_part : (at k : ℕ) → Part → Resync → Resync
@@ -66,7 +55,6 @@ pub parts_next : (n size since k at : ℕ) (p : Part) (bytes rest : List ℕ) (r
 parts_next n size since k at p bytes rest r means raw e f =
     let here = part_bytes p in
     let after = flat_map part_bytes f.parts in
-    let place : at + length here + length after ≡ at + length (here ++ after) = omega (arith, length-append here after) in
     let spelled : bytes ≡ (here ++ after) ++ f.tail = e ∙ ap (λ (x : List ℕ). here ++ x) f.spelled ∙ sym (append_assoc here after f.tail) in
     record {
       parts = p ∷ f.parts;
@@ -76,5 +64,4 @@ parts_next n size since k at p bytes rest r means raw e f =
       raws = ap (λ (x : List (List ℕ)). new_segments p.missing p.raw ++ x) f.raws;
       datas = ap (λ (x : List (List ℕ)). new_segments p.missing p.bytes ++ x) f.datas;
       breaks = ap (λ (x : List Break). break_at at k p.code p.missing ++ x) f.breaks;
-      ends = subst (λ (o : ℕ). EndsResync n (last_number (number_after k p.missing) f.parts) o f.tail r.end) place f.ends;
     }

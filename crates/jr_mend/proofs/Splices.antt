@@ -10,53 +10,47 @@ use Rattle.jr_head.specs.HeadValue.{HeadValue}
 use Rattle.jr_head.specs.Heads.{HeadOf}
 use Rattle.jr_head.proofs.HeadStays.{scan_within}
 use Rattle.jr_scan.specs.ScanValue.{IsScanOf, intervals_of, scan_of_segments}
-use Rattle.jr_mend.specs.Splice.{after_markers, coded_intervals, joined_intervals, marker_before, spliced}
+use Rattle.jr_mend.specs.Splice.{coded_intervals, joined_intervals, marker_before, spliced}
 
 -- ---- one more interval
 
-after_more : (k : ℕ) (raws : List (List ℕ)) (raw : List ℕ) → after_markers k (raws ++ raw ∷ []) ≡ after_markers k raws ++ (marker 0 (RST0 + (k + length raws) % 8) ++ raw)
-after_more k [] raw =
+pub joined_more : (k : ℕ) (raws : List (List ℕ)) (raw : List ℕ) → joined_intervals k (raws ++ raw ∷ []) ≡ joined_intervals k raws ++ (marker_before (k + length raws) ++ raw)
+joined_more k [] raw =
     let here : k ≡ k + 0 = omega arith in
-    ap (λ (i : ℕ). marker 0 (RST0 + i % 8) ++ (raw ++ [])) here ∙ ap (λ (x : List ℕ). marker 0 (RST0 + (k + 0) % 8) ++ x) (append-nil raw)
-after_more k (r ∷ rs) raw =
-    let m = marker 0 (RST0 + k % 8) in
-    let last = λ (i : ℕ). marker 0 (RST0 + i % 8) ++ raw in
+    ap (λ (i : ℕ). marker_before i ++ (raw ++ [])) here ∙ ap (λ (x : List ℕ). marker_before (k + 0) ++ x) (append-nil raw)
+joined_more k (r ∷ rs) raw =
+    let m = marker_before k in
+    let last = λ (i : ℕ). marker_before i ++ raw in
     let number : suc k + length rs ≡ k + suc (length rs) = omega arith in
-    ap (λ (x : List ℕ). m ++ (r ++ x)) (after_more (suc k) rs raw ∙ ap (λ (i : ℕ). after_markers (suc k) rs ++ last i) number)
-    ∙ ap (λ (x : List ℕ). m ++ x) (sym (append_assoc r (after_markers (suc k) rs) (last (k + suc (length rs)))))
-    ∙ sym (append_assoc m (r ++ after_markers (suc k) rs) (last (k + suc (length rs))))
+    ap (λ (x : List ℕ). m ++ (r ++ x)) (joined_more (suc k) rs raw ∙ ap (λ (i : ℕ). joined_intervals (suc k) rs ++ last i) number)
+    ∙ ap (λ (x : List ℕ). m ++ x) (sym (append_assoc r (joined_intervals (suc k) rs) (last (k + suc (length rs)))))
+    ∙ sym (append_assoc m (r ++ joined_intervals (suc k) rs) (last (k + suc (length rs))))
 
-pub joined_more : (raws : List (List ℕ)) (raw : List ℕ) → joined_intervals (raws ++ raw ∷ []) ≡ joined_intervals raws ++ (marker_before (length raws) ++ raw)
-joined_more [] raw = append-nil raw
-joined_more (r ∷ rs) raw =
-    let number : 0 + length rs ≡ length rs = omega arith in
-    ap (λ (x : List ℕ). r ++ x) (after_more 0 rs raw ∙ ap (λ (i : ℕ). after_markers 0 rs ++ (marker 0 (RST0 + i % 8) ++ raw)) number)
-    ∙ sym (append_assoc r (after_markers 0 rs) (marker 0 (RST0 + length rs % 8) ++ raw))
-
-pub written_more : (k : ℕ) (old new raw front : List ℕ) (raws : List (List ℕ)) → new ≡ old ++ (marker_before k ++ raw) → length raws ≡ k → old ≡ front ++ joined_intervals raws → new ≡ front ++ joined_intervals (raws ++ raw ∷ [])
+pub written_more : (k : ℕ) (old new raw front : List ℕ) (raws : List (List ℕ)) → new ≡ old ++ (marker_before k ++ raw) → length raws ≡ k → old ≡ front ++ joined_intervals 0 raws → new ≡ front ++ joined_intervals 0 (raws ++ raw ∷ [])
 written_more k old new raw front raws is count e =
-    is ∙ ap (λ (x : List ℕ). x ++ (marker_before k ++ raw)) e ∙ append_assoc front (joined_intervals raws) (marker_before k ++ raw)
-    ∙ ap (λ (i : ℕ). front ++ (joined_intervals raws ++ (marker_before i ++ raw))) (sym count) ∙ ap (λ (x : List ℕ). front ++ x) (sym (joined_more raws raw))
+    let number : k ≡ 0 + length raws = omega (arith, count) in
+    is ∙ ap (λ (x : List ℕ). x ++ (marker_before k ++ raw)) e ∙ append_assoc front (joined_intervals 0 raws) (marker_before k ++ raw)
+    ∙ ap (λ (i : ℕ). front ++ (joined_intervals 0 raws ++ (marker_before i ++ raw))) number ∙ ap (λ (x : List ℕ). front ++ x) (sym (joined_more 0 raws raw))
 
 -- ---- the cut
 
 module _ (n : ℕ) where
-  cut_from : (k at : ℕ) (raw data' : List ℕ) (raws datas : List (List ℕ)) → IsRaw raw data' → AllZip IsRaw raws datas → k + suc (length raws) ≤ n → CutFrom n k at (raw ++ (after_markers k raws ++ marker 0 EOI)) (data' ∷ datas) EndOfImage
+  cut_from : (k at : ℕ) (raw data' : List ℕ) (raws datas : List (List ℕ)) → IsRaw raw data' → AllZip IsRaw raws datas → k + suc (length raws) ≤ n → CutFrom n k at (raw ++ (joined_intervals (suc k) raws ++ marker 0 EOI)) (data' ∷ datas) EndOfImage
   cut_from k at raw d [] [] is all few = cut_last n k at _ raw d (marker 0 EOI) EndOfImage (omega (arith, few)) is refl (0, [], refl)
   cut_from k at raw d [] (e ∷ es) is all few = absurd all
   cut_from k at raw d (r ∷ rs) [] is all few = absurd all
   cut_from k at raw d (r ∷ rs) (e ∷ es) is all few =
       let eoi = marker 0 EOI in
       let m = marker 0 (RST0 + k % 8) in
-      cut_next n k at (at + length raw + 0 + 2) 0 _ raw d (r ++ (after_markers (suc k) rs ++ eoi)) (e ∷ es) EndOfImage is
-      (ap (λ (x : List ℕ). raw ++ x) (append_assoc m (r ++ after_markers (suc k) rs) eoi ∙ ap (λ (x : List ℕ). m ++ x) (append_assoc r (after_markers (suc k) rs) eoi))) refl
+      cut_next n k at (at + length raw + 0 + 2) 0 _ raw d (r ++ (joined_intervals (suc (suc k)) rs ++ eoi)) (e ∷ es) EndOfImage is
+      (ap (λ (x : List ℕ). raw ++ x) (append_assoc m (r ++ joined_intervals (suc (suc k)) rs) eoi ∙ ap (λ (x : List ℕ). m ++ x) (append_assoc r (joined_intervals (suc (suc k)) rs) eoi))) refl
       (cut_from (suc k) (at + length raw + 0 + 2) r e rs es all.0 all.1 (omega (arith, few)))
 
 pub coded_cut : (n at : ℕ) (raws datas : List (List ℕ)) → AllZip IsRaw raws datas → 0 < length raws → length raws ≤ n → IsCut n at (coded_intervals raws) datas EndOfImage
 coded_cut n at [] datas all some few = absurd (omega (arith, some))
 coded_cut n at (r ∷ rs) [] all some few = absurd all
 coded_cut n at (r ∷ rs) (d ∷ ds) all some few =
-    subst (λ (x : List ℕ). IsCut n at x (d ∷ ds) EndOfImage) (sym (append_assoc r (after_markers 0 rs) (marker 0 EOI))) (cut_from n 0 at r d rs ds all.0 all.1 (omega (arith, few)))
+    subst (λ (x : List ℕ). IsCut n at x (d ∷ ds) EndOfImage) (sym (append_assoc r (joined_intervals 1 rs) (marker 0 EOI))) (cut_from n 0 at r d rs ds all.0 all.1 (omega (arith, few)))
 
 -- ---- the scan
 

@@ -16,15 +16,15 @@ use Rattle.jr_mend.specs.declared.markers.ScanMarker.{ScanMarker}
 use Rattle.jr_mend.specs.declared.outlook.TheConstants.{MAX_EARLY, SURE_BYTES}
 use Rattle.jr_mend.specs.declared.resync.Resynced.{Resynced}
 use Rattle.jr_mend.specs.declared.markers.TheConstants.{MAX_STRAY, TEM}
-use Rattle.jr_mend.specs.Markers.{as_read, continues, count_up, counted_back, goes_on, has_end, held, is_back, is_false_end, is_marker, is_next, is_over, is_restart, is_run, markers_in, most_missing, restarts, scan_bytes, scan_markers}
+use Rattle.jr_mend.specs.Markers.{as_read, continues, count_up, counted_back, goes_on, has_end, held, is_back, is_false_end, is_next, is_over, is_restart, is_run, markers_in, most_missing, restarts, scan_bytes, scan_markers}
 use Rattle.jr_mend.specs.Reading.{IsResynced}
-use Rattle.jr_mend.specs.Resync.{AreParts, EndsFor, EndsResync, IsMeaning, IsResync, MeansIn, Part, PartsFrom, Resync, last_number, number_after, part_bytes, since_after}
+use Rattle.jr_mend.specs.Resync.{AreParts, EndsResync, IsMeaning, IsResync, MeansIn, Part, PartsFrom, Resync, number_after, part_bytes, since_after}
 use Rattle.jr_mend.specs.Splice.{coded_intervals}
-use Rattle.jr_mend.proofs.MarkersLaw.{marker_on, over_is}
+use Rattle.jr_mend.proofs.MarkersLaw.{is_marker, marker_on, over_is}
 
--- ---- markers that are the same up to EOI
+-- ---- markers that are equal up to EOI
 
--- neither scan continues after EOI
+-- the scan continues in neither list
 abbrev BothEnd : (n : ℕ) → List ScanMarker → List ScanMarker → Type 0
 BothEnd n xs ys = (goes_on n xs ≡ false) × (goes_on n ys ≡ false)
 
@@ -33,7 +33,7 @@ SameToEnd n [] ys = ⊥
 SameToEnd n (x ∷ xs) [] = ⊥
 SameToEnd n (x ∷ xs) (y ∷ ys) = (x ≡ y) × (((x.code ≡ EOI) × BothEnd n xs ys) ⊎ SameToEnd n xs ys)
 
--- bytes before EOI, and those after it
+-- equal bytes and EOI, and different bytes after it
 module _ (n more : ℕ) (y z : List ℕ) (both : BothEnd n (markers_in 0 y) (markers_in 0 z)) where
   abbrev one : List ℕ
   one = marker more EOI ++ y
@@ -49,7 +49,7 @@ module _ (n more : ℕ) (y z : List ℕ) (both : BothEnd n (markers_in 0 y) (mar
       let same : SameToEnd n (m ∷ markers_in 0 y) (m ∷ markers_in 0 z) = (refl, inl (refl, both)) in
       subst (λ (ms : List ScanMarker). SameToEnd n (markers_in before one) ms) (sym b) (subst (λ (ms : List ScanMarker). SameToEnd n ms (m ∷ markers_in 0 z)) (sym a) same)
 
-  -- FF is no code
+  -- FF is not a code
   no_code : (before x : ℕ) (bytes : List ℕ) → markers_in before (x ∷ (PREFIX ∷ bytes)) ≡ markers_in (suc before) (PREFIX ∷ bytes)
   no_code before x bytes = cond-false (is_marker x PREFIX) _ _ (and_right (x == PREFIX) (not (PREFIX == 0) && not (PREFIX == PREFIX)) refl)
 
@@ -64,9 +64,9 @@ module _ (n more : ℕ) (y z : List ℕ) (both : BothEnd n (markers_in 0 y) (mar
       go true marked others = (refl, inr marked)
       go false marked others = others
 
--- ---- as they are read
+-- ---- the same, with TEM for each EOI after which the scan continues
 
--- the same markers up to one that is EOI
+-- two lists of markers are equal up to an EOI
 abbrev ReadToEnd : List ScanMarker → List ScanMarker → Type 0
 ReadToEnd [] ys = ⊥
 ReadToEnd (x ∷ xs) [] = ⊥
@@ -89,7 +89,7 @@ unfolding count_up
 counted_up_then_ends a b [] eoi = refl
 counted_up_then_ends a b (c ∷ xs) eoi = and_left (is_next a.code b.code) (is_next b.code c.code) (next_is_no_end a.code b.code eoi)
 
--- three markers that count up are the same
+-- both lists count up, or neither does
 same_count_up : (n : ℕ) (x : ScanMarker) (xs ys : List ScanMarker) → SameToEnd n xs ys → count_up (x ∷ xs) ≡ count_up (x ∷ ys)
 unfolding count_up
 same_count_up n x [] ys s = absurd s
@@ -99,7 +99,7 @@ same_count_up n x (a ∷ []) (b ∷ ys) (e, inr s) = absurd s
 same_count_up n x (a ∷ (c ∷ xs)) (b ∷ []) (e, inr s) = absurd s
 same_count_up n x (a ∷ (c ∷ xs)) (b ∷ (d ∷ ys)) (e, inr s) = ap (λ (m : ScanMarker). is_next x.code m.code && is_next m.code c.code) e ∙ ap (λ (m : ScanMarker). is_next x.code b.code && is_next b.code m.code) s.0
 
--- so is whether the scan continues
+-- the scan continues in both, or in neither
 same_continues : (n others : ℕ) (xs ys : List ScanMarker) → SameToEnd n xs ys → continues others xs ≡ continues others ys
 unfolding continues
 same_continues n others [] ys s = absurd s
@@ -117,7 +117,7 @@ same_continues n (suc others) (x ∷ xs) (y ∷ ys) (e, inr s) =
     ∙ ap (λ (b : Bool). count_up (x ∷ ys) || (not (x.code == SOI || x.code == EOI) && b)) (same_continues n others xs ys s)
     ∙ ap (λ (m : ScanMarker). count_up (m ∷ ys) || (not (m.code == SOI || m.code == EOI) && continues others ys)) e
 
--- ---- what they say is the same
+-- ---- both lists have the same counts
 
 record Agree (n : ℕ) (xs ys : List ScanMarker) : Type 0 where
   size : scan_bytes xs ≡ scan_bytes ys
@@ -126,7 +126,7 @@ record Agree (n : ℕ) (xs ys : List ScanMarker) : Type 0 where
   end : has_end xs ≡ has_end ys
   run : (number bytes : ℕ) → is_run number bytes xs ≡ is_run number bytes ys
 
--- EOI is the first
+-- the first marker is EOI
 module _ (n : ℕ) (m : ScanMarker) (xs ys : List ScanMarker) (eoi : m.code ≡ EOI) where
   is : (m.code == EOI) ≡ true
   is = eq-eqb m.code EOI eoi
@@ -140,7 +140,7 @@ module _ (n : ℕ) (m : ScanMarker) (xs ys : List ScanMarker) (eoi : m.code ≡ 
     run = λ number bytes. cond-true (m.code == EOI) _ _ is ∙ sym (cond-true (m.code == EOI) _ _ is);
   }
 
--- others agree
+-- the markers after the first have the same counts
 first_goes : (n : ℕ) (m : ScanMarker) (xs ys : List ScanMarker) → Agree n xs ys → Agree n (m ∷ xs) (m ∷ ys)
 first_goes n m xs ys a = record {
   size = ap (λ (k : ℕ). m.before + 2 + cond (m.code == EOI) 0 k) a.size;
@@ -183,9 +183,9 @@ same_read n (x ∷ xs) (y ∷ ys) (e, inr s) =
     let same : is_false_end n x xs ≡ is_false_end n y ys = ap (λ (b : Bool). (x.code == EOI) && b) (same_goes_on n xs ys s) ∙ ap (λ (m : ScanMarker). is_false_end n m ys) e in
     (ap (λ (b : Bool). cond b (record { before = x.before; code = TEM }) x) same ∙ ap (λ (m : ScanMarker). cond (is_false_end n y ys) (record { before = m.before; code = TEM }) m) e, inr (same_read n xs ys s))
 
--- then both have the same maximum number of missing segments
+-- both lists have the same maximum number of missing segments
 module _ (n size since k : ℕ) (m : ScanMarker) (xs ys : List ScanMarker) where
-  -- by what is known of all, and of those after the first
+  -- this maximum, by the counts of all markers and the run of those after the first
   abbrev most_by : (ended counted : Bool) (left : ℕ) (run : Bool) → ℕ
   most_by ended counted left run =
       cond (not (nat_le (2 * n) size)) 0 (cond (ended && counted) (n - left - suc k) (held n size since - 1 + cond run MAX_EARLY 0))
@@ -220,9 +220,9 @@ most_same n size since k (x ∷ xs) [] s = absurd s
 most_same n size since k (x ∷ xs) (y ∷ ys) (e, inl eoi) = most_ends n size since k x xs ys eoi ∙ ap (λ (m : ScanMarker). most_missing n size since k (m ∷ ys)) e
 most_same n size since k (x ∷ xs) (y ∷ ys) (e, inr s) = most_goes n size since k x xs ys (agree n xs ys s) ∙ ap (λ (m : ScanMarker). most_missing n size since k (m ∷ ys)) e
 
--- ---- a scan that ends with EOI, and more bytes
+-- ---- a scan that EOI ends, and more bytes after it
 
--- whether the scan continues after the first marker
+-- the first marker ends both scans, or neither
 same_over : (n : ℕ) (xs ys : List ScanMarker) → SameToEnd n xs ys → is_over n xs ≡ is_over n ys
 same_over n [] ys s = absurd s
 same_over n (x ∷ xs) [] s = absurd s
@@ -234,16 +234,22 @@ same_over n (x ∷ xs) (y ∷ ys) (e, inr s) = ap (λ (b : Bool). not ((x.code =
 
 same_meaning : (n size since k code : ℕ) (missing : Option ℕ) (a b : List ℕ) → SameToEnd n (markers_in 0 a) (markers_in 0 b) → MeansIn n size since k a code missing → MeansIn n size since k b code missing
 same_meaning n size since k code missing a b s (inl x) = inl (subst (λ (l : ℕ). IsMeaning n k l code missing) (most_same n size since k (scan_markers n a) (scan_markers n b) (same_read n (markers_in 0 a) (markers_in 0 b) s)) x)
-same_meaning n size since k code missing a b s (inr p) = inr (record { further = p.further; eoi = p.eoi; on = sym (same_over n (markers_in 0 a) (markers_in 0 b) s) ∙ p.on; none = p.none })
+same_meaning n size since k code missing a b s (inr p) = inr (p.0, p.1, sym (same_over n (markers_in 0 a) (markers_in 0 b) s) ∙ p.2, p.3)
 
-are_parts : (n size since k : ℕ) (fill : ℕ) (y z tail longer : List ℕ) (ps : List Part) → BothEnd n (markers_in 0 y) (markers_in 0 z) → tail ≡ marker fill EOI ++ y → longer ≡ marker fill EOI ++ z → AreParts n size since k tail ps → AreParts n size since k longer ps
-are_parts n size since k fill y z tail longer [] both here there are = tt
-are_parts n size since k fill y z tail longer (p ∷ ps) both here there are =
+are_parts : (n size since k at fill : ℕ) (y z tail longer : List ℕ) (end : ScanEnd) (ps : List Part) → BothEnd n (markers_in 0 y) (markers_in 0 z) → tail ≡ marker fill EOI ++ y → longer ≡ marker fill EOI ++ z
+    → ((i o : ℕ) → EndsResync n i o longer end) → AreParts n size since k at tail end ps → AreParts n size since k at longer end ps
+are_parts n size since k at fill y z tail longer end [] both here there ended are = ended k at
+are_parts n size since k at fill y z tail longer end (p ∷ ps) both here there ended are =
     let front = flat_map part_bytes (p ∷ ps) in
     let same = subst (λ (t : List ℕ). SameToEnd n (markers_in 0 (front ++ tail)) (markers_in 0 (front ++ t))) (sym there) (subst (λ (t : List ℕ). SameToEnd n (markers_in 0 (front ++ t)) (markers_in 0 (front ++ (marker fill EOI ++ z)))) (sym here) (to_end n fill y z both 0 front)) in
-    (same_meaning n size since k p.code p.missing (front ++ tail) (front ++ longer) same are.0, are.1, are_parts n size (since_after since p.missing (length (part_bytes p))) (number_after k p.missing) fill y z tail longer ps both here there are.2)
+    (same_meaning n size since k p.code p.missing (front ++ tail) (front ++ longer) same are.0, are.1, are_parts n size (since_after since p.missing (length (part_bytes p))) (number_after k p.missing) (at + length (part_bytes p)) fill y z tail longer end ps both here there ended are.2)
 
-module _ (n at : ℕ) (bytes more : List ℕ) (r : Resync) (x : IsResync n at bytes r) (ended : r.end ≡ EndOfImage) (for : EndsFor n x.parts.tail more) where
+-- the bytes after the parts end the scan
+parts_end : (n size since k at : ℕ) (tail : List ℕ) (end : ScanEnd) (ps : List Part) → AreParts n size since k at tail end ps → (i : ℕ) × (o : ℕ) × EndsResync n i o tail end
+parts_end n size since k at tail end [] are = (k, at, are)
+parts_end n size since k at tail end (p ∷ ps) are = parts_end n size (since_after since p.missing (length (part_bytes p))) (number_after k p.missing) (at + length (part_bytes p)) tail end ps are.2
+
+module _ (n at : ℕ) (bytes more : List ℕ) (r : Resync) (x : IsResync n at bytes r) (ended : r.end ≡ EndOfImage) (is_end : is_over n (markers_in 0 x.parts.tail) ≡ true) (still_end : is_over n (markers_in 0 (x.parts.tail ++ more)) ≡ true) where
   abbrev parts : List Part
   parts = x.parts.parts
 
@@ -256,16 +262,15 @@ module _ (n at : ℕ) (bytes more : List ℕ) (r : Resync) (x : IsResync n at by
   here : x.after.end ≡ EndOfImage
   here = sym (ap (λ (s : Resync). s.end) x.is) ∙ ended
 
-  ends : EndsResync n (last_number 0 parts) (at + length x.raw + length (flat_map part_bytes parts)) tail EndOfImage
-  ends = subst (λ (e : ScanEnd). EndsResync n (last_number 0 parts) (at + length x.raw + length (flat_map part_bytes parts)) tail e) here x.parts.ends
-
   eoi : HasMarker tail EOI
-  eoi = ends.0
+  eoi =
+      let last = parts_end n (scan_bytes (scan_markers n bytes)) (length x.raw) 0 (at + length x.raw) tail x.after.end parts x.parts.are in
+      (subst (EndsResync n last.0 last.1 tail) here last.2).0
 
   longer : tail ++ more ≡ marker eoi.0 EOI ++ (eoi.1 ++ more)
   longer = ap (λ (t : List ℕ). t ++ more) eoi.2 ∙ append_assoc (marker eoi.0 EOI) eoi.1 more
 
-  -- the scan continues in neither
+  -- the scan continues neither in the bytes after its EOI nor if more follow
   over : (rest file : List ℕ) → file ≡ marker eoi.0 EOI ++ rest → is_over n (markers_in 0 file) ≡ true → goes_on n (markers_in 0 rest) ≡ false
   over rest file spelled ended = not_true (goes_on n (markers_in 0 rest)) (sym (over_is n 0 eoi.0 rest) ∙ ap (λ (b : List ℕ). is_over n (markers_in 0 b)) (sym spelled) ∙ ended)
     where
@@ -274,12 +279,12 @@ module _ (n at : ℕ) (bytes more : List ℕ) (r : Resync) (x : IsResync n at by
       not_true false e = refl
 
   both : BothEnd n (markers_in 0 eoi.1) (markers_in 0 (eoi.1 ++ more))
-  both = (over eoi.1 tail eoi.2 for.0, over (eoi.1 ++ more) (tail ++ more) longer for.1)
+  both = (over eoi.1 tail eoi.2 is_end, over (eoi.1 ++ more) (tail ++ more) longer still_end)
 
   whole : bytes ≡ front ++ tail
   whole = x.spelled ∙ ap (λ (t : List ℕ). x.raw ++ t) x.parts.spelled ∙ sym (append_assoc x.raw (flat_map part_bytes parts) tail)
 
-  -- the scan has the same number of bytes
+  -- the number of the scan's bytes is the same
   size : scan_bytes (scan_markers n bytes) ≡ scan_bytes (scan_markers n (bytes ++ more))
   size =
       let same = (agree n _ _ (same_read n _ _ (to_end n eoi.0 eoi.1 (eoi.1 ++ more) both 0 front))).size in
@@ -289,16 +294,16 @@ module _ (n at : ℕ) (bytes more : List ℕ) (r : Resync) (x : IsResync n at by
 
   further : PartsFrom n (scan_bytes (scan_markers n (bytes ++ more))) (length x.raw) 0 (at + length x.raw) (x.rest ++ more) x.after
   further =
-      let sized = subst (λ (s : ℕ). AreParts n s (length x.raw) 0 tail parts) size x.parts.are in
+      let sized = subst (λ (s : ℕ). AreParts n s (length x.raw) 0 (at + length x.raw) tail x.after.end parts) size x.parts.are in
+      let last : (i o : ℕ) → EndsResync n i o (tail ++ more) x.after.end = λ i o. subst (EndsResync n i o (tail ++ more)) (sym here) ((eoi.0, eoi.1 ++ more, longer), inr (inl (refl, still_end))) in
       record {
         parts = parts;
         tail = tail ++ more;
-        are = are_parts n (scan_bytes (scan_markers n (bytes ++ more))) (length x.raw) 0 eoi.0 eoi.1 (eoi.1 ++ more) tail (tail ++ more) parts both eoi.2 longer sized;
+        are = are_parts n (scan_bytes (scan_markers n (bytes ++ more))) (length x.raw) 0 (at + length x.raw) eoi.0 eoi.1 (eoi.1 ++ more) tail (tail ++ more) x.after.end parts both eoi.2 longer last sized;
         spelled = ap (λ (t : List ℕ). t ++ more) x.parts.spelled ∙ append_assoc (flat_map part_bytes parts) tail more;
         raws = x.parts.raws;
         datas = x.parts.datas;
         breaks = x.parts.breaks;
-        ends = subst (λ (e : ScanEnd). EndsResync n (last_number 0 parts) (at + length x.raw + length (flat_map part_bytes parts)) (tail ++ more) e) (sym here) ((eoi.0, eoi.1 ++ more, longer), inr (inl (refl, for.1)));
       }
 
   pub bytes_after_end : IsResync n at (bytes ++ more) r
@@ -314,12 +319,12 @@ module _ (n at : ℕ) (bytes more : List ℕ) (r : Resync) (x : IsResync n at by
     is = x.is;
   }
 
-pub file_after_end : (file more : List ℕ) (h : HeadValue) (r : Resynced) → HeadOf file h → (made : IsResynced file h r) → r.ended ≡ EndOfImage → EndsFor (intervals_of h) made.is.parts.tail more → IsResynced (file ++ more) h r
-file_after_end file more h r head made ended for =
+pub file_after_end : (file more : List ℕ) (h : HeadValue) (r : Resynced) → HeadOf file h → (made : IsResynced file h r) → r.ended ≡ EndOfImage → is_over (intervals_of h) (markers_in 0 made.is.parts.tail) ≡ true → is_over (intervals_of h) (markers_in 0 (made.is.parts.tail ++ more)) ≡ true → IsResynced (file ++ more) h r
+file_after_end file more h r head made ended is_end still_end =
     let within = scan_within file [] h head in
     let scan : drop h.scan_at file ++ more ≡ drop h.scan_at (file ++ more) = sym (drop-append-le h.scan_at file more within) in
     let front : take h.scan_at file ≡ take h.scan_at (file ++ more) = sym (take-append-le h.scan_at file more within) in
-    let same = bytes_after_end (intervals_of h) h.scan_at (drop h.scan_at file) more made.segments made.is (sym made.ended ∙ ended) for in
+    let same = bytes_after_end (intervals_of h) h.scan_at (drop h.scan_at file) more made.segments made.is (sym made.ended ∙ ended) is_end still_end in
     record {
       segments = made.segments;
       is = subst (λ (b : List ℕ). IsResync (intervals_of h) h.scan_at b made.segments) scan same;

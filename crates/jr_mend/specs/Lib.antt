@@ -6,4 +6,3 @@ pub mod Splice
 pub mod Markers
 pub mod Resync
 pub mod Reading
-pub mod Locality

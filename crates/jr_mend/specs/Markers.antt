@@ -5,15 +5,11 @@ use Rattle.jr_mend.specs.declared.markers.ScanMarker.{ScanMarker}
 use Rattle.jr_mend.specs.declared.markers.TheConstants.{MAX_STRAY, TEM}
 use Rattle.jr_mend.specs.declared.outlook.TheConstants.{MAX_EARLY, SURE_BYTES}
 
--- FF and a byte other than 00 and FF are a marker
-abbrev pub is_marker : (prefix code : ℕ) → Bool
-is_marker prefix code = (prefix == PREFIX) && (not (code == 0) && not (code == PREFIX))
-
--- the markers in bytes, each with the number of bytes between the one before and its last FF
+-- the markers in bytes: FF and a byte other than 00 and FF, each with the number of bytes between the marker before it and its last FF
 abbrev pub markers_in : (before : ℕ) → List ℕ → List ScanMarker
 markers_in before [] = []
 markers_in before (b ∷ []) = []
-markers_in before (b ∷ c ∷ bytes) = if is_marker b c then (record { before = before; code = c }) ∷ markers_in 0 bytes else markers_in (suc before) (c ∷ bytes)
+markers_in before (b ∷ c ∷ bytes) = if (b == PREFIX) && (not (c == 0) && not (c == PREFIX)) then (record { before = before; code = c }) ∷ markers_in 0 bytes else markers_in (suc before) (c ∷ bytes)
 
 abbrev pub is_restart : ℕ → Bool
 is_restart code = nat_le RST0 code && nat_le code RST7
@@ -93,10 +89,10 @@ is_run number bytes (m ∷ ms) =
 abbrev pub held : (n size bytes : ℕ) → ℕ
 held n size bytes = (2 * (bytes * n) / max size 1 + 1) / 2
 
--- the number of segments that may be missing before the first of these markers, after segment k, whose marker is `since` bytes
--- before it: none if the scan's bytes are too few for n markers; those up to the last intervals if all restart markers up to EOI
--- are counted back from there; otherwise the number that the bytes hold without segment k, and MAX_EARLY more if the markers
--- after it are in step over SURE_BYTES
+-- The maximum number of segments missing before the first of these markers, after segment k, whose marker is `since` bytes before
+-- it. It is 0 if the scan is too short for n markers. If EOI comes, and all restart markers before it are counted back, the
+-- segments after these are the last ones. Otherwise it is the number of segments that the bytes hold, without segment k, and
+-- MAX_EARLY more if the markers after the first are in step over SURE_BYTES.
 abbrev pub most_missing : (n size since k : ℕ) → List ScanMarker → ℕ
 most_missing n size since k [] = 0
 most_missing n size since k (m ∷ ms) =

@@ -1,8 +1,7 @@
 -- A file that is read, and written anew as it is resynchronised.
-use Rattle.std.specs.Prelude.{◌≡◌, ℕ, suc, ◌+◌, ◌<◌, ◌≤◌, ◌≢◌, min, List, ◌∷◌, ◌++◌, length, take, drop}
+use Rattle.std.specs.Prelude.{◌≡◌, ℕ, suc, ◌+◌, ◌<◌, ◌≤◌, min, List, ◌++◌, length, take, drop}
 use Rattle.std.specs.List.{AllZip}
 use Rattle.jr_base.specs.declared.limits.TheConstants.{MAX_FILE_BYTES}
-use Rattle.jr_base.specs.declared.marker.TheConstants.{EOI}
 use Rattle.jr_cut.specs.declared.scan_end.ScanEnd.TheVariants.{EndOfImage}
 use Rattle.jr_cut.specs.declared.scan_end.ScanEnd.{ScanEnd}
 use Rattle.jr_cut.specs.Cut.{IsCut, IsRaw, IsStop, marker}
@@ -10,8 +9,6 @@ use Rattle.jr_head.specs.HeadValue.{HeadValue}
 use Rattle.jr_head.specs.Heads.{HeadOf}
 use Rattle.jr_scan.specs.ScanValue.{IsScanOf, intervals_of, scan_of_segments}
 use Rattle.jr_cut.specs.declared.breaks.Break.{Break}
-use Rattle.jr_mend.specs.declared.following.Following.{Following}
-use Rattle.jr_mend.specs.declared.following.Following.TheVariants.{End, Marker}
 use Rattle.jr_mend.specs.declared.following.FoundMarker.{FoundMarker}
 use Rattle.jr_mend.specs.declared.reading.Reading.{Reading}
 use Rattle.jr_mend.specs.declared.resync.ResyncFault.{ResyncFault}
@@ -19,8 +16,8 @@ use Rattle.jr_mend.specs.declared.resync.ResyncFault.TheVariants.{Memory, TooLon
 use Rattle.jr_mend.specs.declared.resync.Resynced.{Resynced}
 use Rattle.jr_mend.specs.declared.markers.ScanMarker.{ScanMarker}
 use Rattle.jr_mend.specs.declared.outlook.Outlook.{Outlook}
-use Rattle.jr_mend.specs.Markers.{counted_back, has_end, is_restart, restarts, scan_bytes, scan_markers}
-use Rattle.jr_mend.specs.Resync.{EndsResync, IsResync, MeansIn, PartsFrom, Resync, break_at, new_segments, number_after, since_after}
+use Rattle.jr_mend.specs.Markers.{counted_back, has_end, restarts, scan_bytes, scan_markers}
+use Rattle.jr_mend.specs.Resync.{IsResync, MeansIn, PartsFrom, Resync}
 use Rattle.jr_mend.specs.Splice.{joined_intervals, spliced}
 
 -- bytes after segment k of n begin with this marker
@@ -30,30 +27,11 @@ pub record Meets (n size since k : ℕ) (tail : List ℕ) (m : FoundMarker) : Ty
   pub spelled : tail ≡ marker more m.code ++ drop m.length tail
   pub means : MeansIn n size since k tail m.code m.missing
 
-abbrev pub IsFollowing : (n size since k at : ℕ) → List ℕ → Following → Type 0
-IsFollowing n size since k at tail (End end) = EndsResync n k at tail end
-IsFollowing n size since k at tail (Marker m) = Meets n size since k tail m
-
 -- what is known of the markers ahead
 pub record IsOutlook (n : ℕ) (ms : List ScanMarker) (o : Outlook) : Type 0 where
   pub left : o.left ≡ restarts ms
   pub back : counted_back n ms ≡ min o.back (restarts ms)
   pub ended : o.is_ended ≡ has_end ms
-
--- the marker and the bytes after it are read, and these are written if they are a segment's
-pub record Takes (file : List ℕ) (old new : Reading) (m : FoundMarker) : Type 0 where
-  pub len : ℕ
-  pub data' : List ℕ
-  pub raw : IsRaw (take len (drop (old.at + m.length) file)) data'
-  pub within : old.at + m.length + len ≤ length file
-  pub at : new.at ≡ old.at + m.length + len
-  pub stop : IsStop (drop new.at file)
-  pub number : new.k ≡ number_after old.k m.missing
-  pub since : new.since ≡ since_after old.since m.missing (m.length + len)
-  pub size : new.outlook.size ≡ old.outlook.size
-  pub outlook : (n : ℕ) (x : ScanMarker) (ms : List ScanMarker) → is_restart x.code ≡ is_restart m.code → x.code ≢ EOI → IsOutlook n (x ∷ ms) old.outlook → IsOutlook n ms new.outlook
-  pub breaks : new.breaks.items ≡ old.breaks.items ++ break_at old.at old.k m.code m.missing
-  pub written : (front : List ℕ) (raws : List (List ℕ)) → length raws ≡ suc old.k → old.bytes.items ≡ front ++ joined_intervals raws → new.bytes.items ≡ front ++ joined_intervals (raws ++ new_segments m.missing (take len (drop (old.at + m.length) file)))
 
 -- what is read so far, up to a marker or the end, is written: the segments up to the last that has begun
 pub record HasResyncedTo (file : List ℕ) (h : HeadValue) (w : Reading) : Type 0 where
@@ -67,7 +45,7 @@ pub record HasResyncedTo (file : List ℕ) (h : HeadValue) (w : Reading) : Type 
   pub outlook : IsOutlook (intervals_of h) (scan_markers (intervals_of h) (drop w.at file)) w.outlook
   pub within : w.at ≤ length file
   pub stop : IsStop (drop w.at file)
-  pub written : w.bytes.items ≡ take h.scan_at file ++ joined_intervals raws
+  pub written : w.bytes.items ≡ take h.scan_at file ++ joined_intervals 0 raws
   pub on : (r : Resync) → PartsFrom (intervals_of h) w.outlook.size w.since w.k w.at (drop w.at file) r → IsResync (intervals_of h) h.scan_at (drop h.scan_at file) (record { raws = raws ++ r.raws; datas = datas ++ r.datas; breaks = w.breaks.items ++ r.breaks; end = r.end })
 
 -- the file becomes this one, with these breaks and this end of its scan: its scan's bytes fall into these segments, and the

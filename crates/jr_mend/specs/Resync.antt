@@ -1,10 +1,10 @@
 -- How the bytes of a scan fall into intervals if markers or data are lost: restart markers are counted modulo 8, so that a
 -- decoder can find how many are missing before one (T.81, B.1.1.5, E.1.4 and E.2.4).
-use Rattle.std.specs.Prelude.{◌≡◌, ◌≢◌, ℕ, zero, suc, ◌+◌, ◌%◌, ◌<◌, ◌≤◌, ◌⊎◌, List, [], ◌∷◌, ◌++◌, length, drop, replicate, true, false, Option, Some, None}
+use Rattle.std.specs.Prelude.{◌≡◌, ◌≢◌, ℕ, zero, suc, ◌+◌, ◌%◌, ◌<◌, ◌≤◌, ◌⊎◌, List, [], ◌∷◌, ◌++◌, length, replicate, true, false, Option, Some, None}
 use Rattle.std.specs.List.{flat_map}
 use Rattle.jr_base.specs.declared.marker.TheConstants.{EOI, PREFIX, RST0}
 use Rattle.jr_cut.specs.declared.scan_end.ScanEnd.{ScanEnd}
-use Rattle.jr_cut.specs.declared.scan_end.ScanEnd.TheVariants.{EndOfImage, OtherMarker, OutOfStep, ExtraRestart, EndOfFile}
+use Rattle.jr_cut.specs.declared.scan_end.ScanEnd.TheVariants.{EndOfImage, ExtraRestart, EndOfFile}
 use Rattle.jr_cut.specs.Cut.{IsRaw, marker, IsEnding}
 use Rattle.jr_cut.specs.declared.breaks.Break.{Break}
 use Rattle.jr_mend.specs.Markers.{is_over, markers_in, most_missing, scan_bytes, scan_markers}
@@ -18,13 +18,6 @@ IsAhead n k limit code d = (k + d + 1 < n) × (code ≡ RST0 + (k + d) % 8) × (
 abbrev pub IsMeaning : (n k limit code : ℕ) → Option ℕ → Type 0
 IsMeaning n k limit code (Some d) = IsAhead n k limit code d
 IsMeaning n k limit code None = (0 < code) × (code < PREFIX) × (code ≢ EOI) × (k + 1 < n) × ((d : ℕ) → IsAhead n k limit code d → ⊥)
-
--- these bytes, after segment k, begin with an EOI after which the scan continues: it is passed over
-pub record PassesEnd (n k : ℕ) (bytes : List ℕ) (code : ℕ) (missing : Option ℕ) : Type 0 where
-  pub further : k + 1 < n
-  pub eoi : code ≡ EOI
-  pub on : is_over n (markers_in 0 bytes) ≡ false
-  pub none : missing ≡ None
 
 -- what ends the scan after segment k: the end of the file, an EOI after which it does not continue, or any marker if it was the
 -- last segment
@@ -44,10 +37,6 @@ abbrev pub number_after : ℕ → Option ℕ → ℕ
 number_after k None = k
 number_after k (Some d) = suc (k + d)
 
-abbrev pub last_number : ℕ → List Part → ℕ
-last_number k [] = k
-last_number k (p ∷ ps) = last_number (number_after k p.missing) ps
-
 abbrev pub part_bytes : Part → List ℕ
 part_bytes p = marker p.more p.code ++ p.raw
 
@@ -56,16 +45,18 @@ abbrev pub since_after : (since : ℕ) → Option ℕ → (part : ℕ) → ℕ
 since_after since None part = since + part
 since_after since (Some d) part = part
 
--- what a marker means with which these bytes, after segment k, begin
+-- what a marker means with which these bytes, after segment k, begin; an EOI after which the scan continues is passed over
 abbrev pub MeansIn : (n size since k : ℕ) → List ℕ → ℕ → Option ℕ → Type 0
 MeansIn n size since k bytes code missing =
-    IsMeaning n k (most_missing n size since k (scan_markers n bytes)) code missing ⊎ PassesEnd n k bytes code missing
+    IsMeaning n k (most_missing n size since k (scan_markers n bytes)) code missing
+    ⊎ ((k + 1 < n) × (code ≡ EOI) × (is_over n (markers_in 0 bytes) ≡ false) × (missing ≡ None))
 
--- parts of a scan of that size, before the bytes of which `tail` are the last
-abbrev pub AreParts : (n size since k : ℕ) → (tail : List ℕ) → List Part → Type 0
-AreParts n size since k tail [] = Unit {0}
-AreParts n size since k tail (p ∷ ps) =
-    MeansIn n size since k (flat_map part_bytes (p ∷ ps) ++ tail) p.code p.missing × IsRaw p.raw p.bytes × AreParts n size (since_after since p.missing (length (part_bytes p))) (number_after k p.missing) tail ps
+-- parts of a scan of that size, after segment k, the first of which is at that offset; `tail` follows them, and its marker ends the scan
+abbrev pub AreParts : (n size since k at : ℕ) → (tail : List ℕ) → ScanEnd → List Part → Type 0
+AreParts n size since k at tail end [] = EndsResync n k at tail end
+AreParts n size since k at tail end (p ∷ ps) =
+    MeansIn n size since k (flat_map part_bytes (p ∷ ps) ++ tail) p.code p.missing × IsRaw p.raw p.bytes
+    × AreParts n size (since_after since p.missing (length (part_bytes p))) (number_after k p.missing) (at + length (part_bytes p)) tail end ps
 
 -- segments without bytes for those that are missing, and these bytes; bytes after a marker that is passed over are no segment's
 abbrev pub new_segments : Option ℕ → List ℕ → List (List ℕ)
@@ -93,12 +84,11 @@ pub record Resync : Type 0 where
 pub record PartsFrom (n size since k at : ℕ) (bytes : List ℕ) (r : Resync) : Type 0 where
   pub parts : List Part
   pub tail : List ℕ
-  pub are : AreParts n size since k tail parts
+  pub are : AreParts n size since k at tail r.end parts
   pub spelled : bytes ≡ flat_map part_bytes parts ++ tail
   pub raws : r.raws ≡ flat_map (λ (p : Part). new_segments p.missing p.raw) parts
   pub datas : r.datas ≡ flat_map (λ (p : Part). new_segments p.missing p.bytes) parts
   pub breaks : r.breaks ≡ breaks_of at k parts
-  pub ends : EndsResync n (last_number k parts) (at + length (flat_map part_bytes parts)) tail r.end
 
 -- the scan's bytes, of which the first is at that offset of the file: segment 0, and what follows it
 pub record IsResync (n at : ℕ) (bytes : List ℕ) (r : Resync) : Type 0 where
@@ -112,18 +102,6 @@ pub record IsResync (n at : ℕ) (bytes : List ℕ) (r : Resync) : Type 0 where
   pub parts : PartsFrom n (scan_bytes (scan_markers n bytes)) (length raw) 0 (at + length raw) rest after
   pub is : r ≡ record { raws = raw ∷ after.raws; datas = first ∷ after.datas; breaks = after.breaks; end = after.end }
 
--- the scan continues neither after the first marker of this tail, nor if more bytes follow
-abbrev pub EndsFor : (n : ℕ) → (tail more : List ℕ) → Type 0
-EndsFor n tail more = (is_over n (markers_in 0 tail) ≡ true) × (is_over n (markers_in 0 (tail ++ more)) ≡ true)
-
--- after no EOI in these bytes does the scan continue
-abbrev pub HasNoFalseEnd : (n : ℕ) → List ℕ → Type 0
-HasNoFalseEnd n bytes = (k : ℕ) → is_over n (markers_in 0 (drop k bytes)) ≡ true
-
 -- a scan that ends so has the restart markers that are due, as far as it goes
 abbrev pub IsInStep : ScanEnd → Type 0
-IsInStep EndOfFile = Unit {0}
-IsInStep EndOfImage = Unit {0}
-IsInStep (ExtraRestart at) = Unit {0}
-IsInStep (OutOfStep found expected at) = ⊥
-IsInStep (OtherMarker code at) = ⊥
+IsInStep end = (end ≡ EndOfFile) ⊎ ((end ≡ EndOfImage) ⊎ ((at : ℕ) × (end ≡ ExtraRestart at)))

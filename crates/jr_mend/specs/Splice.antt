@@ -4,24 +4,19 @@ use Rattle.jr_base.specs.declared.marker.TheConstants.{EOI, RST0}
 use Rattle.jr_cut.specs.Cut.{marker}
 use Rattle.jr_head.specs.HeadValue.{HeadValue}
 
--- intervals, each after a restart marker, the first of which has number k modulo 8
-abbrev pub after_markers : ℕ → List (List ℕ) → List ℕ
-after_markers k [] = []
-after_markers k (raw ∷ raws) = marker 0 (RST0 + k % 8) ++ (raw ++ after_markers (suc k) raws)
-
--- the intervals of a scan, with restart markers between them
-abbrev pub joined_intervals : List (List ℕ) → List ℕ
-joined_intervals [] = []
-joined_intervals (raw ∷ raws) = raw ++ after_markers 0 raws
-
--- and EOI after them
-abbrev pub coded_intervals : List (List ℕ) → List ℕ
-coded_intervals raws = joined_intervals raws ++ marker 0 EOI
-
--- the marker before interval k; none before the first
+-- the restart marker before interval k; none before the first
 abbrev pub marker_before : ℕ → List ℕ
 marker_before zero = []
 marker_before (suc k) = marker 0 (RST0 + k % 8)
+
+-- intervals, the first of which has number k, each after the marker before it
+abbrev pub joined_intervals : ℕ → List (List ℕ) → List ℕ
+joined_intervals k [] = []
+joined_intervals k (raw ∷ raws) = marker_before k ++ (raw ++ joined_intervals (suc k) raws)
+
+-- the intervals of a scan, and EOI after them
+abbrev pub coded_intervals : List (List ℕ) → List ℕ
+coded_intervals raws = joined_intervals 0 raws ++ marker 0 EOI
 
 -- the file up to the end of its scan header, and then these intervals
 abbrev pub spliced : List ℕ → HeadValue → List (List ℕ) → List ℕ

@@ -2,7 +2,6 @@
 
 ghost use Rattle.std.specs.Prelude.{◌<◌, ◌≤◌, ◌^◌, All, IfOk, length};
 ghost use Rattle.std.specs.Vec.{vec_capacity};
-ghost use Rattle.jr_mend.specs.Copies.{HasSpace};
 
 use crate::file_copy::FileCopy;
 use jr_base::Memory;
@@ -30,8 +29,8 @@ fn longest_of(copies: &[FileCopy]) -> usize
 impl DataBuffers {
     /// Allocates buffers for any interval of the copies. Each uses the pages that the longest interval needs.
     pub(crate) fn of(alloc: Global, copies: &[FileCopy]) -> Result<DataBuffers, Memory>
-        ensures chosen { IfOk result (λ b. HasSpace copies.now (vec_capacity b.chosen)) }
-        ensures next { IfOk result (λ b. HasSpace copies.now (vec_capacity b.next)) }
+        ensures chosen { IfOk result (λ b. All (λ c. length c.file < vec_capacity b.chosen) copies.now) }
+        ensures next { IfOk result (λ b. All (λ c. length c.file < vec_capacity b.next) copies.now) }
     {
         let capacity = longest_of(copies) + 1;
         Ok(DataBuffers {

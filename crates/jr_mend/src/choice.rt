@@ -1,13 +1,14 @@
 //! Which of several copies an interval is taken from.
 
 ghost use Rattle.std.specs.Prelude.{◌≡◌, ◌↔◌, ◌+◌, ◌<◌, ◌≤◌, ℕ, List, [], ◌∷◌, ◌++◌, All, IsTrue, length, take};
+ghost use Rattle.std.specs.List.{AllZip};
 ghost use Rattle.std.specs.Vec.{vec_capacity};
 ghost use Rattle.jr_cut.specs.Coded.{IsSpelledAt};
 ghost use Rattle.jr_damage.specs.Coded.{IsSegmentOf};
 ghost use Rattle.jr_scan.specs.IntervalValue.{IntervalValue};
-ghost use Rattle.jr_scan.specs.ScanValue.{intervals_of};
-ghost use Rattle.jr_mend.specs.Choice.{IsChoice, IsChoiceOf};
-ghost use Rattle.jr_mend.specs.Copies.{AreSegmentsOf, HasSpace, version_of, versions_of};
+ghost use Rattle.jr_scan.specs.ScanValue.{interval_of, intervals_of};
+ghost use Rattle.jr_mend.specs.Choice.{IsChoiceOf};
+ghost use Rattle.jr_mend.specs.Copies.{versions_of};
 
 use crate::buffers::DataBuffers;
 use crate::file_copy::FileCopy;
@@ -45,7 +46,7 @@ fn with_version(
     number: u32,
     next: IntervalRef<'_>,
 ) -> Choice
-    ensures { (versions : List IntervalValue) → IsChoiceOf versions chosen.entry before → length versions ≡ number → IsChoice (versions ++ next.entry ∷ []) result }
+    ensures { (versions : List IntervalValue) → IsChoiceOf versions chosen.entry before → length versions ≡ number → (v : IntervalValue) × IsChoiceOf (versions ++ next.entry ∷ []) v result }
 {
     let is_same = has_same_data(chosen.bytes(), next.bytes());
     match (before.front, damaged_front(next)) {
@@ -75,7 +76,7 @@ fn first_choice(copy: &FileCopy, span: CodedSpan, i: u32, buffer: &mut Vec<u8>) 
     requires there { i < intervals_of copy.now.scan.head }
     requires at { IsSegmentOf copy.now.file copy.now.scan i span }
     requires capacity { length copy.now.file < vec_capacity buffer.old }
-    ensures choice { IsChoice (version_of i copy.now ∷ []) result }
+    ensures choice { (v : IntervalValue) × IsChoiceOf (interval_of copy.now.scan i ∷ []) v result }
     ensures capacity { vec_capacity buffer.old ≤ vec_capacity buffer.new }
 {
     let found = copy.unstuff(span, buffer);
@@ -90,7 +91,7 @@ fn first_choice(copy: &FileCopy, span: CodedSpan, i: u32, buffer: &mut Vec<u8>) 
 fn has_same_bytes(one: &FileCopy, its: CodedSpan, other: &FileCopy, span: CodedSpan) -> bool
     requires one { (bytes : List ℕ) × IsSpelledAt one.now.file its bytes }
     requires other { (bytes : List ℕ) × IsSpelledAt other.now.file span bytes }
-    ensures { IsTrue result → (i : ℕ) → IsSegmentOf one.now.file one.now.scan i its → IsSegmentOf other.now.file other.now.scan i span → version_of i one.now ≡ version_of i other.now }
+    ensures { IsTrue result → (i : ℕ) → IsSegmentOf one.now.file one.now.scan i its → IsSegmentOf other.now.file other.now.scan i span → interval_of one.now.scan i ≡ interval_of other.now.scan i }
 {
     let its_bytes = &one.file()[its.start..its.end];
     has_same_data(its_bytes, &other.file()[span.start..span.end])
@@ -107,13 +108,13 @@ fn with_copy(
     i: u32,
     buffers: &mut DataBuffers,
 ) -> Choice
-    requires before { IsChoice (versions_of (take number copies.now) i) before }
+    requires before { (v : IntervalValue) × IsChoiceOf (versions_of (take number copies.now) i) v before }
     requires number { number < length copies.now }
     requires there { All (λ c. i < intervals_of c.scan.head) copies.now }
-    requires at { AreSegmentsOf copies.now segments.now i }
-    requires chosen { HasSpace copies.now (vec_capacity buffers.old.chosen) }
-    requires next { HasSpace copies.now (vec_capacity buffers.old.next) }
-    ensures choice { IsChoice (versions_of (take (number + 1) copies.now) i) result }
+    requires at { AllZip (λ c s. IsSegmentOf c.file c.scan i s.bytes) copies.now segments.now }
+    requires chosen { All (λ c. length c.file < vec_capacity buffers.old.chosen) copies.now }
+    requires next { All (λ c. length c.file < vec_capacity buffers.old.next) copies.now }
+    ensures choice { (v : IntervalValue) × IsChoiceOf (versions_of (take (number + 1) copies.now) i) v result }
     ensures chosen { vec_capacity buffers.old.chosen ≤ vec_capacity buffers.new.chosen }
     ensures next { vec_capacity buffers.old.next ≤ vec_capacity buffers.new.next }
 {
@@ -144,13 +145,13 @@ pub(crate) fn choose(
     requires some { 0 < length copies.now }
     requires few { length copies.now ≤ MAX_COPIES }
     requires there { All (λ c. i < intervals_of c.scan.head) copies.now }
-    requires at { AreSegmentsOf copies.now segments.now i }
-    requires chosen { HasSpace copies.now (vec_capacity buffers.old.chosen) }
-    requires next { HasSpace copies.now (vec_capacity buffers.old.next) }
-    ensures choice { IsChoice (versions_of copies.now i) result }
+    requires at { AllZip (λ c s. IsSegmentOf c.file c.scan i s.bytes) copies.now segments.now }
+    requires chosen { All (λ c. length c.file < vec_capacity buffers.old.chosen) copies.now }
+    requires next { All (λ c. length c.file < vec_capacity buffers.old.next) copies.now }
+    ensures choice { (v : IntervalValue) × IsChoiceOf (versions_of copies.now i) v result }
     ensures within { result.copy < length copies.now }
-    ensures chosen { HasSpace copies.now (vec_capacity buffers.new.chosen) }
-    ensures next { HasSpace copies.now (vec_capacity buffers.new.next) }
+    ensures chosen { All (λ c. length c.file < vec_capacity buffers.new.chosen) copies.now }
+    ensures next { All (λ c. length c.file < vec_capacity buffers.new.next) copies.now }
 {
     let mut choice = first_choice(&copies[0], segments[0].bytes, i, &mut buffers.chosen);
     for number in 1..copies.len() {

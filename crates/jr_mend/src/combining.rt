@@ -1,10 +1,11 @@
 //! A file that is combined of copies of it, by how far the bytes in which they differ decode.
 
-ghost use Rattle.std.specs.Prelude.{◌≡◌, ◌<◌, ◌≤◌, ◌⊎◌, ◌++◌, ◌∷◌, ◌+◌, [], ℕ, List, All, IfErr, IfNone, IfOk, IfSome, length, slice_index_or};
+ghost use Rattle.std.specs.Prelude.{◌≡◌, ◌≢◌, ◌<◌, ◌≤◌, ◌⊎◌, ◌++◌, ◌∷◌, ◌+◌, [], ℕ, List, All, IfErr, IfNone, IfOk, IfSome, length, slice_index_or};
 ghost use Rattle.std.specs.Vec.{vec_capacity};
 ghost use Rattle.jr_base.specs.declared.limits.TheConstants.{MAX_FILE_BYTES};
 ghost use Rattle.jr_mcu.specs.Block.{IsInDcRange};
-ghost use Rattle.jr_mend.specs.Combined.{AreBetween, AreBytesByRuns, HasOtherLength, IsCombineErrorOf, IsCombined};
+ghost use Rattle.jr_mend.specs.Combined.{AreBetween, AreBytesByRuns, IsCombineErrorOf, IsCombined};
+ghost use Rattle.jr_mend.specs.Copies.{CopyValue};
 ghost use Rattle.jr_mend.specs.declared.byte_runs.ByteRun.{ByteRun};
 ghost use Rattle.jr_mend.specs.declared.choice.TheConstants.{MAX_COPIES};
 
@@ -46,7 +47,7 @@ pub enum CombineError {
 fn other_length(copies: &[FileCopy], long: usize) -> Option<u32>
     requires few { length copies.now ≤ MAX_COPIES }
     ensures alike { IfNone result (All (λ c. length c.file ≡ long) copies.now) }
-    ensures other { IfSome result (λ k. HasOtherLength copies.now k long) }
+    ensures other { IfSome result (λ k. (k < length copies.now) × ((c : CopyValue) → length (slice_index_or copies.now k c).file ≢ long)) }
 {
     for k in 0..copies.len() {
         if copies[k].file().len() != long {
@@ -281,9 +282,9 @@ fn choose_runs(
     Ok(runs)
 }
 
-/// Combines copies of one length to one file: of the bytes in which they differ it has those with which the scan decodes
-/// furthest. For each copy it tries at most `MAX_RUNS` versions, and decodes each up to `FAR_BYTES` after the run. It
-/// allocates the file, the runs, and buffers for the bytes and the data of an interval.
+/// Combines copies of one length into one file. Where copies differ, it has the bytes with which the scan decodes furthest.
+/// It tries at most `MAX_RUNS` versions of each copy, and decodes each up to `FAR_BYTES` bytes after its run. It allocates
+/// the file, the runs, and buffers for the bytes and the data of an interval.
 ///
 /// # Errors
 ///

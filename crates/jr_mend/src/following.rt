@@ -1,11 +1,11 @@
 //! What follows the bytes of an interval in a scan that may be damaged.
 
-ghost use Rattle.std.specs.Prelude.{◌≡◌, ◌≢◌, ℕ, ◌+◌, ◌<◌, ◌≤◌, List, length, replicate, slice_index_or, take};
+ghost use Rattle.std.specs.Prelude.{◌≡◌, ◌≢◌, ℕ, ◌+◌, ◌<◌, ◌≤◌, IfErr, IfOk, List, length, replicate, slice_index_or, take};
 ghost use Rattle.jr_base.specs.declared.limits.TheConstants.{MAX_FILE_BYTES};
 ghost use Rattle.jr_base.specs.declared.marker.TheConstants.{EOI, PREFIX};
 ghost use Rattle.jr_cut.specs.Cut.{HasMarker, IsStop};
 ghost use Rattle.jr_mend.specs.Markers.{most_missing, scan_markers};
-ghost use Rattle.jr_mend.specs.Reading.{IsFollowing, IsOutlook};
+ghost use Rattle.jr_mend.specs.Reading.{IsOutlook, Meets};
 ghost use Rattle.jr_mend.specs.Resync.{EndsResync, IsMeaning};
 
 use crate::markers::{is_continued, is_restart};
@@ -21,15 +21,6 @@ pub(crate) struct FoundMarker {
     pub length: usize,
     /// The number of restart markers that are missing before it; `None` if it is passed over.
     pub missing: Option<u32>,
-}
-
-/// What follows the bytes of an interval.
-#[derive(Clone, Copy)]
-pub(crate) enum Following {
-    /// The scan ends there.
-    End(ScanEnd),
-    /// It continues after this marker.
-    Marker(FoundMarker),
 }
 
 /// Returns how many restart markers are missing before a marker after interval k, which is not the last, if at most
@@ -101,7 +92,8 @@ fn end_after_last(code: u8, at: u64) -> ScanEnd
     ScanEnd::OtherMarker(code, at)
 }
 
-/// Returns what follows interval k, at an offset of the file; its marker is `since` bytes before it.
+/// Returns the marker after which the scan continues, or as `Err` what ends it, after interval k, at an offset of the file. The
+/// marker of interval k is `since` bytes before it.
 pub(crate) fn following_at(
     tail: &[u8],
     at: u64,
@@ -109,32 +101,33 @@ pub(crate) fn following_at(
     intervals: u32,
     since: usize,
     outlook: Outlook,
-) -> Following
+) -> Result<FoundMarker, ScanEnd>
     requires few { k < intervals }
     requires stop { IsStop tail.now }
     requires short { since ≤ MAX_FILE_BYTES }
     requires known { IsOutlook intervals (scan_markers intervals tail.now) outlook }
-    ensures { IsFollowing intervals outlook.size since k at tail.now result }
+    ensures marker { IfOk result (λ m. Meets intervals outlook.size since k tail.now m) }
+    ensures end { IfErr result (λ end. EndsResync intervals k at tail.now end) }
 {
     let fill = fill_count(tail);
     if fill == tail.len() {
-        return Following::End(ScanEnd::EndOfFile);
+        return Err(ScanEnd::EndOfFile);
     }
     let code = tail[fill];
     if k + 1 == intervals {
-        return Following::End(end_after_last(code, at));
+        return Err(end_after_last(code, at));
     }
     if code != EOI {
-        return Following::Marker(FoundMarker {
+        return Ok(FoundMarker {
             code,
             length: fill + 1,
             missing: missing_in(tail, fill, k, intervals, since, outlook),
         });
     }
     if !is_continued(tail, intervals) {
-        return Following::End(ScanEnd::EndOfImage);
+        return Err(ScanEnd::EndOfImage);
     }
-    Following::Marker(FoundMarker {
+    Ok(FoundMarker {
         code,
         length: fill + 1,
         missing: None,

@@ -1,6 +1,6 @@
 //! What holds of every file that is written of coded intervals, and of every scan that is resynchronised.
 
-ghost use Rattle.std.specs.Prelude.{◌≡◌, ◌<◌, [], ◌≤◌, ◌++◌, ◌⊎◌, ℕ, List, length, take, drop};
+ghost use Rattle.std.specs.Prelude.{◌≡◌, ◌<◌, [], ◌≤◌, ◌++◌, ◌⊎◌, ℕ, List, length, take, drop, true};
 ghost use Rattle.std.specs.List.{All, AllZip};
 ghost use Rattle.jr_base.specs.declared.limits.TheConstants.{MAX_FILE_BYTES};
 ghost use Rattle.jr_cut.specs.declared.scan_end.ScanEnd.{ScanEnd};
@@ -9,8 +9,9 @@ ghost use Rattle.jr_cut.specs.Cut.{IsCut, IsRaw};
 ghost use Rattle.jr_head.specs.HeadValue.{HeadValue};
 ghost use Rattle.jr_head.specs.Heads.{HeadOf};
 ghost use Rattle.jr_mend.specs.declared.resync.Resynced.{Resynced};
+ghost use Rattle.jr_mend.specs.Markers.{is_over, markers_in};
 ghost use Rattle.jr_mend.specs.Reading.{Becomes, IsFileInStep, IsResynced};
-ghost use Rattle.jr_mend.specs.Resync.{EndsFor, HasNoFalseEnd, IsInStep, IsResync, Resync};
+ghost use Rattle.jr_mend.specs.Resync.{IsInStep, IsResync, Resync};
 ghost use Rattle.jr_mend.specs.Splice.{coded_intervals, spliced};
 ghost use Rattle.jr_scan.specs.ScanValue.{IsSameScan, IsScanOf, ScanValue, intervals_of, scan_of_segments};
 
@@ -39,7 +40,7 @@ pub fn one_resync()
 /// States that a scan whose restart markers are in step is resynchronised to the segments that it is cut into, if it has all
 /// of them or does not continue after an EOI.
 pub fn in_step_stays()
-    ensures { (n at : ℕ) (bytes : List ℕ) (datas : List (List ℕ)) (end : ScanEnd) (r : Resync) → IsCut n at bytes datas end → IsInStep end → (length datas ≡ n) ⊎ HasNoFalseEnd n bytes → IsResync n at bytes r → (r.datas ≡ datas) × (r.breaks ≡ []) × (r.end ≡ end) }
+    ensures { (n at : ℕ) (bytes : List ℕ) (datas : List (List ℕ)) (end : ScanEnd) (r : Resync) → IsCut n at bytes datas end → IsInStep end → (length datas ≡ n) ⊎ ((k : ℕ) → is_over n (markers_in 0 (drop k bytes)) ≡ true) → IsResync n at bytes r → (r.datas ≡ datas) × (r.breaks ≡ []) × (r.end ≡ end) }
 {}
 
 /// States that the bytes of each scan can be resynchronised, whatever they are, if it has intervals.
@@ -50,7 +51,7 @@ pub fn each_scan_resyncs()
 /// States that a file whose restart markers are in step, and whose scan continues after no EOI, has once it is resynchronised
 /// the data that it had in each interval.
 pub fn file_in_step_stays()
-    ensures { (file : List ℕ) (h : HeadValue) (r : Resynced) (s t : ScanValue) → IsResynced file h r → s.head ≡ h → t.head ≡ h → IsScanOf file s → IsInStep s.ended → HasNoFalseEnd (intervals_of h) (drop h.scan_at file) → IsScanOf r.file.items t → IsSameScan s t }
+    ensures { (file : List ℕ) (h : HeadValue) (r : Resynced) (s t : ScanValue) → IsResynced file h r → s.head ≡ h → t.head ≡ h → IsScanOf file s → IsInStep s.ended → ((k : ℕ) → is_over (intervals_of h) (markers_in 0 (drop k (drop h.scan_at file))) ≡ true) → IsScanOf r.file.items t → IsSameScan s t }
 {}
 
 /// States that a file with all its intervals in step, and EOI, becomes one with its own scan, without breaks.
@@ -61,6 +62,6 @@ pub fn file_in_step_is_resynced()
 /// States that bytes after EOI change nothing, unless the scan continues in them: a scan that EOI ends, and a file, are
 /// resynchronised as without them.
 pub fn bytes_after_image_are_ignored()
-    ensures scan { (n at : ℕ) (bytes more : List ℕ) (r : Resync) (is : IsResync n at bytes r) → r.end ≡ EndOfImage → EndsFor n is.parts.tail more → IsResync n at (bytes ++ more) r }
-    ensures file { (file more : List ℕ) (h : HeadValue) (r : Resynced) → HeadOf file h → (made : IsResynced file h r) → r.ended ≡ EndOfImage → EndsFor (intervals_of h) made.is.parts.tail more → IsResynced (file ++ more) h r }
+    ensures scan { (n at : ℕ) (bytes more : List ℕ) (r : Resync) (is : IsResync n at bytes r) → r.end ≡ EndOfImage → is_over n (markers_in 0 is.parts.tail) ≡ true → is_over n (markers_in 0 (is.parts.tail ++ more)) ≡ true → IsResync n at (bytes ++ more) r }
+    ensures file { (file more : List ℕ) (h : HeadValue) (r : Resynced) → HeadOf file h → (made : IsResynced file h r) → r.ended ≡ EndOfImage → is_over (intervals_of h) (markers_in 0 made.is.parts.tail) ≡ true → is_over (intervals_of h) (markers_in 0 (made.is.parts.tail ++ more)) ≡ true → IsResynced (file ++ more) h r }
 {}

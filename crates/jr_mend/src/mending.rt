@@ -1,13 +1,14 @@
 //! A file whose intervals are taken from copies of it.
 
-ghost use Rattle.std.specs.Prelude.{◌≡◌, ◌<◌, ◌≤◌, ◌++◌, [], ℕ, List, All, IfErr, IfNone, IfOk, IfSome, length};
+ghost use Rattle.std.specs.Prelude.{◌≡◌, ◌<◌, ◌≤◌, ◌++◌, ℕ, List, All, IfErr, IfNone, IfOk, IfSome, length, slice_index_or, slice_range};
+ghost use Rattle.std.specs.List.{AllZip};
 ghost use Rattle.std.specs.Vec.{vec_capacity};
 ghost use Rattle.jr_base.specs.declared.limits.TheConstants.{MAX_FILE_BYTES};
 ghost use Rattle.jr_damage.specs.Coded.{IsSegmentOf};
 ghost use Rattle.jr_scan.specs.ScanValue.{intervals_of};
-ghost use Rattle.jr_mend.specs.Copies.{AreAlike, AreSegmentsOf, HasOtherHead, HasSpace};
-ghost use Rattle.jr_mend.specs.Mended.{AreWritten, HasChosen, IsErrorOf, IsMended, WritesBytesIn, WritesChosen};
-ghost use Rattle.jr_mend.specs.Splice.{joined_intervals};
+ghost use Rattle.jr_mend.specs.Copies.{HasOtherHead};
+ghost use Rattle.jr_mend.specs.Mended.{AreTaken, HasChosen, IsErrorOf, IsMended, IsTaken};
+ghost use Rattle.jr_mend.specs.Splice.{joined_intervals, marker_before};
 
 use crate::buffers::DataBuffers;
 use crate::choice::{Choice, MAX_COPIES, choose};
@@ -41,7 +42,7 @@ pub enum MendError {
 pub(crate) fn other_head(copies: &[FileCopy]) -> Option<u32>
     requires some { 0 < length copies.now }
     requires few { length copies.now ≤ MAX_COPIES }
-    ensures alike { IfNone result (AreAlike copies.now) }
+    ensures alike { IfNone result (All (λ c. c.scan.head ≡ (slice_index_or copies.now 0 c).scan.head) copies.now) }
     ensures other { IfSome result (HasOtherHead copies.now) }
 {
     let first = copies[0].head();
@@ -56,7 +57,7 @@ pub(crate) fn other_head(copies: &[FileCopy]) -> Option<u32>
 /// Appends the bytes of interval i in a copy, in which they are at `span`. On `Err`, part of them may be appended.
 fn write_from(bytes: &mut Vec<u8>, copy: &FileCopy, span: CodedSpan, i: u32) -> Result<(), Memory>
     requires { IsSegmentOf copy.now.file copy.now.scan i span }
-    ensures { IfOk result (λ _. WritesBytesIn copy.now i bytes.old.items bytes.new.items) }
+    ensures { IfOk result (λ _. bytes.new.items ≡ bytes.old.items ++ (marker_before i ++ slice_range copy.now.file span.start span.end)) }
 {
     write_interval(bytes, i, &copy.file()[span.start..span.end])?;
     Ok(())
@@ -73,12 +74,12 @@ fn write_chosen(
     requires some { 0 < length copies.now }
     requires few { length copies.now ≤ MAX_COPIES }
     requires there { All (λ c. i < intervals_of c.scan.head) copies.now }
-    requires at { AreSegmentsOf copies.now segments.now i }
-    requires chosen { HasSpace copies.now (vec_capacity buffers.old.chosen) }
-    requires next { HasSpace copies.now (vec_capacity buffers.old.next) }
-    ensures written { IfOk result (λ c. WritesChosen copies.now i c bytes.old.items bytes.new.items) }
-    ensures chosen { HasSpace copies.now (vec_capacity buffers.new.chosen) }
-    ensures next { HasSpace copies.now (vec_capacity buffers.new.next) }
+    requires at { AllZip (λ c s. IsSegmentOf c.file c.scan i s.bytes) copies.now segments.now }
+    requires chosen { All (λ c. length c.file < vec_capacity buffers.old.chosen) copies.now }
+    requires next { All (λ c. length c.file < vec_capacity buffers.old.next) copies.now }
+    ensures written { IfOk result (λ c. (raw : List ℕ) × IsTaken copies.now i c raw × (bytes.new.items ≡ bytes.old.items ++ (marker_before i ++ raw))) }
+    ensures chosen { All (λ c. length c.file < vec_capacity buffers.new.chosen) copies.now }
+    ensures next { All (λ c. length c.file < vec_capacity buffers.new.next) copies.now }
 {
     let choice = choose(copies, segments, i, buffers);
     let number = choice.copy as usize;
@@ -97,7 +98,7 @@ fn write_all(
     requires some { 0 < length copies.now }
     requires few { length copies.now ≤ MAX_COPIES }
     requires there { All (λ c. count ≤ intervals_of c.scan.head) copies.now }
-    ensures { IfOk result (λ choices. (front : List ℕ) → bytes.old.items ≡ front ++ joined_intervals [] → AreWritten copies.now choices.items count front bytes.new.items) }
+    ensures { IfOk result (λ choices. (raws : List (List ℕ)) × AreTaken copies.now choices.items raws × (length raws ≡ count) × (bytes.new.items ≡ bytes.old.items ++ joined_intervals 0 raws)) }
 {
     let mut segments = starts_of(alloc, copies)?;
     let mut buffers = DataBuffers::of(alloc, copies)?;

@@ -1,9 +1,9 @@
 //! The segments of an interval in each of several copies.
 
 ghost use Rattle.std.specs.Prelude.{◌+◌, ◌<◌, All, IfOk};
+ghost use Rattle.std.specs.List.{AllZip};
 ghost use Rattle.jr_damage.specs.Coded.{IsNextAt, IsSegmentOf};
 ghost use Rattle.jr_scan.specs.ScanValue.{intervals_of};
-ghost use Rattle.jr_mend.specs.Copies.{AreNextAt, AreSegmentsOf};
 
 use crate::file_copy::FileCopy;
 use jr_base::Memory;
@@ -23,7 +23,7 @@ fn start_of(copy: &FileCopy) -> Segment
 
 /// Returns the segments before interval 0.
 pub(crate) fn starts_of(alloc: Global, copies: &[FileCopy]) -> Result<Vec<Segment>, Memory>
-    ensures { IfOk result (λ segments. AreNextAt copies.now segments.items 0) }
+    ensures { IfOk result (λ segments. AllZip (λ c s. IsNextAt c.file c.scan 0 s.next) copies.now segments.items) }
 {
     let mut segments = Vec::new(alloc);
     for k in 0..copies.len() {
@@ -46,9 +46,9 @@ fn segment_in(copy: &FileCopy, at: usize, i: u32) -> Segment
 /// Moves from the segments before interval i to its segments.
 pub(crate) fn advance(copies: &[FileCopy], segments: &mut [Segment], i: u32)
     requires there { All (λ c. i < intervals_of c.scan.head) copies.now }
-    requires at { AreNextAt copies.now segments.old i }
-    ensures segments { AreSegmentsOf copies.now segments.new i }
-    ensures next { AreNextAt copies.now segments.new (i + 1) }
+    requires at { AllZip (λ c s. IsNextAt c.file c.scan i s.next) copies.now segments.old }
+    ensures segments { AllZip (λ c s. IsSegmentOf c.file c.scan i s.bytes) copies.now segments.new }
+    ensures next { AllZip (λ c s. IsNextAt c.file c.scan (i + 1) s.next) copies.now segments.new }
 {
     for k in 0..copies.len() {
         segments[k] = segment_in(&copies[k], segments[k].next, i);

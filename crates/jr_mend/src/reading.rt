@@ -2,13 +2,14 @@
 
 ghost use Rattle.std.specs.Prelude.{◌≡◌, ℕ, suc, ◌+◌, ◌<◌, ◌≤◌, ◌^◌, ◌++◌, ◌∷◌, [], List, length, drop, replicate, IfOk, IfSome};
 ghost use Rattle.jr_base.specs.declared.limits.TheConstants.{MAX_FILE_BYTES};
+ghost use Rattle.jr_head.specs.HeadValue.{HeadValue};
 ghost use Rattle.jr_head.specs.Heads.{HeadOf};
-ghost use Rattle.jr_mend.specs.Reading.{HasResyncedTo, Takes};
+ghost use Rattle.jr_mend.specs.Reading.{HasResyncedTo, Meets};
 ghost use Rattle.jr_mend.specs.Resync.{EndsResync, break_at, new_segments, number_after, since_after};
 ghost use Rattle.jr_mend.specs.Splice.{joined_intervals};
 ghost use Rattle.jr_scan.specs.ScanValue.{intervals_of};
 
-use crate::following::{Following, FoundMarker, following_at};
+use crate::following::{FoundMarker, following_at};
 use crate::outlook::Outlook;
 use crate::splice::{write_header, write_interval};
 use jr_base::Memory;
@@ -19,7 +20,7 @@ use std::alloc::Global;
 /// Appends intervals without bytes after interval k, and then one of these bytes. On `Err`, part of them may be appended.
 fn write_after(bytes: &mut Vec<u8>, k: u32, missing: u32, raw: &[u8]) -> Result<(), Memory>
     requires { k + missing + 1 < 2 ^ 32 }
-    ensures { IfOk result (λ _. (front : List ℕ) (raws : List (List ℕ)) → length raws ≡ suc k → bytes.old.items ≡ front ++ joined_intervals raws → bytes.new.items ≡ front ++ joined_intervals (raws ++ (replicate missing [] ++ raw.now ∷ []))) }
+    ensures { IfOk result (λ _. (front : List ℕ) (raws : List (List ℕ)) → length raws ≡ suc k → bytes.old.items ≡ front ++ joined_intervals 0 raws → bytes.new.items ≡ front ++ joined_intervals 0 (raws ++ (replicate missing [] ++ raw.now ∷ []))) }
 {
     for i in 0..missing {
         write_interval(bytes, k + 1 + i, &[])?;
@@ -48,7 +49,7 @@ pub(crate) struct Reading {
     pub k: u32,
     /// The number of bytes between its marker and the next one.
     pub since: usize,
-    /// What is known of the next marker and of those after it.
+    /// The counts of the markers ahead, starting at the next one.
     pub outlook: Outlook,
     /// Offset in the damaged file of what is read next: a marker, or the end.
     pub at: usize,
@@ -100,7 +101,7 @@ impl Reading {
     fn begin_next(&mut self, missing: Option<u32>, raw: &[u8]) -> Result<(), Memory>
         requires { IfSome missing (λ d. self.old.k + d + 1 < 2 ^ 32) }
         ensures number { IfOk result (λ _. self.new.k ≡ number_after self.old.k missing) }
-        ensures written { IfOk result (λ _. (front : List ℕ) (raws : List (List ℕ)) → length raws ≡ suc self.old.k → self.old.bytes.items ≡ front ++ joined_intervals raws → self.new.bytes.items ≡ front ++ joined_intervals (raws ++ new_segments missing raw.now)) }
+        ensures written { IfOk result (λ _. (front : List ℕ) (raws : List (List ℕ)) → length raws ≡ suc self.old.k → self.old.bytes.items ≡ front ++ joined_intervals 0 raws → self.new.bytes.items ≡ front ++ joined_intervals 0 (raws ++ new_segments missing raw.now)) }
         ensures same { (self.new.breaks ≡ self.old.breaks) × (self.new.at ≡ self.old.at) × (self.new.since ≡ self.old.since) × (self.new.outlook ≡ self.old.outlook) }
     {
         let Some(missing) = missing else {
@@ -116,7 +117,8 @@ impl Reading {
         requires within { self.old.at + marker.length ≤ length file.now }
         requires few { IfSome marker.missing (λ d. self.old.k + d + 1 < 2 ^ 32) }
         requires near { self.old.since ≤ self.old.at }
-        ensures { IfOk result (λ _. Takes file.now self.old self.new marker) }
+        ensures further { IfOk result (λ _. self.old.at + marker.length ≤ self.new.at) }
+        ensures read { IfOk result (λ _. (h : HeadValue) → HasResyncedTo file.now h self.old → Meets (intervals_of h) self.old.outlook.size self.old.since self.old.k (drop self.old.at file.now) marker → HasResyncedTo file.now h self.new) }
     {
         self.note(marker)?;
         let start = self.at + marker.length;
@@ -146,8 +148,8 @@ impl Reading {
                 self.since,
                 self.outlook,
             ) {
-                Following::End(ended) => return Ok(ended),
-                Following::Marker(marker) => self.take(file, marker)?,
+                Err(ended) => return Ok(ended),
+                Ok(marker) => self.take(file, marker)?,
             }
         }
     }

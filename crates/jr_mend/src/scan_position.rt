@@ -221,7 +221,7 @@ impl ScanPosition {
         read
     }
 
-    /// Returns how far bytes decode starting at this position, over restart markers that are due.
+    /// Returns how far the bytes decode starting at this position. Decoding continues after each restart marker that is due.
     pub(crate) fn reach(self, head: &Head, bytes: &[u8], buffer: &mut Vec<u8>) -> Reach
         requires short { length bytes.now ≤ MAX_FILE_BYTES }
         requires in_range { All IsInDcRange self.place.predictions }

@@ -14,7 +14,7 @@ use std::alloc::Global;
 pub fn write_header(alloc: Global, head: &Head, file: &[u8]) -> Result<Vec<u8>, Memory>
     requires { head.now.scan_at ≤ length file.now }
     ensures header { IfOk result (λ v. v.items ≡ take head.now.scan_at file.now) }
-    ensures joined_intervals { IfOk result (λ v. v.items ≡ take head.now.scan_at file.now ++ joined_intervals []) }
+    ensures joined_intervals { IfOk result (λ v. v.items ≡ take head.now.scan_at file.now ++ joined_intervals 0 []) }
 {
     Ok(file[..head.scan_at() as usize].to_vec(alloc)?)
 }
@@ -34,7 +34,7 @@ fn write_marker_before(bytes: &mut Vec<u8>, k: u32) -> Result<(), Memory>
 /// appended.
 pub fn write_interval(bytes: &mut Vec<u8>, k: u32, raw: &[u8]) -> Result<(), Memory>
     ensures appended { IfOk result (λ _. bytes.new.items ≡ bytes.old.items ++ (marker_before k ++ raw.now)) }
-    ensures joined_intervals { IfOk result (λ _. (front : List ℕ) (raws : List (List ℕ)) → length raws ≡ k → bytes.old.items ≡ front ++ joined_intervals raws → bytes.new.items ≡ front ++ joined_intervals (raws ++ raw.now ∷ [])) }
+    ensures joined_intervals { IfOk result (λ _. (front : List ℕ) (raws : List (List ℕ)) → length raws ≡ k → bytes.old.items ≡ front ++ joined_intervals 0 raws → bytes.new.items ≡ front ++ joined_intervals 0 (raws ++ raw.now ∷ [])) }
 {
     write_marker_before(bytes, k)?;
     bytes.extend_from_slice(raw)?;
@@ -44,7 +44,7 @@ pub fn write_interval(bytes: &mut Vec<u8>, k: u32, raw: &[u8]) -> Result<(), Mem
 /// Appends EOI. On `Err`, part of it may be appended.
 pub fn write_image_end(bytes: &mut Vec<u8>) -> Result<(), Memory>
     ensures appended { IfOk result (λ _. bytes.new.items ≡ bytes.old.items ++ marker 0 EOI) }
-    ensures whole { IfOk result (λ _. (front : List ℕ) (raws : List (List ℕ)) → bytes.old.items ≡ front ++ joined_intervals raws → bytes.new.items ≡ front ++ coded_intervals raws) }
+    ensures whole { IfOk result (λ _. (front : List ℕ) (raws : List (List ℕ)) → bytes.old.items ≡ front ++ joined_intervals 0 raws → bytes.new.items ≡ front ++ coded_intervals raws) }
 {
     bytes.extend_from_slice(&[PREFIX, EOI])?;
     Ok(())

@@ -1,8 +1,21 @@
-use Rattle.std.proofs.Common.{List, length, sym, subst, arith}
+use Rattle.std.proofs.Common.{◌≤◌, List, length, refl, rules, sym, subst, arith}
 use Rattle.jr_mend.specs.declared.byte_runs.ByteRun.{ByteRun}
 use Rattle.jr_mend.specs.Combined.{AreBetween, AreBytesByRuns}
 use Rattle.jr_mend.proofs.CombinedBytes.{between_longer, between_more}
 use Rattle.jr_mend.proofs.combining.choose_runs.Goals as goal
+
+pub loop-init : goal.loop-init
+loop-init c =
+    let scan_at = c.args.head.now.scan_at in
+    let at = c.scan_at-at.result in
+    let from : scan_at ≤ at = omega (arith, c.scan_at-at.ensures.value) in (
+      refl,
+      omega (arith, c.requires.scan, c.scan_at-at.ensures.value),
+      c.at_start-position.ensures.in_range,
+      search (rules, arith, c.in_ok-with_capacity.ensures.capacity),
+      subst (AreBetween scan_at at) (sym c.new-runs.ensures.items) from,
+      subst (λ (l : List ByteRun). AreBytesByRuns c.args.copies.now l c.args.file.now) (sym c.new-runs.ensures.items) c.requires.first,
+    )
 
 pub loop-preserved : goal.loop-preserved
 loop-preserved c =

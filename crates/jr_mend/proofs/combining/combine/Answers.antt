@@ -1,4 +1,5 @@
-use Rattle.std.proofs.Common.{◌≡◌, ◌∙◌, ℕ, List, ◌++◌, length, take, drop, sym, ap, subst, arith, rules}
+use Rattle.std.proofs.Common.{◌≡◌, ◌∙◌, ℕ, List, ◌++◌, length, take, drop, refl, sym, ap, subst, arith, rules}
+use Rattle.std.proofs.lemmas.Option.{slice_get_read}
 use Rattle.std.proofs.Math.Seq.{take-append_seam}
 use Rattle.jr_head.specs.HeadValue.{HeadValue}
 use Rattle.jr_mend.specs.Combined.{AreBetween, IsCombined}
@@ -17,7 +18,7 @@ returns-clause-combined c =
     subst (λ (l : List ℕ). IsCombined copies runs l) (sym kept)
     (record {
       first = first;
-      is_first = c.index-copies-0.is;
+      is_first = slice_get_read copies (length copies) 0 first refl c.requires.some c.index-copies-0.is;
       long = omega (arith, long, c.in-Ok.ensures.len, ap length c.file-2.ensures);
       order = subst (λ (n : ℕ). AreBetween first.scan.head.scan_at n runs) (sym stated.long) (subst (λ (h : HeadValue). AreBetween h.scan_at (length c.deref_mut.result.now) runs) c.head.ensures.value stated.runs);
       bytes = stated.bytes;

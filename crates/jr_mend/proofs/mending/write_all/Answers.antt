@@ -1,17 +1,16 @@
-use Rattle.std.proofs.Common.{◌≡◌, List, ◌++◌, ℕ, ◌+◌, length, take, drop, sym, ap, subst, ◌∙◌, rules, arith}
+use Rattle.std.proofs.Common.{◌≡◌, List, ◌++◌, ◌+◌, length, take, drop, sym, ap, subst, ◌∙◌, rules, arith}
 use Rattle.std.proofs.Math.Seq.{take-append_seam}
 use Rattle.jr_cut.specs.declared.file_segments.Segment.{Segment}
 use Rattle.jr_mend.specs.declared.choice.Choice.{Choice}
-use Rattle.jr_mend.specs.Copies.{AreNextAt, AreSegmentsOf}
-use Rattle.jr_mend.specs.Mended.{AreWritten}
-use Rattle.jr_mend.proofs.ScanOfCopies.{none_written, written_more}
+use Rattle.jr_mend.proofs.NextPositions.{AreNextAt, AreSegmentsOf}
+use Rattle.jr_mend.proofs.ScanOfCopies.{AreWritten, none_written, written_more}
 use Rattle.jr_mend.proofs.mending.write_all.Goals as goal
 
 pub loop-i-init : goal.loop-i-init
 loop-i-init c =
     let copies = c.args.copies.now in
     let bytes = c.args.bytes.now.items in
-    (c.in_ok-segments.ensures, λ front e. subst (λ (l : List Choice). AreWritten copies l 0 front bytes) (sym c.new-choices.ensures.items) (none_written copies front bytes e), c.in_ok-buffers.ensures.chosen, c.in_ok-buffers.ensures.next)
+    (c.in_ok-segments.ensures, subst (λ (l : List Choice). AreWritten copies l 0 bytes bytes) (sym c.new-choices.ensures.items) (none_written copies bytes), c.in_ok-buffers.ensures.chosen, c.in_ok-buffers.ensures.next)
 
 pub loop-i-preserved : goal.loop-i-preserved
 loop-i-preserved c =
@@ -20,11 +19,11 @@ loop-i-preserved c =
     let new = c.advance.new.segments in
     let rest = drop (length new) c.loop-i.segments.items in
     let long : c.loop-i.segments.len ≡ length new = search (rules, arith, c.advance.auto.segments) in
-    let kept : take c.loop-i.segments.len (new ++ rest) ≡ new = ap (λ (n : ℕ). take n (new ++ rest)) long ∙ take-append_seam new rest in (
+    let kept : take c.loop-i.segments.len (new ++ rest) ≡ new = ap (λ n. take n (new ++ rest)) long ∙ take-append_seam new rest in
+    let written = c.in_ok-choice.ensures.written in (
       subst (λ (l : List Segment). AreNextAt copies l (i + 1)) (sym kept) c.advance.ensures.next,
-      (λ front e.
-          subst (λ (l : List Choice). AreWritten copies l (i + 1) front c.write_chosen.new.bytes.items) (sym c.in_ok-push.ensures.items)
-          (written_more copies c.loop-i.choices.items i front c.loop-i.bytes.items c.write_chosen.new.bytes.items c.in_ok-choice.choice (c.loop-i.invariant.1 front e) c.in_ok-choice.ensures.written)),
+      subst (λ (l : List Choice). AreWritten copies l (i + 1) c.args.bytes.now.items c.write_chosen.new.bytes.items) (sym c.in_ok-push.ensures.items)
+          (written_more copies c.loop-i.choices.items i c.args.bytes.now.items c.loop-i.bytes.items c.write_chosen.new.bytes.items written.0 c.in_ok-choice.choice c.loop-i.invariant.1 written.1 written.2),
       c.in_ok-choice.ensures.chosen,
       c.in_ok-choice.ensures.next,
     )
@@ -37,7 +36,7 @@ write_chosen-requires-clause-at c =
     let new = c.advance.new.segments in
     let rest = drop (length new) c.loop-i.segments.items in
     let long : c.loop-i.segments.len ≡ length new = search (rules, arith, c.advance.auto.segments) in
-    let kept : take c.loop-i.segments.len (new ++ rest) ≡ new = ap (λ (n : ℕ). take n (new ++ rest)) long ∙ take-append_seam new rest in
+    let kept : take c.loop-i.segments.len (new ++ rest) ≡ new = ap (λ n. take n (new ++ rest)) long ∙ take-append_seam new rest in
     subst (λ (l : List Segment). AreSegmentsOf c.args.copies.now l c.loop-i.i) (sym (c.as_slice.ensures.value ∙ kept)) c.advance.ensures.segments
 
 pub advance-requires-clause-there : goal.advance-requires-clause-there
@@ -47,7 +46,7 @@ pub advance-requires-clause-at : goal.advance-requires-clause-at
 advance-requires-clause-at c = subst (λ (l : List Segment). AreNextAt c.args.copies.now l c.loop-i.i) (sym c.as_mut_slice.ensures.value) c.loop-i.invariant.0
 
 pub returns : goal.returns
-returns c = λ front e.
+returns c =
     let all : c.loop-i.i ≡ c.args.count = omega (arith, c.loop-i-test.false, c.loop-i.auto.i-end) in
-    let written = subst (λ (n : ℕ). AreWritten c.args.copies.now c.loop-i.choices.items n front c.loop-i.bytes.items) all (c.loop-i.invariant.1 front e) in
-    search (rules, written)
+    let w = c.loop-i.invariant.1 in
+    (w.raws, w.taken, w.count ∙ all, w.written)

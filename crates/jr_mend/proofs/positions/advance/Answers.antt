@@ -1,14 +1,18 @@
 use Rattle.std.proofs.Common.{ℕ, ◌+◌, ◌<◌, ◌≤◌, ◌≢◌, sym, subst, ◌∙◌, get_or, get_or-set_other, rules, arith}
 use Rattle.std.proofs.lemmas.List.{length-set}
 use Rattle.jr_cut.specs.declared.file_segments.Segment.{Segment}
-use Rattle.jr_damage.specs.Coded.{IsNextAt}
+use Rattle.jr_damage.specs.Coded.{IsNextAt, IsSegmentOf}
 use Rattle.jr_scan.specs.ScanValue.{intervals_of}
 use Rattle.jr_mend.specs.Copies.{CopyValue}
-use Rattle.jr_mend.proofs.NextPositions.{IsNextIn, IsSegmentIn, next_in_copy, no_segment, one_set, segment_in_copy}
+use Rattle.jr_mend.proofs.NextPositions.{IsNextIn, IsSegmentIn, next_in_copy, nexts_long, no_segment, one_set, segment_in_copy, zip_at, zip_from}
 use Rattle.jr_mend.proofs.positions.advance.Goals as goal
 
 pub loop-k-init : goal.loop-k-init
-loop-k-init c = (c.requires.at.count, λ j s lt. absurd (omega (arith, lt)), λ j s le lt d. c.requires.at.each j d s lt)
+loop-k-init c = (
+  nexts_long c.args.copies.now c.args.segments.now c.args.i c.requires.at,
+  λ j s lt. absurd (omega (arith, lt)),
+  λ j s le lt d. zip_at (λ (e : CopyValue) (t : Segment). IsNextAt e.file e.scan c.args.i t.next) c.args.copies.now c.args.segments.now j d s c.requires.at lt,
+)
 
 pub bounds-segments-k : goal.bounds-segments-k
 bounds-segments-k c = omega (arith, c.loop-k-test.true, c.loop-k.invariant.0)
@@ -48,7 +52,9 @@ loop-k-preserved c =
     )
 
 pub returns-clause-segments : goal.returns-clause-segments
-returns-clause-segments c = record { count = c.loop-k.invariant.0; each = λ k d s lt. (c.loop-k.invariant.1 k s (omega (arith, lt, c.loop-k-test.false))).0 d }
+returns-clause-segments c =
+    zip_from (λ (e : CopyValue) (t : Segment). IsSegmentOf e.file e.scan c.args.i t.bytes) c.args.copies.now c.loop-k.segments c.loop-k.invariant.0 (λ k d s lt. (c.loop-k.invariant.1 k s (omega (arith, lt, c.loop-k-test.false))).0 d)
 
 pub returns-clause-next : goal.returns-clause-next
-returns-clause-next c = record { count = c.loop-k.invariant.0; each = λ k d s lt. (c.loop-k.invariant.1 k s (omega (arith, lt, c.loop-k-test.false))).1 d }
+returns-clause-next c =
+    zip_from (λ (e : CopyValue) (t : Segment). IsNextAt e.file e.scan (c.args.i + 1) t.next) c.args.copies.now c.loop-k.segments c.loop-k.invariant.0 (λ k d s lt. (c.loop-k.invariant.1 k s (omega (arith, lt, c.loop-k-test.false))).1 d)

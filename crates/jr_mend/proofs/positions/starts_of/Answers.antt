@@ -1,6 +1,8 @@
 use Rattle.std.proofs.Common.{◌≡◌, ℕ, ◌+◌, ◌<◌, ◌∷◌, [], List, length, sym, subst, get_or, length-append, arith}
 use Rattle.jr_cut.specs.declared.file_segments.Segment.{Segment}
-use Rattle.jr_mend.proofs.NextPositions.{IsNextIn, next_in_copy, one_pushed}
+use Rattle.jr_damage.specs.Coded.{IsNextAt}
+use Rattle.jr_mend.specs.Copies.{CopyValue}
+use Rattle.jr_mend.proofs.NextPositions.{IsNextIn, next_in_copy, one_pushed, zip_from}
 use Rattle.jr_mend.proofs.positions.starts_of.Goals as goal
 
 pub loop-k-preserved : goal.loop-k-preserved
@@ -16,4 +18,5 @@ loop-k-preserved c =
     subst (λ (l : List Segment). (length l ≡ k + 1) × ((j : ℕ) (s : Segment) → j < k + 1 → IsNextIn copies 0 j (get_or l j s))) (sym items) (omega (arith, before.0, length-append segments (start ∷ [])), pushed)
 
 pub returns : goal.returns
-returns c = record { count = omega (arith, c.loop-k.invariant.0, c.loop-k-test.false, c.loop-k.auto.k-end); each = λ k d s lt. c.loop-k.invariant.1 k s (omega (arith, lt, c.loop-k-test.false)) d }
+returns c =
+    zip_from (λ (e : CopyValue) (t : Segment). IsNextAt e.file e.scan 0 t.next) c.args.copies.now c.loop-k.segments.items (omega (arith, c.loop-k.invariant.0, c.loop-k-test.false, c.loop-k.auto.k-end)) (λ k d s lt. c.loop-k.invariant.1 k s (omega (arith, lt, c.loop-k-test.false)) d)

@@ -3,9 +3,9 @@ use Rattle.std.proofs.lemmas.List.{length-map, map-append}
 use Rattle.jr_scan.specs.IntervalValue.{IntervalValue}
 use Rattle.jr_scan.specs.ScanValue.{interval_of}
 use Rattle.jr_mend.specs.Choice.{IsChoiceOf}
-use Rattle.jr_mend.specs.Copies.{version_of, versions_of}
+use Rattle.jr_mend.specs.Copies.{versions_of}
 use Rattle.jr_mend.proofs.FurtherCopies.{comes_first}
-use Rattle.jr_mend.proofs.ScanOfCopies.{has_version}
+use Rattle.jr_mend.proofs.ScanOfCopies.{has_version, version_of}
 use Rattle.jr_mend.proofs.soundness.sound_copies_come_first.Goals as goal
 
 pub returns : goal.returns

@@ -1,4 +1,4 @@
-use Rattle.std.proofs.Common.{◌≡◌, ℕ, ◌+◌, ◌-◌, ◌≤◌, List, length, take, drop, sym, ap, subst, length-append, length-drop, arith}
+use Rattle.std.proofs.Common.{◌≡◌, ℕ, ◌+◌, ◌-◌, ◌<◌, ◌≤◌, List, length, take, drop, sym, ap, subst, length-append, length-drop, arith}
 use Rattle.jr_cut.specs.Cut.{IsStop, marker}
 use Rattle.jr_cut.proofs.Cuts.{rest_is}
 use Rattle.jr_cut.proofs.Segments.{length_marker}
@@ -8,7 +8,6 @@ use Rattle.jr_mend.specs.Markers.{scan_markers}
 use Rattle.jr_mend.specs.Reading.{IsOutlook}
 use Rattle.jr_mend.specs.Resync.{EndsResync}
 use Rattle.jr_scan.specs.ScanValue.{intervals_of}
-use Rattle.jr_mend.proofs.Readings.{read_more}
 use Rattle.jr_mend.proofs.reading.Reading.read_on.Goals as goal
 
 -- a marker lies within the file
@@ -16,27 +15,31 @@ marker_within : (n size since k at : ℕ) (file tail : List ℕ) (m : FoundMarke
 marker_within n size since k at file tail m there is meets =
     omega (arith, there, meets.long, ap length is, length-drop at file, ap length meets.spelled, length-append (marker meets.more m.code) (drop m.length tail), length_marker meets.more m.code)
 
+-- the same bytes and the same number of intervals, as the header and the file have them
+meets_here : (n m size since k : ℕ) (x y : List ℕ) (f : FoundMarker) → x ≡ y → n ≡ m → Meets n size since k x f → Meets m size since k y f
+meets_here n m size since k x y f same number is = subst (λ (i : ℕ). Meets i size since k y f) number (subst (λ (z : List ℕ). Meets n size since k z f) same is)
+
 pub following_at-requires-clause-stop : goal.following_at-requires-clause-stop
 following_at-requires-clause-stop c = subst IsStop (sym (rest_is c.args.file.now c.markers.self.at)) c.markers.invariant.stop
 
-pub returns-in-End-clause-ends : goal.returns-in-End-clause-ends
-returns-in-End-clause-ends c =
+pub returns-in-Err-clause-ends : goal.returns-in-Err-clause-ends
+returns-in-Err-clause-ends c =
     let w = c.markers.self in
     let file = c.args.file.now in
-    subst (λ n. EndsResync n w.k w.at (drop w.at file) c.in-End.ended) c.intervals-intervals.ensures.value (subst (λ x. EndsResync c.intervals-intervals.result w.k w.at x c.in-End.ended) (rest_is file w.at) c.in-End.ensures)
+    subst (λ n. EndsResync n w.k w.at (drop w.at file) c.in-Err.ended) c.intervals-intervals.ensures.value (subst (λ x. EndsResync c.intervals-intervals.result w.k w.at x c.in-Err.ended) (rest_is file w.at) c.in-Err.ensures.end)
 
 pub take-requires-clause-within : goal.take-requires-clause-within
-take-requires-clause-within c = marker_within _ _ _ _ c.markers.self.at c.args.file.now _ c.in-Marker.marker c.markers.invariant.within (rest_is c.args.file.now c.markers.self.at) c.in-Marker.ensures
+take-requires-clause-within c = marker_within _ _ _ _ c.markers.self.at c.args.file.now _ c.in-Ok.marker c.markers.invariant.within (rest_is c.args.file.now c.markers.self.at) c.in-Ok.ensures.marker
 
 pub markers-preserved : goal.markers-preserved
-markers-preserved c =
-    let w = c.markers.self in
-    let file = c.args.file.now in
-    let h = c.args.head.now in
-    let size = w.outlook.size in
-    let whole = subst (λ (x : List ℕ). Meets c.intervals-intervals.result size w.since w.k x c.in-Marker.marker) (rest_is file w.at) c.in-Marker.ensures in
-    let meets = subst (λ (n : ℕ). Meets n size w.since w.k (drop w.at file) c.in-Marker.marker) c.intervals-intervals.ensures.value whole in
-    read_more file h w c.take.new.self c.in-Marker.marker c.markers.invariant meets c.in_ok-take-in-Marker.ensures
+markers-preserved c = c.in_ok-take-in-Ok.ensures.read c.args.head.now c.markers.invariant (meets_here _ _ _ _ _ _ _ c.in-Ok.marker (rest_is c.args.file.now c.markers.self.at) c.intervals-intervals.ensures.value c.in-Ok.ensures.marker)
+
+pub markers-smaller : goal.markers-smaller
+markers-smaller c =
+    let meets = meets_here _ _ _ _ _ _ _ c.in-Ok.marker (rest_is c.args.file.now c.markers.self.at) c.intervals-intervals.ensures.value c.in-Ok.ensures.marker in
+    let after = c.in_ok-take-in-Ok.ensures.read c.args.head.now c.markers.invariant meets in
+    let less : length c.args.file.now - c.take.new.self.at < length c.args.file.now - c.markers.self.at = omega (arith, c.in_ok-take-in-Ok.ensures.further, meets.long, after.within) in
+    less
 
 pub following_at-requires-clause-known : goal.following_at-requires-clause-known
 following_at-requires-clause-known c =
