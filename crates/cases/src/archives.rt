@@ -211,7 +211,7 @@ fn make<R: Threads + Wait + Sync>(
         errors,
         progress: NoProgress,
     };
-    Ok(program(rt, alloc, directory, &directory, Ok(words), streams).status())
+    Ok(program(rt, alloc, directory, &directory, Ok(words), streams).status)
 }
 
 /// Makes the run of a row with these arguments before its own, and compares what comes of it.

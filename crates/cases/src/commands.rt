@@ -5,8 +5,9 @@ use crate::machine::Machine;
 use crate::row::field;
 use crate::texts::write_lines;
 use jri_engine::{
-    Devices, Mode, describe_request, many_request, program, program_for_headers, program_for_many,
+    Mode, describe_request, many_request, program, program_for_headers, program_for_many,
 };
+use jri_machine::Devices;
 use jri_mending::{is_of_trees, program_for_trees, trees_request};
 use std::alloc::{AllocError, Global};
 use std::io::{Error, ErrorKind, Result as IoResult};
@@ -118,7 +119,7 @@ fn run_on<R: Threads + Wait + Sync, D: Devices>(
         }
         Mode::Decode => program(rt, alloc, machine, Ok(words), errors),
     };
-    ended.status()
+    ended.status
 }
 
 /// Runs a program on a machine with the arguments of a command, and returns the exit status.
@@ -132,11 +133,11 @@ pub(crate) fn run<R: Threads + Wait + Sync, D: Devices>(
     match (command.0, words_of(alloc, command.1)) {
         (Program::Mend, Ok(words)) if is_of_trees(&words) => {
             let request = trees_request(alloc, &words);
-            program_for_trees(alloc, machine, request, errors).status()
+            program_for_trees(alloc, machine, request, errors).status
         }
-        (Program::Mend, words) => jri_mending::program(alloc, machine, words, errors).status(),
+        (Program::Mend, words) => jri_mending::program(alloc, machine, words, errors).status,
         (Program::Decode, Ok(words)) => run_on(rt, alloc, machine, words, errors),
-        (Program::Decode, Err(error)) => program(rt, alloc, machine, Err(error), errors).status(),
+        (Program::Decode, Err(error)) => program(rt, alloc, machine, Err(error), errors).status,
     }
 }
 

@@ -3,8 +3,7 @@
 use crate::commands::{Program, compare_field, content, makes, named_by, run};
 use crate::differences::Differences;
 use crate::row::field;
-use jri_machine::{Entry, EntryKind, entries_in};
-use jri_words::Machine;
+use jri_machine::{Entry, EntryKind, Machine, entries_in};
 use std::alloc::Global;
 use std::fs;
 use std::io::Result as IoResult;

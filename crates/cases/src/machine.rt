@@ -2,8 +2,7 @@
 
 ghost use Rattle.std.specs.Io.{ReadsAtMost};
 
-use jri_engine::{Destination, Devices, Existing, Part};
-use jri_machine::{Entry, EntryKind, ReadError};
+use jri_machine::{Destination, Devices, Entry, EntryKind, Existing, Part, ReadError};
 use std::alloc::{AllocError, Global};
 use std::cell::RefCell;
 use std::io::{Error, ErrorKind, Read, Result as IoResult, Write};

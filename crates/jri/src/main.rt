@@ -3,9 +3,9 @@
 #![tactic(auto)]
 
 use jri_engine::{
-    Ended, Mode, describe_request, many_request, program, program_for_headers, program_for_many,
+    Mode, describe_request, many_request, program, program_for_headers, program_for_many,
 };
-use jri_words::{Machine, arguments, hold_streams};
+use jri_machine::{Ended, Machine, arguments, hold_streams};
 use std::io::Result as IoResult;
 
 /// Returns what the arguments ask for; one decoding if they are not text.

@@ -1,7 +1,5 @@
 -- The states of files, the number of files in each, and exit statuses.
 use Rattle.std.specs.Prelude.{ℕ, Bool, ◌+◌, ◌-◌, ◌^◌, min, nat_lt, if◌then◌else◌}
-use Rattle.jri_archive.specs.declared.answers.RequestError.{RequestError}
-use Rattle.jri_archive.specs.declared.answers.RequestError.TheVariants.{Help, Wrong, Memory}
 use Rattle.jri_archive.specs.declared.counts.FileState.{FileState}
 use Rattle.jri_archive.specs.declared.counts.FileState.TheVariants.{Sound, Damaged, Refused, Unsupported, Unread, OutOfMemory, Skipped, Changed}
 use Rattle.jri_archive.specs.declared.counts.FileCounts.{FileCounts}
@@ -13,17 +11,6 @@ use Rattle.jri_archive.specs.declared.counts.CheckEnd.TheVariants.{AllReported, 
 use Rattle.jri_archive.specs.declared.counts.CheckReport.{CheckReport}
 use Rattle.jri_archive.specs.declared.state_file.StateError.{StateError}
 use Rattle.jri_archive.specs.declared.state_file.StateError.TheVariants as state
-
-abbrev pub request_error_status : RequestError → ℕ
-request_error_status (Help text) = 0
-request_error_status (Wrong text) = 2
-request_error_status Memory = 4
-
--- the same, if writing the help or the version may have failed
-abbrev pub request_status : RequestError → Bool → ℕ
-request_status (Help text) has_failed = if has_failed then 4 else 0
-request_status (Wrong text) has_failed = 2
-request_status Memory has_failed = 4
 
 -- one more, in a count of 64 bits
 abbrev pub one_more : ℕ → ℕ

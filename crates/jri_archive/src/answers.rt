@@ -1,9 +1,4 @@
-//! The request of a command line, or why there is none.
-
-ghost use Rattle.std.specs.Prelude.{◌≡◌};
-ghost use Rattle.jri_archive.specs.Status.{request_error_status};
-
-use std::alloc::AllocError;
+//! The request of a command line.
 
 /// What is reported of each file.
 #[derive(Clone, Copy)]
@@ -40,34 +35,4 @@ pub struct CheckRequest {
     pub is_strict: bool,
     /// The names among the arguments, of any bytes that the system allows.
     pub names: Vec<Vec<u8>>,
-}
-
-/// Why the arguments ask for no check.
-#[derive(Debug, Drop)]
-pub enum RequestError {
-    /// They ask for help or for the version, which is this text.
-    Help(String),
-    /// They are wrong, as this text says.
-    Wrong(String),
-    /// Memory ran out.
-    Memory,
-}
-
-impl RequestError {
-    /// Returns the exit status: 0 for help and the version, 2 for invalid arguments, 4 if memory ran out.
-    pub fn status(&self) -> u8
-        ensures { result ≡ request_error_status self.now }
-    {
-        match self {
-            RequestError::Help(_) => 0,
-            RequestError::Wrong(_) => 2,
-            RequestError::Memory => 4,
-        }
-    }
-}
-
-impl From<AllocError> for RequestError {
-    fn from(_refused: AllocError) -> Self {
-        RequestError::Memory
-    }
 }

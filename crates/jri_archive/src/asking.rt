@@ -3,12 +3,12 @@
 ghost use Rattle.std.specs.Prelude.{◌≤◌, IfOk};
 ghost use Rattle.jr_base.specs.declared.limits.TheConstants.{MAX_WORKERS};
 
-use crate::answers::{CheckRequest, LineForm, RequestError};
+use crate::answers::{CheckRequest, LineForm};
 use crate::words::{bytes_of, is_no_text, texts};
-use clap::error::ErrorKind;
-use clap::{Arg, ArgAction, ArgMatches, Command, Error, value_parser};
+use clap::{Arg, ArgAction, ArgMatches, Command, value_parser};
 use jr_base::VERSION;
 use jr_base::limits::MAX_WORKERS;
+use jri_machine::{STREAM, Unasked, refusal, wrong};
 use std::alloc::{AllocError, Global};
 
 /// What an argument is besides its name, the name of its value and its help.
@@ -179,19 +179,6 @@ fn command<'a>(alloc: Global) -> Result<Command<'a>, AllocError> {
         .args(arguments)
 }
 
-fn refusal(alloc: Global, error: &Error) -> RequestError {
-    if error.kind() == ErrorKind::OutOfMemory {
-        return RequestError::Memory;
-    }
-    match error.to_string(alloc) {
-        Ok(text) => match error.kind() {
-            ErrorKind::DisplayHelp | ErrorKind::DisplayVersion => RequestError::Help(text),
-            _ => RequestError::Wrong(text),
-        },
-        Err(_) => RequestError::Memory,
-    }
-}
-
 /// Adds the names among the arguments.
 fn add_names(
     alloc: Global,
@@ -229,11 +216,11 @@ const STATE_NAME: &str = "error: the name of the STATE of --state is not UTF-8\n
 
 /// Returns whether standard input is both a file and the list of names.
 fn is_input_read_twice(matches: &ArgMatches<'_>) -> bool {
-    if matches.get_str("files0-from") != Some("-") {
+    if matches.get_str("files0-from") != Some(STREAM) {
         return false;
     }
     match matches.get_strs("files") {
-        Some(files) => files.contains(&"-"),
+        Some(files) => files.contains(&STREAM),
         None => false,
     }
 }
@@ -241,7 +228,7 @@ fn is_input_read_twice(matches: &ArgMatches<'_>) -> bool {
 /// Returns what is wrong with arguments that the parser lets through.
 fn error_of(matches: &ArgMatches<'_>) -> Option<&'static str> {
     match matches.get_str("state") {
-        Some("-") => return Some(STATE_INPUT),
+        Some(STREAM) => return Some(STATE_INPUT),
         Some(name) if is_no_text(name) => return Some(STATE_NAME),
         _ => {}
     }
@@ -294,7 +281,7 @@ fn request_in(
     alloc: Global,
     words: &[Vec<u8>],
     matches: &ArgMatches<'_>,
-) -> Result<CheckRequest, RequestError>
+) -> Result<CheckRequest, Unasked>
     ensures some { IfOk result (λ a. 1 ≤ a.workers) }
     ensures few { IfOk result (λ a. a.workers ≤ MAX_WORKERS) }
 {
@@ -308,7 +295,7 @@ fn request_in(
     let kept = set_text(alloc, matches.get_str("state"), &mut request.state);
     match named.and(listed).and(kept) {
         Ok(()) => Ok(request),
-        Err(_) => Err(RequestError::Memory),
+        Err(_) => Err(Unasked::Memory),
     }
 }
 
@@ -317,13 +304,13 @@ fn checked_request(
     alloc: Global,
     words: &[Vec<u8>],
     texts: &[String],
-) -> Result<CheckRequest, RequestError>
+) -> Result<CheckRequest, Unasked>
     ensures some { IfOk result (λ a. 1 ≤ a.workers) }
     ensures few { IfOk result (λ a. a.workers ≤ MAX_WORKERS) }
 {
     match command(alloc)?.try_get_matches_from(texts) {
         Ok(matches) => match error_of(&matches) {
-            Some(text) => Err(RequestError::Wrong(String::from_str(alloc, text)?)),
+            Some(text) => Err(wrong(alloc, text)),
             None => request_in(alloc, words, &matches),
         },
         Err(error) => Err(refusal(alloc, &error)),
@@ -331,9 +318,9 @@ fn checked_request(
 }
 
 /// Returns what the arguments after the program's name ask for: `--workers` from 1 to 64, by default 4; one name or more,
-/// or `--files0-from`; and what is reported. `RequestError` has the text to print if they ask for help or the version, or
+/// or `--files0-from`; and what is reported. `Unasked` has the text to print if they ask for help or the version, or
 /// are wrong.
-pub fn asked(alloc: Global, words: &[Vec<u8>]) -> Result<CheckRequest, RequestError>
+pub fn asked(alloc: Global, words: &[Vec<u8>]) -> Result<CheckRequest, Unasked>
     ensures some { IfOk result (λ a. 1 ≤ a.workers) }
     ensures few { IfOk result (λ a. a.workers ≤ MAX_WORKERS) }
 {

@@ -2,7 +2,6 @@
 //! arguments of a command line, in lists, and in directories.
 #![tactic(auto)]
 
-mod answering;
 mod answers;
 mod asking;
 mod checking;
@@ -10,6 +9,7 @@ mod count_lines;
 mod counts;
 mod damaged_lines;
 mod damaged_run;
+mod disk;
 mod file_queue;
 mod given;
 mod in_step;
@@ -31,8 +31,7 @@ mod state_record;
 mod unsupported;
 mod words;
 
-pub use answering::answer;
-pub use answers::{CheckRequest, LineForm, RequestError};
+pub use answers::{CheckRequest, LineForm};
 pub use asking::asked;
 pub use checking::{Checked, check_file};
 pub use count_lines::{append_counts_line, write_counts_line};
@@ -42,11 +41,10 @@ pub use map::ReportError;
 pub use outcome::{Outcome, outcome_of};
 pub use progress::{NoProgress, Progress, Reported, TerminalProgress};
 pub use reading::{Directory, FileBytes};
-pub use running::{Ended, Lists, Streams, program};
+pub use running::{Lists, Streams, program};
 pub use sharing::check_all;
 pub use source::Source;
 pub use state_file::{Records, State, StateError, read_state};
 pub use state_line::{parse_record, record_line};
 pub use state_record::{FileRecord, RecordedState, Stamp};
 pub use unsupported::is_unsupported;
-pub use words::words_of;

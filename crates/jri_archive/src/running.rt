@@ -1,11 +1,9 @@
 //! What the program does with its arguments.
 
 ghost use Rattle.std.specs.Prelude.{◌≡◌, IfErr};
-ghost use Rattle.std.specs.Process.{exit_status};
 ghost use Rattle.jri_archive.specs.Status.{state_error_status};
 
-use crate::answering::answer;
-use crate::answers::{CheckRequest, RequestError};
+use crate::answers::CheckRequest;
 use crate::asking::asked;
 use crate::count_lines::write_counts_line;
 use crate::counts::{CheckEnd, CheckReport};
@@ -16,38 +14,17 @@ use crate::sharing::check_all;
 use crate::source::Source;
 use crate::state_file::{State, StateError};
 use jr_base::Tally;
-use jri_machine::ReadError;
+use jri_machine::{Ended, ReadError, Unasked, answer};
 use std::alloc::{AllocError, Global};
-use std::io::{BufReader, Eprint, ErrorKind, Read, Result as IoResult, Write};
-use std::process::{ExitCode, Termination};
+use std::io::{BufReader, ErrorKind, Read, Result as IoResult, Write};
 use std::sync::Wait;
 use std::thread::Threads;
 
 /// The exit status if the list of names cannot be read.
 const LIST_UNREAD: u8 = 3;
 
-/// The end of the program. Only `program` makes one, so a `main` that returns it ends with the status of a run.
-#[derive(Drop)]
-pub struct Ended {
-    status: u8,
-}
-
-impl Ended {
-    /// Returns the exit status.
-    pub fn status(&self) -> u8
-        ensures { result ≡ self.now.status }
-    {
-        self.status
-    }
-}
-
-impl Termination for Ended {
-    fn report<R: Eprint>(self, _rt: &R) -> ExitCode
-        ensures { exit_status result ≡ self.status }
-    {
-        ExitCode::from(self.status)
-    }
-}
+/// The exit status if memory ran out or the output failed.
+const FAILED: u8 = 4;
 
 /// A source of lists of names, and of state files.
 pub trait Lists {
@@ -214,12 +191,12 @@ pub fn program<
     } = streams;
     let asked = match words {
         Ok(words) => asked(alloc, words.as_slice()),
-        Err(_) => Err(RequestError::Memory),
+        Err(_) => Err(Unasked::Memory),
     };
     let asked = match asked {
         Ok(asked) => asked,
         Err(unasked) => {
-            let status = answer(&mut Tally::of(out), &mut errors, &unasked);
+            let status = answer(&mut Tally::of(out), &mut errors, &unasked, FAILED);
             return Ended { status };
         }
     };

@@ -1,47 +1,9 @@
-//! The arguments of a command line as the system has them, and as text.
+//! Arguments of any bytes as text.
 
 use std::alloc::{AllocError, Global};
-use std::env::FillError;
-use std::rt::Env;
-
-/// Maximum size of an argument in bytes: more than systems allow.
-const LONGEST_WORD: usize = 1 << 24;
-
-/// Size in bytes that suffices for most arguments.
-const USUAL_WORD: usize = 4096;
 
 /// What begins the text of an argument that is not UTF-8: no argument of a system has a NUL byte.
 const NO_TEXT: char = '\0';
-
-/// Returns an argument by its number; `None` after the last.
-fn word<E: Env>(env: &E, alloc: Global, number: usize) -> Result<Option<Vec<u8>>, AllocError> {
-    let mut space = USUAL_WORD;
-    for _ in 0..usize::BITS {
-        let mut bytes = vec![in alloc; 0; space]?;
-        match env.arg(number, &mut bytes) {
-            Ok(length) => {
-                bytes.truncate(length);
-                return Ok(Some(bytes));
-            }
-            Err(FillError::NotPresent) => return Ok(None),
-            Err(FillError::TooLong) if space >= LONGEST_WORD => return Err(AllocError),
-            Err(FillError::TooLong) => space *= 2,
-        }
-    }
-    Err(AllocError)
-}
-
-/// Returns the arguments after the program's name.
-pub fn words_of<E: Env>(env: &E, alloc: Global) -> Result<Vec<Vec<u8>>, AllocError> {
-    let mut words = Vec::new(alloc);
-    for number in 1..usize::MAX {
-        match word(env, alloc, number)? {
-            Some(word) => words.push(word)?,
-            None => break,
-        }
-    }
-    Ok(words)
-}
 
 /// Returns an argument as text. One that is not UTF-8 is its number after a byte that no argument has.
 fn text_of(alloc: Global, word: &[u8], number: usize) -> Result<String, AllocError> {

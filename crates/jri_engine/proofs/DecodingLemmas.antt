@@ -3,10 +3,11 @@ use Rattle.std.proofs.Common.{◌≡◌, ℕ, Bool, true, false, inl, subst, ◌
 use Rattle.std.specs.Io.KnownBytes.{Appends, Keeps}
 use Rattle.jr_picture.specs.declared.report.Report.{Report}
 use Rattle.jr_picture.specs.declared.report.Fault.{Fault}
-use Rattle.jri_words.specs.declared.answers.Unasked.{Unasked}
+use Rattle.jri_machine.specs.declared.unasked.Unasked.{Unasked}
 use Rattle.jri_words.specs.CommandLine.{is_taken}
-use Rattle.jri_words.specs.Status.{AsksForHelp, answered_status}
-use Rattle.jri_words.specs.Steps.{Step, Follow, LeavesNamed, is_picture_status}
+use Rattle.jri_machine.specs.Status.{AsksForHelp, answered_status}
+use Rattle.jri_machine.specs.Steps.{Step, Follow}
+use Rattle.jri_words.specs.Images.{LeavesNamed, is_picture_status}
 use Rattle.jri_words.proofs.StepLemmas.{answered, none_yet, unread}
 use Rattle.jri_engine.specs.declared.resync.ResyncReport.{ResyncReport}
 use Rattle.jri_engine.specs.Decoding.{PaintsBy}
@@ -43,13 +44,13 @@ after_flush P Q (Err e) (Ok r) same f p = let z : ⊥ = cc in absurd z
 after_flush P Q before (Err e) same f p = tt
 
 -- arguments that ask for nothing
-pub asked_nothing : {T E : Type 0} (words : Result T E) (texts : T → List (List ℕ)) (are_devices : List ℕ → Type 0) (a : Option (List Step)) (unasked : Unasked) (has_failed : Bool) (n : ℕ) → n ≡ answered_status unasked has_failed
+pub asked_nothing : {T E : Type 0} (words : Result T E) (texts : T → List (List ℕ)) (are_devices : List ℕ → Type 0) (a : Option (List Step)) (unasked : Unasked) (has_failed : Bool) (n : ℕ) → n ≡ answered_status 1 unasked has_failed
     → (AsksForHelp unasked → IfOk words (λ given. is_taken (texts given) ≡ false)) → IfOk words (λ given. LeavesNamed are_devices (texts given) a a n)
 asked_nothing (Ok given) texts are_devices a unasked has_failed n is help = inl (answered (texts given) a unasked has_failed n help is)
 asked_nothing (Err e) texts are_devices a unasked has_failed n is help = tt
 
 -- arguments that are not text
-pub unread_status : {T E : Type 0} (words : Result T E) (unasked : Unasked) (has_failed : Bool) (n : ℕ) → n ≡ answered_status unasked has_failed → IfErr words (λ _. AsksForHelp unasked → ⊥) → IfErr words (λ _. is_picture_status n ≡ false)
+pub unread_status : {T E : Type 0} (words : Result T E) (unasked : Unasked) (has_failed : Bool) (n : ℕ) → n ≡ answered_status 1 unasked has_failed → IfErr words (λ _. AsksForHelp unasked → ⊥) → IfErr words (λ _. is_picture_status n ≡ false)
 unread_status (Ok given) unasked has_failed n is none = tt
 unread_status (Err e) unasked has_failed n is none = unread unasked has_failed n none is
 

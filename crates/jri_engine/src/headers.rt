@@ -2,23 +2,18 @@
 
 ghost use Rattle.std.specs.Prelude.{◌≡◌, ◌≤◌, IfErr, IfOk};
 
-use crate::ended::Ended;
 use crate::many::worse_of;
+use crate::running::FAILED;
 use jr_base::Tally;
 use jr_base::limits::MAX_FILE_BYTES;
 use jr_head::Head;
 use jr_picture::Fault;
 use jr_segments::Refusal;
 use jri_file::read_file_head;
-use jri_words::{DescribeRequest, Devices, Unasked, answer, describe};
+use jri_machine::{Devices, Ended, STREAM, Unasked, answer};
+use jri_words::{DescribeRequest, describe};
 use std::alloc::Global;
 use std::io::{ErrorKind, Result as IoResult, Write};
-
-/// The name of standard input.
-const STREAM: &str = "-";
-
-/// The status if memory ran out or the output failed.
-const FAILED: u8 = 1;
 
 /// Returns whether a file, or standard input, is known to be longer than a file may be.
 fn is_too_long<D: Devices>(devices: &D, source: Option<&str>) -> bool {
@@ -94,7 +89,7 @@ pub fn program_for_headers<D: Devices, E: Write>(
     let request = match request {
         Ok(request) => request,
         Err(unasked) => {
-            let status = answer(&mut Tally::of(devices.output()), errors, &unasked);
+            let status = answer(&mut Tally::of(devices.output()), errors, &unasked, FAILED);
             return Ended { status };
         }
     };

@@ -2,21 +2,20 @@
 //! command line.
 #![tactic(auto)]
 
-mod ended;
 mod engine;
 mod headers;
 mod many;
 mod resync;
 mod running;
 
-pub use ended::Ended;
 pub use engine::run;
 pub use headers::program_for_headers;
 pub use jr_picture::{Fault, Report};
 pub use jri_file::{one_text, scan_of_file};
+pub use jri_machine::Unasked;
 pub use jri_words::{
-    Asked, DecodeRequest, DescribeRequest, Destination, Devices, Existing, ManyRequest, Mode, Part,
-    Target, Unasked, Verbosity, asked, decode_request, describe_request, finish, many_request,
+    Asked, DecodeRequest, DescribeRequest, ManyRequest, Mode, Target, Verbosity, asked,
+    decode_request, describe_request, finish, many_request,
 };
 pub use many::program_for_many;
 pub use resync::{ResyncReport, run_resynced};

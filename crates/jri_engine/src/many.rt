@@ -3,16 +3,16 @@
 ghost use Rattle.std.specs.Prelude.{◌≡◌, ◌≤◌, IfOk, IfErr, List, [], ℕ, is_ok, length};
 ghost use Rattle.std.specs.String.{string_bytes};
 ghost use Rattle.jr_base.specs.declared.limits.TheConstants.{MAX_WORKERS};
-ghost use Rattle.jri_words.specs.Steps.{DecodesEach, Follow, IsInDirectory, LeavesFile, is_picture_status, worse};
+ghost use Rattle.jri_machine.specs.Steps.{Follow, IsInDirectory, LeavesFile};
+ghost use Rattle.jri_words.specs.Images.{DecodesEach, is_picture_status, worse};
 
-use crate::ended::Ended;
-use crate::running::{Decoding, ImageFile, decode_to_part};
+use crate::running::{Decoding, FAILED, ImageFile, decode_to_part};
 use jr_base::Tally;
 use jr_cut::Break;
 use jr_picture::Fault;
+use jri_machine::{Destination, Devices, Ended, Existing, Unasked, answer};
 use jri_words::{
-    Destination, Devices, Ending, Existing, ManyRequest, Names, Unasked, Verbosity, answer,
-    image_name, report_breaks, report_ending, unwritten,
+    Ending, ManyRequest, Names, Verbosity, image_name, report_breaks, report_ending, unwritten,
 };
 use std::alloc::Global;
 use std::io::{Error, ErrorKind, Write};
@@ -163,7 +163,7 @@ pub fn program_for_many<T: Threads + Wait + Sync, D: Devices, E: Write>(
             Ended { status }
         }
         Err(unasked) => {
-            let status = answer(&mut Tally::of(devices.output()), errors, &unasked);
+            let status = answer(&mut Tally::of(devices.output()), errors, &unasked, FAILED);
             Ended { status }
         }
     }

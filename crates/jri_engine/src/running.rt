@@ -5,26 +5,29 @@ ghost use Rattle.std.specs.String.{string_bytes};
 ghost use Rattle.jr_base.specs.declared.limits.TheConstants.{MAX_WORKERS};
 ghost use Rattle.jr_base.specs.Tally.{has_failed, known_in};
 ghost use Rattle.jr_segments.specs.declared.refusal.Refusal.{Refusal};
-ghost use Rattle.jri_words.specs.Noted.{has_flushed, noted_in};
-ghost use Rattle.jri_words.specs.Steps.{Follow, LeavesFile, LeavesNamed, is_picture_status};
+ghost use Rattle.jri_machine.specs.Noted.{has_flushed, noted_in};
+ghost use Rattle.jri_machine.specs.Steps.{Follow, LeavesFile};
+ghost use Rattle.jri_words.specs.Images.{LeavesNamed, is_picture_status};
 ghost use Rattle.jri_engine.specs.Decoding.{BeginsBy, PaintsBy, RefusesBy};
 
-use crate::ended::Ended;
 use crate::engine::run;
 use crate::resync::run_resynced;
 use jr_base::Tally;
 use jr_cut::Break;
 use jr_picture::{Fault, Report};
 use jr_wall::OpenGate;
+use jri_machine::{Destination, Devices, Ended, Existing, Noted, Part, answer};
 use jri_words::{
-    DecodeRequest, Destination, Devices, Ending, Existing, Names, Noted, Part, Target, answer,
-    flush_written, make_part, opened, place, report_breaks, report_ending, understood, unwritten,
-    warn_of_name,
+    DecodeRequest, Ending, Names, Target, flush_written, make_part, opened, place, report_breaks,
+    report_ending, understood, unwritten, warn_of_name,
 };
 use std::alloc::Global;
 use std::io::{Read, Result as IoResult, Write};
 use std::sync::Wait;
 use std::thread::Threads;
+
+/// The exit status if memory ran out or the output failed.
+pub(crate) const FAILED: u8 = 1;
 
 /// How a file is decoded.
 #[derive(Clone, Copy)]
@@ -209,7 +212,7 @@ pub fn program<T: Threads + Wait + Sync, D: Devices, E: Write>(
     let request = match understood(alloc, devices, words) {
         Ok(request) => request,
         Err(unasked) => {
-            let status = answer(&mut Tally::of(devices.output()), errors, &unasked);
+            let status = answer(&mut Tally::of(devices.output()), errors, &unasked, FAILED);
             return Ended { status };
         }
     };

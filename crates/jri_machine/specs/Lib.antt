@@ -1,1 +1,4 @@
 pub mod Escapes
+pub mod Noted
+pub mod Status
+pub mod Steps

@@ -2,8 +2,8 @@
 //! interval from a copy in which it is sound. `jri_mend --trees DIRECTORY.. -o DIR` does so for each name in directories.
 #![tactic(auto)]
 
-use jri_mending::{Ended, is_of_trees, program, program_for_trees, trees_request};
-use jri_words::{Machine, arguments, hold_streams};
+use jri_machine::{Ended, Machine, arguments, hold_streams};
+use jri_mending::{is_of_trees, program, program_for_trees, trees_request};
 use std::io::Result as IoResult;
 
 /// Returns whether the arguments ask for the mending of directories.

@@ -1,8 +1,8 @@
 -- What is made in a directory, one after another.
 use Rattle.std.proofs.Common.{◌≡◌, ℕ, Bool, false, inl, inr, List, [], ◌∷◌, ◌++◌, Option, Result, Ok, Err, OnOk, OnErr, refl, sym, subst}
 use Rattle.std.specs.List.{AllByRecursion}
-use Rattle.jri_words.specs.declared.devices.Existing.TheVariants.{Kept}
-use Rattle.jri_words.specs.Steps.{Step, Made, Follow, LeavesFile, IsInDirectory}
+use Rattle.jri_machine.specs.declared.devices.Existing.TheVariants.{Kept}
+use Rattle.jri_machine.specs.Steps.{Step, Made, Follow, LeavesFile, IsInDirectory}
 use Rattle.jri_mending.specs.Making.{MakesNew, MakesEach, MakesWithin}
 
 pub makes_none : (directory : List ℕ) (a : Option (List Step)) → MakesWithin directory a a

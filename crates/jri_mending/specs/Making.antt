@@ -1,8 +1,8 @@
 -- What is made in a directory.
 use Rattle.std.specs.Prelude.{◌≡◌, ℕ, List, [], ◌∷◌, Option, Bool, ◌⊎◌}
 use Rattle.std.specs.List.{AllByRecursion}
-use Rattle.jri_words.specs.declared.devices.Existing.TheVariants.{Kept}
-use Rattle.jri_words.specs.Steps.{Step, Made, Follow, LeavesFile, IsInDirectory}
+use Rattle.jri_machine.specs.declared.devices.Existing.TheVariants.{Kept}
+use Rattle.jri_machine.specs.Steps.{Step, Made, Follow, LeavesFile, IsInDirectory}
 
 -- a directory of that name is made; or a part, which takes the name if nothing has it, or is removed; or nothing
 abbrev pub MakesNew : List ℕ → Option (List Step) → Option (List Step) → Type 0

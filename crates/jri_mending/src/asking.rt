@@ -6,9 +6,8 @@ ghost use Rattle.jr_mend.specs.declared.choice.TheConstants.{MAX_COPIES};
 use clap::{Arg, ArgAction, ArgMatches, Command};
 use jr_base::VERSION;
 use jr_mend::MAX_COPIES;
-use jri_words::{
-    Target, Unasked, flag_argument, refusal, resync_argument, strings_of, with_argument, wrong,
-};
+use jri_machine::{STREAM, Unasked, refusal, wrong};
+use jri_words::{Target, flag_argument, resync_argument, strings_of, with_argument};
 use std::alloc::{AllocError, Global};
 
 /// A request for a mended file, or for one of each name in several directories.
@@ -73,9 +72,6 @@ const NO_DIRECTORY: &str = "error: --trees needs -o and a directory\n";
 
 /// The error of a request for both.
 const BOTH_WAYS: &str = "error: --resync and --no-resync exclude each other\n";
-
-/// The name of a stream instead of a file.
-const STREAM: &str = "-";
 
 /// `-o FILE`.
 fn output_argument<'a>(alloc: Global) -> Arg<'a> {
@@ -144,7 +140,7 @@ fn target_in(alloc: Global, matches: &ArgMatches<'_>) -> Result<Target, AllocErr
     }
 }
 
-/// Returns what arguments ask for that are parsed, and name a number of copies from the least one on.
+/// Returns the request of parsed arguments. At least `fewest` copies must be named.
 fn request_in(
     alloc: Global,
     matches: &ArgMatches<'_>,

@@ -4,7 +4,6 @@
 mod asking;
 mod breaks;
 mod combined;
-mod ended;
 mod headers;
 mod outcome;
 mod preparing;
@@ -21,6 +20,5 @@ mod trees;
 mod writing;
 
 pub use asking::{MendRequest, TreesRequest, is_of_trees, trees_request};
-pub use ended::Ended;
 pub use running::program;
 pub use tree_running::program_for_trees;

@@ -3,20 +3,15 @@
 ghost use Rattle.std.specs.Prelude.{◌≡◌, ◌<◌, ◌≤◌, IfOk, length};
 
 use crate::breaks::CopyBreak;
-use jr_base::limits::MAX_FILE_BYTES;
 use jr_cut::Break;
 use jr_head::read_head;
 use jr_mend::{FileCopy, ResyncFault, is_in_step, resynchronised};
 use jr_segments::Refusal;
-use jri_machine::ReadError;
-use jri_words::Devices;
+use jri_machine::{Devices, ReadError, read_bytes};
 use std::alloc::Global;
 use std::fmt;
 use std::fmt::{Display, Formatter};
-use std::io::{Error, ErrorKind, Read};
-
-/// One byte more than a file may have.
-const TOO_MANY: u64 = MAX_FILE_BYTES as u64 + 1;
+use std::io::{Error, ErrorKind};
 
 /// The reason why a copy is not there.
 #[derive(Clone, Copy)]
@@ -74,15 +69,12 @@ fn unread(error: Error) -> CopyError {
 
 /// Reads the bytes of the file of this name, and at most one more than a file may have.
 fn read_file<D: Devices>(alloc: Global, devices: &D, name: &str) -> Result<Vec<u8>, CopyError> {
-    let mut bytes = Vec::new(alloc);
-    let file = match devices.open(name) {
-        Ok(file) => file,
-        Err(error) => return Err(unread(error)),
+    let size = devices.size(Some(name)).unwrap_or(0);
+    let bytes = match devices.open(name) {
+        Ok(file) => read_bytes(alloc, file, size),
+        Err(error) => Err(error),
     };
-    match file.take(TOO_MANY).read_to_end(&mut bytes) {
-        Ok(_) => Ok(bytes),
-        Err(error) => Err(unread(error)),
-    }
+    bytes.map_err(unread)
 }
 
 /// Returns why a file is no copy.

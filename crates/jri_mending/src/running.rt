@@ -2,10 +2,9 @@
 
 ghost use Rattle.std.specs.Prelude.{◌≡◌, ◌<◌, ◌≤◌, IfOk, is_ok, length};
 ghost use Rattle.jr_mend.specs.declared.choice.TheConstants.{MAX_COPIES};
-ghost use Rattle.jri_words.specs.Steps.{LeavesFile};
+ghost use Rattle.jri_machine.specs.Steps.{LeavesFile};
 
 use crate::asking::{MendRequest, asked};
-use crate::ended::Ended;
 use crate::outcome::{Outcome, is_changed, mended_of};
 use crate::preparing::{Prepared, prepare};
 use crate::reading::{CopyError, read_files};
@@ -14,11 +13,10 @@ use crate::writing::{write_out, write_part};
 use jr_base::{Printable, Tally};
 use jr_mend::MAX_COPIES;
 use jr_picture::{Fault, Report};
-use jri_words::{
-    Destination, Devices, Ending, Existing, Target, Unasked, answer, unwritten, wrong,
-};
+use jri_machine::{Destination, Devices, Ended, Existing, Unasked, answer, unreported, wrong};
+use jri_words::{Ending, Target, unwritten};
 use std::alloc::Global;
-use std::io::{ErrorKind, Result as IoResult, Write};
+use std::io::{Result as IoResult, Write};
 
 /// The exit status if memory runs out or the output fails.
 pub(crate) const FAILED: u8 = 4;
@@ -27,7 +25,7 @@ pub(crate) const FAILED: u8 = 4;
 pub(crate) const WRONG: u8 = 2;
 
 /// The text for arguments that are not text.
-const UNREPORTED: &str = "an argument is not valid UTF-8\n";
+const NOT_TEXT: &str = "an argument is not valid UTF-8\n";
 
 /// The text for a file that would go to a terminal.
 const ONTO_TERMINAL: &str = "refusing to write the file to a terminal; use -o FILE\n";
@@ -59,8 +57,7 @@ fn requested<D: Devices>(
 {
     let words = match words {
         Ok(words) => words,
-        Err(error) if error.kind() == ErrorKind::OutOfMemory => return Err(Unasked::Memory),
-        Err(_) => return Err(wrong(alloc, UNREPORTED)),
+        Err(error) => return Err(unreported(alloc, &error, NOT_TEXT)),
     };
     let asked = asked(alloc, &words)?;
     match &asked.target {
@@ -216,21 +213,6 @@ fn mend_files<D: Devices, E: Write>(
     }
 }
 
-/// Writes what the arguments ask for if that is no mended file, and returns the exit status.
-pub(crate) fn answer_unasked<D: Devices, E: Write>(
-    devices: &D,
-    errors: &mut E,
-    unasked: &Unasked,
-) -> u8
-    ensures { result ≤ 4 }
-{
-    match answer(&mut Tally::of(devices.output()), errors, unasked) {
-        0 => 0,
-        2 => WRONG,
-        _ => FAILED,
-    }
-}
-
 /// Does what the program's arguments ask for on these devices, and reports it. The status is 0 if each interval is
 /// sound, 1 if one is damaged in all copies, 2 for wrong arguments and copies of another file, 3 for copies that are
 /// not read, 4 for memory and the output.
@@ -243,7 +225,7 @@ pub fn program<D: Devices, E: Write>(
     let asked = match requested(alloc, devices, words) {
         Ok(asked) => asked,
         Err(unasked) => {
-            let status = answer_unasked(devices, errors, &unasked);
+            let status = answer(&mut Tally::of(devices.output()), errors, &unasked, FAILED);
             return Ended { status };
         }
     };

@@ -2,7 +2,7 @@
 
 ghost use Rattle.std.specs.Prelude.{IfOk};
 ghost use Rattle.std.specs.String.{string_bytes};
-ghost use Rattle.jri_words.specs.Steps.{IsInDirectory};
+ghost use Rattle.jri_machine.specs.Steps.{IsInDirectory};
 ghost use Rattle.jri_mending.specs.Making.{MakesWithin};
 
 use crate::asking::TreesRequest;
@@ -13,7 +13,8 @@ use crate::tree_plan::plan;
 use crate::trees::TreeFile;
 use crate::writing::write_part;
 use jr_picture::Fault;
-use jri_words::{Devices, Ending, Existing};
+use jri_machine::{Devices, Existing};
+use jri_words::Ending;
 use std::alloc::{AllocError, Global};
 
 /// Returns a name in a directory.

@@ -11,7 +11,7 @@ use crate::tree_counts::NameState;
 use crate::tree_lines::{append_equal, append_error, append_mended, append_skipped, append_there};
 use crate::trees::TreeFile;
 use jr_mend::MAX_COPIES;
-use jri_words::{Destination, Devices};
+use jri_machine::{Destination, Devices};
 use std::alloc::{AllocError, Global};
 use std::mem::replace;
 

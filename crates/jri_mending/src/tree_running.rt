@@ -2,17 +2,16 @@
 
 ghost use Rattle.std.specs.Prelude.{◌≡◌, ◌≤◌, [], IfOk, IfErr, IfSome};
 ghost use Rattle.std.specs.String.{string_bytes};
-ghost use Rattle.jri_words.specs.Steps.{Follow};
+ghost use Rattle.jri_machine.specs.Steps.{Follow};
 ghost use Rattle.jri_mending.specs.Making.{MakesWithin};
 
 use crate::asking::TreesRequest;
-use crate::ended::Ended;
-use crate::running::{FAILED, WRONG, answer_unasked};
+use crate::running::{FAILED, WRONG};
 use crate::tree_counts::NameCounts;
 use crate::tree_making::mend_name;
 use crate::trees::{next_file, search};
-use jr_base::Printable;
-use jri_words::{Devices, Unasked};
+use jr_base::{Printable, Tally};
+use jri_machine::{Devices, Ended, Unasked, answer};
 use std::alloc::Global;
 use std::io::{Error, ErrorKind, Result as IoResult, Write};
 
@@ -154,7 +153,7 @@ pub fn program_for_trees<D: Devices, E: Write>(
 {
     let status = match &request {
         Ok(request) => mend_trees(alloc, devices, request, errors),
-        Err(unasked) => answer_unasked(devices, errors, unasked),
+        Err(unasked) => answer(&mut Tally::of(devices.output()), errors, unasked, FAILED),
     };
     Ended { status }
 }

@@ -3,8 +3,7 @@
 ghost use Rattle.std.specs.Prelude.{◌≡◌, IfOk, length};
 
 use crate::reading::CopyError;
-use jri_machine::{DirectoryWalk, NamedFile, ReadError};
-use jri_words::Devices;
+use jri_machine::{Devices, DirectoryWalk, NamedFile, ReadError};
 use std::alloc::{AllocError, Global};
 use std::cmp::Ordering;
 use std::mem::replace;
@@ -42,7 +41,7 @@ fn rank(byte: u8) -> u16 {
     }
 }
 
-/// Compares names in the order of a search, which enters a directory before it goes on to longer names.
+/// Compares names in the order of a search: the files of a directory `a` come before those of `a.b`.
 fn compare_names(one: &[u8], other: &[u8]) -> Ordering {
     for k in 0..one.len().min(other.len()) {
         if one[k] != other[k] {

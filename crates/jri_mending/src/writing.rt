@@ -1,10 +1,11 @@
 //! The writing of files.
 
 ghost use Rattle.std.specs.Prelude.{is_ok};
-ghost use Rattle.jri_words.specs.Steps.{LeavesFile};
+ghost use Rattle.jri_machine.specs.Steps.{LeavesFile};
 
 use jr_picture::{Fault, Report};
-use jri_words::{Devices, Ending, Existing, Noted, flush_written, make_part, place};
+use jri_machine::{Devices, Existing, Noted};
+use jri_words::{Ending, flush_written, make_part, place};
 use std::alloc::Global;
 use std::io::Write;
 

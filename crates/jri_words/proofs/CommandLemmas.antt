@@ -11,9 +11,9 @@ use Rattle.clap.specs.Values.{kind_of}
 use Rattle.clap.specs.declared.error.Error.{Error}
 use Rattle.clap.specs.declared.error.kind.ErrorKind.TheVariants.{OutOfMemory}
 use Rattle.std.proofs.lemmas.Bool.{false_from_ne_true}
-use Rattle.jri_words.specs.declared.answers.Unasked.{Unasked}
+use Rattle.jri_machine.specs.declared.unasked.Unasked.{Unasked}
 use Rattle.jri_words.specs.CommandLine.{is_taken, jri, reading, option_value}
-use Rattle.jri_words.specs.Status.{AsksForHelp}
+use Rattle.jri_machine.specs.Status.{AsksForHelp}
 
 pub adds : (old : Command) (a : Arg) (new : Command) (app : App) (rule : Rule) → AddsArg old a new → a.global ≡ false → app_of old ≡ app → rule_of a ≡ rule → app_of new ≡ with_rule app rule
 adds old a new app rule h local is_app is_rule = h.shape local ∙ ap₂ with_rule is_app is_rule

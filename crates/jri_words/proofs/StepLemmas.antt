@@ -7,13 +7,14 @@ use Rattle.jr_picture.specs.declared.report.Fault.TheVariants as fault
 use Rattle.jr_picture.specs.Status.{report_status, fault_status}
 use Rattle.std.specs.List.{AllByRecursion}
 use Rattle.clap.specs.Words.{Text}
-use Rattle.jri_words.specs.declared.answers.Unasked.{Unasked}
-use Rattle.jri_words.specs.declared.answers.Unasked.TheVariants as help
-use Rattle.jri_words.specs.declared.devices.Existing.{Existing}
-use Rattle.jri_words.specs.declared.devices.Existing.TheVariants.{Kept}
+use Rattle.jri_machine.specs.declared.unasked.Unasked.{Unasked}
+use Rattle.jri_machine.specs.declared.unasked.Unasked.TheVariants as help
+use Rattle.jri_machine.specs.declared.devices.Existing.{Existing}
+use Rattle.jri_machine.specs.declared.devices.Existing.TheVariants.{Kept}
 use Rattle.jri_words.specs.CommandLine.{is_taken}
-use Rattle.jri_words.specs.Status.{AsksForHelp, answered_status}
-use Rattle.jri_words.specs.Steps.{Step, Created, Synced, Follow, OpensDevice, LeavesFile, Removes, AsksNothing, is_picture_status, placed, DecodesEach, ImageEnd, IsInDirectory, LeavesEach, worse, worst_of}
+use Rattle.jri_machine.specs.Status.{AsksForHelp, answered_status}
+use Rattle.jri_machine.specs.Steps.{Step, Created, Synced, Follow, OpensDevice, LeavesFile, Removes, placed, IsInDirectory}
+use Rattle.jri_words.specs.Images.{AsksNothing, is_picture_status, DecodesEach, ImageEnd, LeavesEach, worse, worst_of}
 
 pub follow : (a b c : Option (List Step)) (s t : List Step) → Follow a b s → Follow b c t → Follow a c (s ++ t)
 follow None b c s t p q = tt
@@ -66,13 +67,13 @@ without_devices are_devices existing name a b false (inr (inr p)) = inr (inr p)
 
 -- arguments that ask for no image: nothing is done, and with a status of an image they are not taken
 pub answered : (words : List Text) (a : Option (List Step)) (unasked : Unasked) (has_failed : Bool) (n : ℕ)
-    → (AsksForHelp unasked → is_taken words ≡ false) → n ≡ answered_status unasked has_failed → AsksNothing words a a n
+    → (AsksForHelp unasked → is_taken words ≡ false) → n ≡ answered_status 1 unasked has_failed → AsksNothing words a a n
 answered words a (help.Help text) has_failed n help is = record { unmoved = none_yet a; unwritten = λ taken. absurd (true≢false (sym taken ∙ help tt)) }
 answered words a (help.Wrong text) has_failed n help is = record { unmoved = none_yet a; unwritten = λ _. rw is refl }
 answered words a help.Memory has_failed n help is = record { unmoved = none_yet a; unwritten = λ _. rw is refl }
 
 -- arguments that are not text have no status of an image
-pub unread : (unasked : Unasked) (has_failed : Bool) (n : ℕ) → (AsksForHelp unasked → ⊥) → n ≡ answered_status unasked has_failed → is_picture_status n ≡ false
+pub unread : (unasked : Unasked) (has_failed : Bool) (n : ℕ) → (AsksForHelp unasked → ⊥) → n ≡ answered_status 1 unasked has_failed → is_picture_status n ≡ false
 unread (help.Help text) has_failed n none is = absurd (none tt)
 unread (help.Wrong text) has_failed n none is = rw is refl
 unread help.Memory has_failed n none is = rw is refl

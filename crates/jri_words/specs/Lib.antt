@@ -1,5 +1,3 @@
 pub mod CommandLine
-pub mod Noted
 pub mod Quality
-pub mod Steps
-pub mod Status
+pub mod Images

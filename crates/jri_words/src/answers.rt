@@ -1,9 +1,4 @@
-//! What the arguments of a command line ask for, or why they ask for nothing.
-
-ghost use Rattle.std.specs.Prelude.{◌≡◌};
-ghost use Rattle.jri_words.specs.Status.{unasked_status};
-
-use std::alloc::AllocError;
+//! What the arguments of a command line ask for.
 
 /// A request for one decoding.
 #[derive(Drop)]
@@ -54,39 +49,4 @@ impl Verbosity {
         is_quiet: false,
         is_verbose: false,
     };
-}
-
-/// The reason why arguments ask for no decoding.
-#[derive(Drop)]
-pub enum Unasked {
-    /// They ask for help or for the version, which is this text.
-    Help(String),
-    /// They are wrong, as this text says.
-    Wrong(String),
-    /// Memory ran out.
-    Memory,
-}
-
-impl Unasked {
-    /// Returns the exit status: 0 for help and the version, 2 for wrong arguments, 1 if memory ran out.
-    pub fn status(&self) -> u8
-        ensures { result ≡ unasked_status self.now }
-    {
-        match self {
-            Unasked::Help(_) => 0,
-            Unasked::Wrong(_) => 2,
-            Unasked::Memory => 1,
-        }
-    }
-}
-
-impl From<AllocError> for Unasked {
-    ghost use Rattle.std.specs.Prelude.{◌≡◌};
-    ghost use Rattle.jri_words.specs.declared.answers.Unasked.TheVariants.{Memory};
-
-    ghost from_gives = { λ _ e. e ≡ Memory };
-
-    fn from(_refused: AllocError) -> Self {
-        Unasked::Memory
-    }
 }

@@ -4,17 +4,15 @@ ghost use Rattle.std.specs.Prelude.{◌≡◌, ◌≤◌, IfOk, IfErr, IfSome, f
 ghost use Rattle.std.specs.String.{string_bytes};
 ghost use Rattle.clap.specs.Words.{App, app_of, first_value, found_of, one_text, rule_of, with_rule};
 ghost use Rattle.jr_base.specs.declared.limits.TheConstants.{MAX_WORKERS};
-ghost use Rattle.clap.specs.Values.{kind_of};
-ghost use Rattle.clap.specs.declared.error.kind.ErrorKind.TheVariants.{OutOfMemory};
-ghost use Rattle.jri_words.specs.Status.{AsksForHelp};
+ghost use Rattle.jri_machine.specs.Status.{AsksForHelp};
 ghost use Rattle.jri_words.specs.CommandLine.{IsFlag, IsTarget, IsTargetOf, decoding_app, file_named, file_rule, first_rule, flag_rule, is_taken, jri, output_rule, reading, option_value, workers_rule, writing_app};
 
-use crate::answers::{Asked, DecodeRequest, Target, Unasked, Verbosity};
+use crate::answers::{Asked, DecodeRequest, Target, Verbosity};
 use crate::help::{ABOUT, AFTER_HELP};
-use clap::error::ErrorKind;
-use clap::{Arg, ArgAction, ArgMatches, Command, Error, value_parser};
+use clap::{Arg, ArgAction, ArgMatches, Command, value_parser};
 use jr_base::VERSION;
 use jr_base::limits::MAX_WORKERS;
+use jri_machine::{STREAM, Unasked, refusal};
 use std::alloc::{AllocError, Global};
 
 /// `--workers N`.
@@ -149,22 +147,6 @@ fn command<'a>(alloc: Global) -> Result<Command<'a>, AllocError>
     with_writing_arguments(alloc, with_decoding_arguments(alloc, Ok(command)))
 }
 
-/// Returns the answer to arguments that the command line refuses: the help or the version if they ask for it.
-pub fn refusal(alloc: Global, error: &Error) -> Unasked
-    ensures { kind_of error.now ≡ OutOfMemory → AsksForHelp result → ⊥ }
-{
-    if error.kind() == ErrorKind::OutOfMemory {
-        return Unasked::Memory;
-    }
-    match error.to_string(alloc) {
-        Ok(text) => match error.kind() {
-            ErrorKind::DisplayHelp | ErrorKind::DisplayVersion => Unasked::Help(text),
-            _ => Unasked::Wrong(text),
-        },
-        Err(_) => Unasked::Memory,
-    }
-}
-
 /// Returns the values of an argument that may have several.
 pub fn strings_of(
     alloc: Global,
@@ -179,9 +161,6 @@ pub fn strings_of(
     }
     Ok(strings)
 }
-
-/// The name of a stream instead of a file.
-const STREAM: &str = "-";
 
 /// Returns the file that is decoded.
 fn file_of(alloc: Global, matches: &ArgMatches) -> Result<Option<String>, AllocError>

@@ -1,9 +1,9 @@
 //! The arguments of `jri --info`.
 
-use crate::answers::Unasked;
-use crate::asking::{flag_argument, refusal, strings_of, with_argument};
+use crate::asking::{flag_argument, strings_of, with_argument};
 use clap::{Arg, ArgAction, ArgMatches, Command};
 use jr_base::VERSION;
+use jri_machine::{Unasked, refusal};
 use std::alloc::{AllocError, Global};
 
 /// A request for what the headers of files say.

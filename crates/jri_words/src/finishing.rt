@@ -3,14 +3,14 @@
 ghost use Rattle.std.specs.Prelude.{◌≡◌, IfOk, IfErr, OnOk, true, false};
 ghost use Rattle.std.specs.Io.KnownBytes.{Keeps};
 ghost use Rattle.jr_base.specs.Tally.{has_failed, known_in};
-ghost use Rattle.jri_words.specs.Noted.{has_flushed, noted_in};
+ghost use Rattle.jri_machine.specs.Noted.{has_flushed, noted_in};
 ghost use Rattle.jr_picture.specs.Status.{fault_status, report_status};
 
 use crate::answers::Verbosity;
-use crate::devices::Noted;
 use crate::ending::{Ending, Names, report_ending};
 use jr_base::Tally;
 use jr_picture::{Fault, Report};
+use jri_machine::Noted;
 use std::io::Write;
 
 /// Flushes an image that was written, and returns the outcome after that. A failed flush is a fault.

@@ -1,9 +1,9 @@
 //! What a file's header says, as a line.
 
 use crate::quality::quality_of;
-use jr_base::Printable;
 use jr_head::{Head, Kind};
 use jr_picture::Fault;
+use jri_machine::begin_line;
 use std::alloc::{AllocError, Global};
 use std::fmt;
 use std::fmt::{Display, Formatter};
@@ -14,14 +14,6 @@ fn kind_name(kind: Kind) -> &'static str {
         Kind::Grey => "grey",
         Kind::Rgb => "RGB",
         Kind::Ycc => "YCbCr",
-    }
-}
-
-/// Appends a text as a JSON string.
-fn write_string(alloc: Global, line: &mut String, text: &str) -> Result<(), AllocError> {
-    match serde_json::to_string(alloc, &text) {
-        Ok(string) => line.push_str(string.as_str()),
-        Err(_) => Err(AllocError),
     }
 }
 
@@ -82,7 +74,7 @@ fn write_head(line: &mut String, head: &Head) -> Result<(), AllocError> {
     };
     writeln!(
         line,
-        ": {width} x {height}, {kind}, sampling {sampling}, {intervals} interval{plural}{quality}, scan at byte {scan_at}"
+        "{width} x {height}, {kind}, sampling {sampling}, {intervals} interval{plural}{quality}, scan at byte {scan_at}"
     )
 }
 
@@ -115,35 +107,18 @@ fn fault_text(fault: Fault) -> &'static str {
     }
 }
 
-/// Appends the line of a file.
-fn write_text(line: &mut String, name: &str, head: &Result<Head, Fault>) -> Result<(), AllocError> {
-    let name = Printable(name);
-    write!(line, "{name}")?;
-    match head {
-        Ok(head) => write_head(line, head),
-        Err(Fault::Refused(refusal)) => {
-            writeln!(line, ": refused {}: {refusal}", refusal.number())
+/// Appends why a file's header says nothing, after the file's name.
+fn write_fault(line: &mut String, fault: Fault, is_json: bool) -> Result<(), AllocError> {
+    match (fault, is_json) {
+        (Fault::Refused(refusal), false) => {
+            writeln!(line, "refused {}: {refusal}", refusal.number())
         }
-        Err(fault) => writeln!(line, ": {}", fault_text(*fault)),
-    }
-}
-
-/// Appends the object of a file, with the line's end.
-fn write_object(
-    alloc: Global,
-    line: &mut String,
-    name: &str,
-    head: &Result<Head, Fault>,
-) -> Result<(), AllocError> {
-    line.push_str("{\"file\":")?;
-    write_string(alloc, line, name)?;
-    match head {
-        Ok(head) => write_members(line, head),
-        Err(Fault::Refused(refusal)) => {
+        (Fault::Refused(refusal), true) => {
             let number = refusal.number();
             writeln!(line, ",\"refusal\":{number},\"why\":\"{refusal}\"}}")
         }
-        Err(fault) => writeln!(line, ",\"why\":\"{}\"}}", fault_text(*fault)),
+        (fault, false) => writeln!(line, "{}", fault_text(fault)),
+        (fault, true) => writeln!(line, ",\"why\":\"{}\"}}", fault_text(fault)),
     }
 }
 
@@ -155,10 +130,11 @@ pub fn describe(
     is_json: bool,
 ) -> Result<String, AllocError> {
     let mut line = String::new(alloc);
-    if is_json {
-        write_object(alloc, &mut line, name, head)?;
-    } else {
-        write_text(&mut line, name, head)?;
+    begin_line(&mut line, name.as_bytes(), is_json)?;
+    match head {
+        Ok(head) if is_json => write_members(&mut line, head)?,
+        Ok(head) => write_head(&mut line, head)?,
+        Err(fault) => write_fault(&mut line, *fault, is_json)?,
     }
     Ok(line)
 }

@@ -3,18 +3,16 @@
 ghost use Rattle.std.specs.Prelude.{◌≤◌, IfOk};
 ghost use Rattle.std.specs.String.{string_bytes};
 ghost use Rattle.jr_base.specs.declared.limits.TheConstants.{MAX_WORKERS};
-ghost use Rattle.jri_words.specs.Steps.{IsInDirectory};
+ghost use Rattle.jri_machine.specs.Steps.{IsInDirectory};
 
-use crate::answers::Unasked;
 use crate::asking::{
-    first_argument, flag_argument, refusal, resync_argument, strings_of, with_argument,
+    first_argument, flag_argument, resync_argument, strings_of, with_argument,
     workers_argument, workers_of,
 };
 use crate::describing::files_argument;
-use crate::opening::wrong;
 use clap::{Arg, ArgAction, ArgMatches, Command};
 use jr_base::VERSION;
-use jri_machine::is_jpeg;
+use jri_machine::{STREAM, Unasked, is_jpeg, refusal, wrong};
 use std::alloc::{AllocError, Global};
 
 /// A request for the decoding of many files.
@@ -57,9 +55,6 @@ fn command<'a>(alloc: Global) -> Result<Command<'a>, AllocError> {
     let command = with_argument(command, resync_argument(alloc));
     with_argument(with_argument(command, quiet), files_argument(alloc))
 }
-
-/// The name of standard input, which has no name for its image.
-const STREAM: &str = "-";
 
 /// The text if standard input is to be decoded.
 const NAMELESS: &str = "standard input has no name for its image; a file named - is ./-\n";

@@ -1,21 +1,19 @@
-//! What the arguments of a run ask for, the answer if that is nothing, and the source that they name.
+//! What the arguments of a run ask for, and the source that they name.
 
 ghost use Rattle.std.specs.Prelude.{◌≡◌, ◌≤◌, IfOk, IfErr, IsErr, map, false};
 ghost use Rattle.std.specs.String.{string_bytes};
 ghost use Rattle.jr_base.specs.declared.limits.TheConstants.{MAX_WORKERS};
-ghost use Rattle.jr_base.specs.Tally.{has_failed};
 ghost use Rattle.jri_words.specs.CommandLine.{IsTargetOf, is_taken};
-ghost use Rattle.jri_words.specs.Status.{AsksForHelp, answered_status};
+ghost use Rattle.jri_machine.specs.Status.{AsksForHelp};
 
-use crate::answers::{Asked, DecodeRequest, Target, Unasked};
+use crate::answers::{Asked, DecodeRequest, Target};
 use crate::asking::decode_request;
-use crate::devices::{Destination, Devices, Source};
-use jr_base::Tally;
+use jri_machine::{Destination, Devices, Source, Unasked, unreported, wrong};
 use std::alloc::Global;
-use std::io::{Error, ErrorKind, Result as IoResult, Write};
+use std::io::{Result as IoResult, Write};
 
 /// The text for arguments that are not text.
-const UNREPORTED: &str = "an argument is not valid UTF-8; use: jri < FILE\n";
+const NOT_TEXT: &str = "an argument is not valid UTF-8; use: jri < FILE\n";
 
 /// The text if standard input is a terminal.
 const WAITING: &str = "waiting for a JPEG file on standard input\n";
@@ -36,26 +34,6 @@ const OTHER_ENDING: &str =
 
 /// The endings of other formats' names, in small letters.
 const OTHER_ENDINGS: [&str; 8] = ["png", "jpg", "jpeg", "gif", "webp", "tif", "tiff", "bmp"];
-
-/// Returns a text as that of wrong arguments.
-pub fn wrong(alloc: Global, text: &str) -> Unasked
-    ensures { AsksForHelp result → ⊥ }
-{
-    match String::from_str(alloc, text) {
-        Ok(text) => Unasked::Wrong(text),
-        Err(_) => Unasked::Memory,
-    }
-}
-
-/// Returns the reason why there are no arguments.
-fn unread(alloc: Global, error: &Error) -> Unasked
-    ensures { AsksForHelp result → ⊥ }
-{
-    if error.kind() == ErrorKind::OutOfMemory {
-        return Unasked::Memory;
-    }
-    wrong(alloc, UNREPORTED)
-}
 
 /// Returns whether djpeg's option is among the arguments, before `--`.
 fn has_outfile(words: &[String]) -> bool {
@@ -142,43 +120,8 @@ pub fn understood<D: Devices>(
 {
     match words {
         Ok(words) => request_on(alloc, devices, &words),
-        Err(error) => Err(unread(alloc, &error)),
+        Err(error) => Err(unreported(alloc, &error, NOT_TEXT)),
     }
-}
-
-/// The exit status if the help or the version cannot be written.
-const UNWRITTEN: u8 = 1;
-
-/// Writes the help or the version, and reports that it cannot be written, unless its reader has gone away.
-fn write_text<W: Write, E: Write>(out: &mut Tally<W>, errors: &mut E, text: &str) {
-    let written = match out.write_all(text.as_bytes()) {
-        Ok(()) => out.flush(),
-        Err(error) => Err(error),
-    };
-    if let Err(error) = written
-        && error.kind() != ErrorKind::BrokenPipe
-    {
-        let _ = writeln!(errors, "cannot write to standard output");
-    }
-}
-
-/// Writes the answer to arguments that ask for no image, and returns the exit status. Errors of standard error are
-/// ignored.
-pub fn answer<W: Write, E: Write>(out: &mut Tally<W>, errors: &mut E, unasked: &Unasked) -> u8
-    ensures { result ≡ answered_status unasked.now (has_failed out.new) }
-{
-    let _ = match unasked {
-        Unasked::Help(text) => {
-            write_text(out, errors, text.as_str());
-            if out.failed() {
-                return UNWRITTEN;
-            }
-            Ok(())
-        }
-        Unasked::Wrong(text) => write!(errors, "{text}"),
-        Unasked::Memory => writeln!(errors, "out of memory"),
-    };
-    unasked.status()
 }
 
 /// Opens what is read. Reports that standard input is awaited if that is a terminal.

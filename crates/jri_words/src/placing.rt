@@ -2,11 +2,11 @@
 
 ghost use Rattle.std.specs.Prelude.{IfOk, IfErr, List, ◌∷◌, [], ◌≡◌, is_ok, false};
 ghost use Rattle.std.specs.String.{string_bytes};
-ghost use Rattle.jri_words.specs.Steps.{Step, Created, Synced, Removed, Removes, Follow, placed};
+ghost use Rattle.jri_machine.specs.Steps.{Step, Created, Synced, Removed, Removes, Follow, placed};
 
-use crate::devices::{Devices, Existing, Part};
 use crate::ending::Ending;
 use jr_picture::Fault;
+use jri_machine::{Devices, Existing, Part};
 use std::alloc::{AllocError, Global};
 use std::io::{Error, ErrorKind};
 

@@ -1,6 +1,6 @@
 use Rattle.std.proofs.Common.{◌+◌, ℕ, subst, sym}
 use Rattle.std.specs.String.{string_bytes}
-use Rattle.jri_words.specs.Steps.{DecodesEach}
+use Rattle.jri_words.specs.Images.{DecodesEach}
 use Rattle.jri_words.proofs.StepLemmas.{decodes_one_more}
 use Rattle.jri_engine.proofs.many.decode_each.Goals as goal
 

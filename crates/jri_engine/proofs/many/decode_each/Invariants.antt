@@ -1,5 +1,5 @@
 use Rattle.std.specs.String.{string_bytes}
-use Rattle.jri_words.specs.Steps.{DecodesEach}
+use Rattle.jri_words.specs.Images.{DecodesEach}
 use Rattle.jri_engine.proofs.many.decode_each.Given as goal
 
 abbrev pub invariant-loop-k : goal.invariant-loop-k

@@ -3,8 +3,8 @@ use Rattle.std.specs.String.{string_bytes}
 use Rattle.jr_picture.specs.declared.report.Report.{Report}
 use Rattle.jr_picture.specs.declared.report.Fault.{Fault}
 use Rattle.jr_picture.specs.declared.report.Fault.TheVariants as fault
-use Rattle.jri_words.specs.declared.devices.Existing.TheVariants.{Kept}
-use Rattle.jri_words.specs.Steps.{IsInDirectory, LeavesFile}
+use Rattle.jri_machine.specs.declared.devices.Existing.TheVariants.{Kept}
+use Rattle.jri_machine.specs.Steps.{IsInDirectory, LeavesFile}
 use Rattle.jri_words.proofs.StepLemmas.{none_yet, status_reports, undone}
 use Rattle.jri_engine.proofs.many.decode_one.Goals as goal
 

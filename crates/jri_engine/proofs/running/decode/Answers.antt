@@ -1,8 +1,8 @@
 use Rattle.std.proofs.Common.{ℕ, List, Option, IfOk, ◌≡◌, ◌∙◌, ap, subst}
 use Rattle.std.specs.Io.KnownBytes.{Keeps}
 use Rattle.jr_picture.specs.declared.report.Report.{Report}
-use Rattle.jri_words.specs.declared.devices.Noted.{Noted}
-use Rattle.jri_words.specs.Noted.{noted_in}
+use Rattle.jri_machine.specs.declared.noted.Noted.{Noted}
+use Rattle.jri_machine.specs.Noted.{noted_in}
 use Rattle.jri_engine.specs.Decoding.{PaintsBy}
 use Rattle.jri_engine.proofs.DecodingLemmas.{after_flush, painted_kept}
 use Rattle.jri_engine.proofs.running.decode.Goals as goal

@@ -3,7 +3,8 @@ use Rattle.std.proofs.lemmas.Result.{IfOk-weaker}
 use Rattle.jri_words.specs.declared.answers.Target.{Target}
 use Rattle.jri_words.specs.declared.answers.Target.TheVariants as target
 use Rattle.jri_words.specs.declared.ending.Ending.{Ending}
-use Rattle.jri_words.specs.Steps.{Follow, Leaves, Step, is_picture_status}
+use Rattle.jri_machine.specs.Steps.{Follow, Step}
+use Rattle.jri_words.specs.Images.{Leaves, is_picture_status}
 use Rattle.jri_words.proofs.StepLemmas.{none_yet, status_reports}
 use Rattle.jri_engine.proofs.DecodingLemmas.{never}
 use Rattle.jri_engine.proofs.running.program.Goals as goal

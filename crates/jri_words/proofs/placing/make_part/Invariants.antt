@@ -1,5 +1,5 @@
 use Rattle.std.proofs.Common.{[]}
-use Rattle.jri_words.specs.Steps.{Follow}
+use Rattle.jri_machine.specs.Steps.{Follow}
 use Rattle.jri_words.proofs.placing.make_part.Given as goal
 
 abbrev pub invariant-loop-number : goal.invariant-loop-number

@@ -1,13 +1,11 @@
-//! What the program asks of the machine that it runs on.
+//! What programs ask of the machine that they run on.
 
-ghost use Rattle.std.specs.Prelude.{Option, List, ℕ, ⊤, None, OnOk, OnErr, ◌≡◌, ◌∷◌, [], true};
+ghost use Rattle.std.specs.Prelude.{Option, List, ℕ, ⊤, None, OnOk, OnErr, ◌≡◌, ◌∷◌, []};
 ghost use Rattle.std.specs.String.{string_bytes};
-ghost use Rattle.std.specs.Io.KnownBytes.{Keeps};
-ghost use Rattle.jri_words.specs.Noted.{has_flushed, noted_in};
-ghost use Rattle.jri_words.specs.Steps.{Step, Created, Synced, Removed, Opened, Made, Follow, placed};
+ghost use Rattle.jri_machine.specs.Steps.{Step, Created, Synced, Removed, Opened, Made, Follow, placed};
 
-use jri_machine::{Entry, ReadError};
-use std::io::{Error, Read, Result as IoResult, Write};
+use crate::entries::{Entry, ReadError};
+use std::io::{Read, Result as IoResult, Write};
 
 /// What the name of an image leads to.
 #[derive(Clone, Copy, Drop)]
@@ -116,86 +114,4 @@ pub trait Devices {
     /// Removes a file.
     fn remove(&mut self, name: &str) -> IoResult<()>
         ensures { Follow (steps self.old) (steps self.new) (Removed name.now ∷ []) };
-}
-
-/// Where the bytes of a file come from.
-#[derive(Drop)]
-pub enum Source<I, F> {
-    /// Standard input.
-    Input(I),
-    /// A file.
-    File(F),
-}
-
-impl<I: Read, F: Read> Read for Source<I, F> {
-    fn read(&mut self, buf: &mut [u8]) -> IoResult<usize> {
-        match self {
-            Source::Input(input) => input.read(buf),
-            Source::File(file) => file.read(buf),
-        }
-    }
-}
-
-/// A reader or a writer, the system's reason for the last call that failed, and whether all that was written is flushed.
-#[derive(Drop)]
-pub struct Noted<T> {
-    inner: T,
-    reason: Option<Error>,
-    is_flushed: bool,
-}
-
-impl<T> Noted<T> {
-    /// Returns a device over this reader or writer, of which no call has failed yet.
-    pub fn of(inner: T) -> Self
-        ensures { noted_in result ≡ inner }
-    {
-        Noted {
-            inner,
-            reason: None,
-            is_flushed: false,
-        }
-    }
-
-    /// Returns the reader or writer.
-    pub fn into_inner(self) -> T
-        ensures { result ≡ noted_in self }
-    {
-        self.inner
-    }
-
-    /// Returns the reason of the last failure.
-    pub fn reason(&self) -> Option<Error> {
-        self.reason
-    }
-}
-
-impl<R: Read> Read for Noted<R> {
-    ghost remaining = { λ noted. R.remaining (noted_in noted) };
-
-    fn read(&mut self, buf: &mut [u8]) -> IoResult<usize> {
-        let result = self.inner.read(buf);
-        self.reason = result.err().or(self.reason);
-        result
-    }
-}
-
-impl<W: Write> Write for Noted<W> {
-    ghost contents = { λ noted. W.contents (noted_in noted) };
-
-    fn write(&mut self, buf: &[u8]) -> IoResult<usize> {
-        self.is_flushed = false;
-        let result = self.inner.write(buf);
-        self.reason = result.err().or(self.reason);
-        result
-    }
-
-    fn flush(&mut self) -> IoResult<()>
-        ensures bytes { Keeps (W.contents (noted_in self.old)) (W.contents (noted_in self.new)) }
-        ensures flushed { OnOk result (has_flushed self.new ≡ true) }
-    {
-        let result = self.inner.flush();
-        self.is_flushed = result.is_ok();
-        self.reason = result.err().or(self.reason);
-        result
-    }
 }

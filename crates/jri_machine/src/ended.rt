@@ -1,4 +1,4 @@
-//! How the program ends.
+//! How a program ends.
 
 ghost use Rattle.std.specs.Prelude.{◌≡◌};
 ghost use Rattle.std.specs.Process.{exit_status};
@@ -6,19 +6,10 @@ ghost use Rattle.std.specs.Process.{exit_status};
 use std::io::Eprint;
 use std::process::{ExitCode, Termination};
 
-/// The end of the program. Only `program` makes one, so a `main` that returns it ends with the status of a run.
+/// The end of a program: a `main` that returns it ends with this exit status.
 #[derive(Drop)]
 pub struct Ended {
-    pub(crate) status: u8,
-}
-
-impl Ended {
-    /// Returns the exit status.
-    pub fn status(&self) -> u8
-        ensures { result ≡ self.now.status }
-    {
-        self.status
-    }
+    pub status: u8,
 }
 
 impl Termination for Ended {

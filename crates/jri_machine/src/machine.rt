@@ -1,15 +1,16 @@
 //! The machine on which a program runs.
 
 use crate::devices::{Destination, Devices, Existing, Part};
+use crate::entries::{Entry, ReadError};
+use crate::listing::entries_in;
 use crate::retried::Retried;
-use jri_machine::{Entry, ReadError, entries_in};
 use std::fs::{File, Metadata, OpenOptions};
 use std::io::{ErrorKind, IsTerminal, Result as IoResult, Stdin, Stdout};
 use std::os::fd::AsRawFd;
 use std::os::unix::fs::{MetadataExt, OpenOptionsExt};
-use std::rt::{Env, Files};
+use std::rt::Files;
 use std::time::{SystemTime, UNIX_EPOCH};
-use std::{env, fs, process};
+use std::{fs, process};
 
 /// The name under which a system shows standard input.
 const STANDARD_INPUT: &str = "/dev/stdin";
@@ -45,15 +46,6 @@ pub fn hold_streams(rt: &HostRuntime) -> [Option<File>; 3] {
         return [None, None, None];
     }
     [first, held_stream(rt), held_stream(rt)]
-}
-
-/// Returns the arguments after the program's name.
-pub fn arguments<R: Env + AllocGlobal>(rt: &R) -> IoResult<Vec<String>> {
-    let mut words = Vec::new(rt.alloc());
-    for word in env::args(rt)?.skip(1) {
-        words.push(word)?;
-    }
-    Ok(words)
 }
 
 /// The machine on which a program runs.

@@ -1,6 +1,6 @@
 -- What a clause reads of a `Noted`.
 use Rattle.std.specs.Prelude.{Bool}
-use Rattle.jri_words.specs.declared.devices.Noted.{Noted}
+use Rattle.jri_machine.specs.declared.noted.Noted.{Noted}
 
 -- the reader or writer
 abbrev pub noted_in : {T : Type 0} → Noted T → T
