@@ -7,16 +7,8 @@ use crate::unsupported::{refused_word, write_reason};
 use jr_cut::ScanEnd;
 use jr_damage::Lines;
 use jr_segments::Refusal;
-use jri_machine::{ReadError, begin_line};
+use jri_machine::{Label, ReadError, begin_line, in_form, plural};
 use std::alloc::AllocError;
-
-/// What precedes a value: in a line of text, and in a JSON object.
-pub(crate) type Label = (&'static str, &'static str);
-
-/// Returns a label in one of the forms.
-pub(crate) fn in_form(label: Label, is_json: bool) -> &'static str {
-    if is_json { label.1 } else { label.0 }
-}
 
 /// Appends a text after its label, as a JSON string if the line is an object.
 fn write_word(
@@ -32,12 +24,12 @@ fn write_word(
 /// Appends the damage of a scan as text.
 fn write_damage(line: &mut String, checked: &Checked) -> Result<(), AllocError> {
     let (damaged, intervals) = (checked.verdict.damaged, checked.scan.intervals());
-    let plural = if intervals == 1 { "" } else { "s" };
+    let s = plural(intervals);
     match checked.lines {
-        None => write!(line, "sound, {intervals} interval{plural}"),
+        None => write!(line, "sound, {intervals} interval{s}"),
         Some(Lines { first, last }) => write!(
             line,
-            "damaged, {damaged} of {intervals} interval{plural}, lines {first} to {last}"
+            "damaged, {damaged} of {intervals} interval{s}, lines {first} to {last}"
         ),
     }
 }

@@ -5,19 +5,11 @@ ghost use Rattle.std.specs.Prelude.{◌<◌};
 ghost use Rattle.jr_scan.specs.ScanValue.{intervals_of};
 
 use crate::damaged_run::DamagedRun;
-use crate::lines::{Label, in_form};
 use jr_cut::{Break, CodedSpan};
 use jr_damage::{DoubtfulMcu, McuRange, lines_of, mcus_of};
 use jr_head::Head;
-use jri_machine::begin_line;
+use jri_machine::{BREAK, Row, begin_line, write_row};
 use std::alloc::AllocError;
-
-/// The labels of a line's numbers, and what follows them. A number whose label is empty is left out.
-#[derive(Clone, Copy)]
-struct Row {
-    labels: &'static [Label],
-    end: Label,
-}
 
 /// Of a damaged interval that has bytes.
 const DAMAGED: Row = Row {
@@ -88,17 +80,6 @@ const DOUBTFUL: Row = Row {
     end: (", doubtful: no 8-bit image has such a value\n", "}\n"),
 };
 
-/// Of a marker that was out of step, as a JSON object.
-const BREAK: Row = Row {
-    labels: &[
-        ("", ",\"byte\":"),
-        ("", ",\"marker\":"),
-        ("", ",\"due\":"),
-        ("", ",\"lost\":"),
-    ],
-    end: ("", "}\n"),
-};
-
 /// Appends a line, with its end.
 fn append_row(
     line: &mut String,
@@ -108,13 +89,7 @@ fn append_row(
     is_json: bool,
 ) -> Result<(), AllocError> {
     begin_line(line, name, is_json)?;
-    for (label, number) in row.labels.iter().zip(numbers.iter()) {
-        let label = in_form(*label, is_json);
-        if !label.is_empty() {
-            write!(line, "{label}{number}")?;
-        }
-    }
-    line.push_str(in_form(row.end, is_json))
+    write_row(line, row, numbers, is_json)
 }
 
 /// Returns the numbers of the first and the last of some MCUs.
@@ -195,7 +170,8 @@ pub(crate) fn append_break(
     if is_json {
         let (code, due) = (u64::from(found.code), u64::from(found.due));
         let numbers = [found.at, code, due, u64::from(found.skipped)];
-        return append_row(line, name, BREAK, &numbers, is_json);
+        append_row(line, name, BREAK, &numbers, is_json)?;
+        return line.push('\n');
     }
     begin_line(line, name, is_json)?;
     writeln!(line, "{found}")

@@ -1,9 +1,8 @@
 //! Markers of copies that are out of step, in lines and objects.
 
 use jr_cut::Break;
+use jri_machine::{BREAK, write_row};
 use std::alloc::AllocError;
-use std::fmt;
-use std::fmt::{Display, Formatter};
 
 /// A marker of a copy that is out of step.
 #[derive(Clone, Copy)]
@@ -13,27 +12,23 @@ pub(crate) struct CopyBreak {
     pub(crate) found: Break,
 }
 
-impl Display for CopyBreak {
-    /// Writes the copy, counted from 1, and the break.
-    fn fmt<W: fmt::Write>(&self, f: &mut Formatter<W>) -> fmt::Result {
-        let copy = self.copy as u64;
-        let copy = copy.saturating_add(1);
-        let found = self.found;
-        write!(f, "copy {copy}: {found}")
-    }
+/// Returns the number of a copy or a directory in a line, where they are counted from 1.
+pub(crate) fn number_of(copy: usize) -> u64 {
+    (copy as u64).saturating_add(1)
 }
 
-/// Appends a break as a JSON object.
-pub(crate) fn write_break(line: &mut String, found: CopyBreak) -> Result<(), AllocError> {
-    let Break {
-        at,
-        code,
-        due,
-        skipped,
-    } = found.found;
-    let copy = (found.copy as u64).saturating_add(1);
-    write!(
-        line,
-        "{{\"copy\":{copy},\"byte\":{at},\"marker\":{code},\"due\":{due},\"lost\":{skipped}}}"
-    )
+/// Appends a break, as a line or as an object.
+pub(crate) fn write_break(
+    line: &mut String,
+    found: CopyBreak,
+    is_json: bool,
+) -> Result<(), AllocError> {
+    let (copy, found) = (number_of(found.copy), found.found);
+    if !is_json {
+        return writeln!(line, "copy {copy}: {found}");
+    }
+    write!(line, "{{\"copy\":{copy}")?;
+    let (code, due) = (u64::from(found.code), u64::from(found.due));
+    let numbers = [found.at, code, due, u64::from(found.skipped)];
+    write_row(line, BREAK, &numbers, is_json)
 }

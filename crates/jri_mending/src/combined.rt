@@ -2,9 +2,8 @@
 
 use crate::reading::{CopyError, copies_of, in_step};
 use jr_mend::{ByteRun, CombineError, Combined, MAX_COPIES, combine};
+use jri_machine::{Row, write_row};
 use std::alloc::{AllocError, Global};
-use std::fmt;
-use std::fmt::{Display, Formatter};
 
 /// A copy that is combined of the copies, which have one length.
 #[derive(Drop)]
@@ -48,44 +47,41 @@ pub(crate) fn combined_of(
     Ok(Some(CombinedCopy { file, runs }))
 }
 
-/// Bytes of the combined copy in a line.
-#[derive(Clone, Copy)]
-pub(crate) struct RunLine(pub(crate) ByteRun);
+/// Of bytes of the combined copy, in a line.
+const BYTES: Row = Row {
+    labels: &[
+        ("combined copy: bytes ", "{\"first_byte\":"),
+        (" to ", ",\"last_byte\":"),
+        (" from copy ", ",\"copy\":"),
+    ],
+    end: ("\n", "}"),
+};
 
-impl Display for RunLine {
-    /// Writes the bytes, both ends included, and their copy, counted from 1.
-    fn fmt<W: fmt::Write>(&self, f: &mut Formatter<W>) -> fmt::Result {
-        let first = self.0.start as u64;
-        let last = (self.0.end as u64).saturating_sub(1);
-        let copy = u64::from(self.0.copy).saturating_add(1);
-        if first == last {
-            write!(f, "combined copy: byte {first} from copy {copy}")
-        } else {
-            write!(f, "combined copy: bytes {first} to {last} from copy {copy}")
-        }
-    }
-}
+/// Of one byte.
+const BYTE: Row = Row {
+    labels: &[
+        ("combined copy: byte ", "{\"first_byte\":"),
+        ("", ",\"last_byte\":"),
+        (" from copy ", ",\"copy\":"),
+    ],
+    end: ("\n", "}"),
+};
 
-/// Appends bytes of the combined copy as a JSON object.
-pub(crate) fn write_bytes(line: &mut String, run: ByteRun) -> Result<(), AllocError> {
-    let first = run.start as u64;
-    let last = (run.end as u64).saturating_sub(1);
+/// Appends bytes of the combined copy and their copy, as a line or as an object.
+pub(crate) fn write_bytes(
+    line: &mut String,
+    run: ByteRun,
+    is_json: bool,
+) -> Result<(), AllocError> {
+    let (first, last) = (run.start as u64, (run.end as u64).saturating_sub(1));
+    let row = if first == last { BYTE } else { BYTES };
     let copy = u64::from(run.copy).saturating_add(1);
-    write!(
-        line,
-        "{{\"first_byte\":{first},\"last_byte\":{last},\"copy\":{copy}}}"
-    )
+    write_row(line, row, &[first, last, copy], is_json)
 }
 
-/// Consecutive runs from one copy, and the number of the run after them.
-#[derive(Clone, Copy)]
-pub(crate) struct JoinedRun {
-    pub(crate) bytes: ByteRun,
-    pub(crate) next: usize,
-}
-
-/// Returns the bytes of the run of this number and of those that follow it without a gap, from the same copy.
-pub(crate) fn joined_at(runs: &[ByteRun], first: usize) -> Option<JoinedRun> {
+/// Returns the bytes of the run of this number and of those that follow it without a gap, from the same copy, and the number of
+/// the run after them.
+pub(crate) fn joined_at(runs: &[ByteRun], first: usize) -> Option<(ByteRun, usize)> {
     if first >= runs.len() {
         return None;
     }
@@ -99,5 +95,5 @@ pub(crate) fn joined_at(runs: &[ByteRun], first: usize) -> Option<JoinedRun> {
         bytes.end = run.end;
         next = k.saturating_add(1);
     }
-    Some(JoinedRun { bytes, next })
+    Some((bytes, next))
 }

@@ -3,13 +3,13 @@
 ghost use Rattle.std.specs.Prelude.{◌≡◌, ◌<◌, IfOk, length};
 ghost use Rattle.jr_head.specs.Heads.{HeadOf};
 
+use crate::breaks::number_of;
 use crate::reading::{CopyError, refused};
 use jr_head::{Head, read_head};
 use jr_mend::under_header;
 use jr_segments::Refusal;
+use jri_machine::{Row, write_row};
 use std::alloc::{AllocError, Global};
-use std::fmt;
-use std::fmt::{Display, Formatter};
 use std::mem::replace;
 
 /// A copy that is read under the header of another one. Copies are counted from 0.
@@ -20,20 +20,23 @@ pub(crate) struct Borrowed {
     pub(crate) from: usize,
 }
 
-impl Display for Borrowed {
-    /// Writes both copies, counted from 1.
-    fn fmt<W: fmt::Write>(&self, f: &mut Formatter<W>) -> fmt::Result {
-        let copy = (self.copy as u64).saturating_add(1);
-        let from = (self.from as u64).saturating_add(1);
-        write!(f, "copy {copy}: read under the header of copy {from}")
-    }
-}
+/// Of a copy that is read under another header.
+const BORROWED: Row = Row {
+    labels: &[
+        ("copy ", "{\"copy\":"),
+        (": read under the header of copy ", ",\"from\":"),
+    ],
+    end: ("\n", "}"),
+};
 
-/// Appends a copy as a JSON object.
-pub(crate) fn write_borrowed(line: &mut String, found: Borrowed) -> Result<(), AllocError> {
-    let copy = (found.copy as u64).saturating_add(1);
-    let from = (found.from as u64).saturating_add(1);
-    write!(line, "{{\"copy\":{copy},\"from\":{from}}}")
+/// Appends both copies, as a line or as an object.
+pub(crate) fn write_borrowed(
+    line: &mut String,
+    found: Borrowed,
+    is_json: bool,
+) -> Result<(), AllocError> {
+    let numbers = [number_of(found.copy), number_of(found.from)];
+    write_row(line, BORROWED, &numbers, is_json)
 }
 
 /// A copy with an accepted header, taken from the others.

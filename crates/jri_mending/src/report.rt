@@ -1,7 +1,7 @@
 //! What is reported of a mended file.
 
 use crate::breaks::{CopyBreak, write_break};
-use crate::combined::{RunLine, joined_at, write_bytes};
+use crate::combined::{joined_at, write_bytes};
 use crate::headers::{Borrowed, write_borrowed};
 use crate::outcome::Outcome;
 use crate::preparing::Prepared;
@@ -42,32 +42,42 @@ pub(crate) fn is_first_sound(choices: &[Choice]) -> bool {
     true
 }
 
-/// Writes a line for each break.
-fn write_breaks<E: Write>(errors: &mut E, breaks: &[CopyBreak]) -> IoResult<()> {
-    for found in breaks {
-        writeln!(errors, "{found}")?;
-    }
+/// Writes a line by one write, and empties it.
+fn write_line<E: Write>(errors: &mut E, line: &mut String) -> IoResult<()> {
+    errors.write_all(line.as_bytes())?;
+    line.clear();
     Ok(())
 }
 
 /// Writes a line for each copy that is read under another header, and for each break.
-pub(crate) fn write_prepared<E: Write>(errors: &mut E, prepared: &Prepared) -> IoResult<()> {
+pub(crate) fn write_prepared<E: Write>(
+    alloc: Global,
+    errors: &mut E,
+    prepared: &Prepared,
+) -> IoResult<()> {
+    let mut line = String::new(alloc);
     for found in &prepared.borrowed {
-        writeln!(errors, "{found}")?;
+        write_borrowed(&mut line, *found, false)?;
+        write_line(errors, &mut line)?;
     }
-    write_breaks(errors, &prepared.breaks)
+    for found in &prepared.breaks {
+        write_break(&mut line, *found, false)?;
+        write_line(errors, &mut line)?;
+    }
+    Ok(())
 }
 
 /// Writes a line for the bytes of each run of the combined copy.
-fn write_runs<E: Write>(errors: &mut E, runs: &[ByteRun]) -> IoResult<()> {
+fn write_runs<E: Write>(alloc: Global, errors: &mut E, runs: &[ByteRun]) -> IoResult<()> {
+    let mut line = String::new(alloc);
     let mut next = 0;
     for _ in 0..runs.len() {
-        let Some(run) = joined_at(runs, next) else {
+        let Some((bytes, after)) = joined_at(runs, next) else {
             break;
         };
-        let line = RunLine(run.bytes);
-        writeln!(errors, "{line}")?;
-        next = run.next;
+        write_bytes(&mut line, bytes, false)?;
+        write_line(errors, &mut line)?;
+        next = after;
     }
     Ok(())
 }
@@ -75,18 +85,21 @@ fn write_runs<E: Write>(errors: &mut E, runs: &[ByteRun]) -> IoResult<()> {
 /// Writes a line for the bytes of each run of the combined copy and for each run of intervals, and one if the first copy is
 /// written as it is.
 pub(crate) fn write_lines<E: Write>(
+    alloc: Global,
     errors: &mut E,
     outcome: &Outcome,
     is_mended: bool,
 ) -> IoResult<()> {
-    write_runs(errors, &outcome.runs)?;
+    write_runs(alloc, errors, &outcome.runs)?;
     let choices = outcome.mended.choices.as_slice();
+    let mut line = String::new(alloc);
     let mut next = 0;
     for _ in 0..choices.len() {
         let Some(run) = run_at(choices, next, outcome.copies) else {
             break;
         };
-        writeln!(errors, "{run}")?;
+        write_run(&mut line, run, false)?;
+        write_line(errors, &mut line)?;
         next = run.last.saturating_add(1);
     }
     if !is_mended {
@@ -95,54 +108,46 @@ pub(crate) fn write_lines<E: Write>(
     Ok(())
 }
 
-/// Appends the copies that are read under another header as a member of an object; nothing if there are none.
-fn write_headers(line: &mut String, borrowed: &[Borrowed]) -> Result<(), AllocError> {
-    if borrowed.is_empty() {
-        return Ok(());
+/// Begins element `index` of a list that is a member of an object.
+fn begin_element(line: &mut String, key: &str, index: usize) -> Result<(), AllocError> {
+    if index == 0 {
+        write!(line, "\"{key}\":[")
+    } else {
+        line.push(',')
     }
-    line.push_str("\"headers\":[")?;
-    for i in 0..borrowed.len() {
-        if i > 0 {
-            line.push(',')?;
-        }
-        write_borrowed(line, borrowed[i])?;
-    }
-    line.push_str("],")
 }
 
-/// Appends the breaks as a member of an object; nothing if there are none.
-fn write_break_objects(line: &mut String, breaks: &[CopyBreak]) -> Result<(), AllocError> {
-    if breaks.is_empty() {
-        return Ok(());
-    }
-    line.push_str("\"breaks\":[")?;
-    for i in 0..breaks.len() {
-        if i > 0 {
-            line.push(',')?;
-        }
-        write_break(line, breaks[i])?;
-    }
-    line.push_str("],")
+/// Ends a list of this length before another member. An empty one is left out.
+fn end_list(line: &mut String, length: usize) -> Result<(), AllocError> {
+    if length == 0 { Ok(()) } else { line.push_str("],") }
 }
 
-/// Appends the runs of the combined copy as a member of an object; nothing if there are none.
-fn write_run_objects(line: &mut String, runs: &[ByteRun]) -> Result<(), AllocError> {
-    if runs.is_empty() {
-        return Ok(());
+/// Appends the copies that are read under another header, the breaks and the runs of the combined copy as members of an object.
+fn write_lists(
+    line: &mut String,
+    prepared: &Prepared,
+    runs: &[ByteRun],
+) -> Result<(), AllocError> {
+    for (index, found) in prepared.borrowed.iter().enumerate() {
+        begin_element(line, "headers", index)?;
+        write_borrowed(line, *found, true)?;
     }
-    line.push_str("\"combined\":[")?;
+    end_list(line, prepared.borrowed.len())?;
+    for (index, found) in prepared.breaks.iter().enumerate() {
+        begin_element(line, "breaks", index)?;
+        write_break(line, *found, true)?;
+    }
+    end_list(line, prepared.breaks.len())?;
     let mut next = 0;
     for _ in 0..runs.len() {
-        let Some(run) = joined_at(runs, next) else {
+        let Some((bytes, after)) = joined_at(runs, next) else {
             break;
         };
-        if next > 0 {
-            line.push(',')?;
-        }
-        write_bytes(line, run.bytes)?;
-        next = run.next;
+        begin_element(line, "combined", next)?;
+        write_bytes(line, bytes, true)?;
+        next = after;
     }
-    line.push_str("],")
+    end_list(line, runs.len())
 }
 
 /// Returns the report as a JSON object, with the line's end.
@@ -160,22 +165,18 @@ pub(crate) fn object_of(
     } = report_of(choices);
     let mut line = String::new(alloc);
     line.push('{')?;
-    write_headers(&mut line, &prepared.borrowed)?;
-    write_break_objects(&mut line, &prepared.breaks)?;
-    write_run_objects(&mut line, &outcome.runs)?;
+    write_lists(&mut line, prepared, &outcome.runs)?;
     write!(
         line,
-        "\"intervals\":{intervals},\"damaged\":{damaged},\"mended\":{is_mended},\"runs\":["
+        "\"intervals\":{intervals},\"damaged\":{damaged},\"mended\":{is_mended},"
     )?;
     let mut next = 0;
     for _ in 0..choices.len() {
         let Some(run) = run_at(choices, next, outcome.copies) else {
             break;
         };
-        if next > 0 {
-            line.push(',')?;
-        }
-        write_run(&mut line, run)?;
+        begin_element(&mut line, "runs", next)?;
+        write_run(&mut line, run, true)?;
         next = run.last.saturating_add(1);
     }
     line.push_str("]}\n")?;

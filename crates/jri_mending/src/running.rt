@@ -124,8 +124,8 @@ fn report_mended<D: Devices, E: Write>(
 ) -> u8 {
     let status = if outcome.is_damaged() { 1 } else { 0 };
     if !asked.is_json {
-        let _ = write_prepared(errors, prepared);
-        let _ = write_lines(errors, outcome, is_mended);
+        let _ = write_prepared(alloc, errors, prepared);
+        let _ = write_lines(alloc, errors, outcome, is_mended);
         return status;
     }
     let Ok(object) = object_of(alloc, outcome, prepared, is_mended) else {

@@ -1,9 +1,8 @@
 //! Consecutive intervals that are taken from one copy.
 
 use jr_mend::Choice;
+use jri_machine::{Row, write_row};
 use std::alloc::AllocError;
-use std::fmt;
-use std::fmt::{Display, Formatter};
 
 /// Consecutive intervals with equal choices.
 #[derive(Clone, Copy)]
@@ -15,59 +14,74 @@ pub(crate) struct Run {
     pub(crate) is_combined: bool,
 }
 
-impl Display for Run {
-    /// Writes from which copy the intervals are, counted from 1, and how far they can be decoded if they are damaged in all.
-    fn fmt<W: fmt::Write>(&self, f: &mut Formatter<W>) -> fmt::Result {
-        let (first, last) = (self.first, self.last);
-        if first == last {
-            write!(f, "interval {first}: ")?;
-        } else {
-            write!(f, "intervals {first} to {last}: ")?;
+/// Of several intervals.
+const INTERVALS: Row = Row {
+    labels: &[
+        ("intervals ", "{\"interval\":"),
+        (" to ", ",\"last_interval\":"),
+    ],
+    end: (": ", ""),
+};
+
+/// Of one interval.
+const INTERVAL: Row = Row {
+    labels: &[
+        ("interval ", "{\"interval\":"),
+        ("", ",\"last_interval\":"),
+    ],
+    end: (": ", ""),
+};
+
+/// Appends from which copy intervals are, and how far they can be decoded if they are damaged in all.
+fn write_source(line: &mut String, run: Run) -> Result<(), AllocError> {
+    let copy = u64::from(run.choice.copy).saturating_add(1);
+    match (run.choice.front, run.is_combined) {
+        (Some(mcus), true) => write!(
+            line,
+            "damaged in all copies, the combined copy decodes {mcus} MCUs"
+        )?,
+        (Some(mcus), false) => {
+            write!(
+                line,
+                "damaged in all copies, copy {copy} decodes {mcus} MCUs"
+            )?;
         }
-        let copy = u64::from(self.choice.copy).saturating_add(1);
-        match self.choice.front {
-            Some(mcus) if self.is_combined => {
-                return write!(
-                    f,
-                    "damaged in all copies, the combined copy decodes {mcus} MCUs"
-                );
-            }
-            Some(mcus) => {
-                return write!(f, "damaged in all copies, copy {copy} decodes {mcus} MCUs");
-            }
-            None if self.is_combined => f.write_str("combined copy")?,
-            None => write!(f, "copy {copy}")?,
-        }
-        if self.choice.differs {
-            f.write_str(", sound in copies with different data")?;
-        }
-        Ok(())
+        (None, true) => line.push_str("combined copy")?,
+        (None, false) => write!(line, "copy {copy}")?,
     }
+    if run.choice.front.is_none() && run.choice.differs {
+        line.push_str(", sound in copies with different data")?;
+    }
+    line.push('\n')
 }
 
-/// Appends a run as a JSON object.
-pub(crate) fn write_run(line: &mut String, run: Run) -> Result<(), AllocError> {
-    let Run {
-        first,
-        last,
-        choice,
-        is_combined,
-    } = run;
-    write!(line, "{{\"interval\":{first},\"last_interval\":{last}")?;
-    if is_combined {
+/// Appends the same as members of an object, with its end.
+fn write_source_members(line: &mut String, run: Run) -> Result<(), AllocError> {
+    if run.is_combined {
         line.push_str(",\"combined\":true")?;
     } else {
-        let copy = u64::from(choice.copy).saturating_add(1);
+        let copy = u64::from(run.choice.copy).saturating_add(1);
         write!(line, ",\"copy\":{copy}")?;
     }
-    if let Some(mcus) = choice.front {
+    if let Some(mcus) = run.choice.front {
         return write!(line, ",\"is\":\"damaged\",\"decodable\":{mcus}}}");
     }
     line.push_str(",\"is\":\"sound\"")?;
-    if choice.differs {
+    if run.choice.differs {
         line.push_str(",\"differs\":true")?;
     }
     line.push('}')
+}
+
+/// Appends a run, as a line or as an object.
+pub(crate) fn write_run(line: &mut String, run: Run, is_json: bool) -> Result<(), AllocError> {
+    let (first, last) = (run.first as u64, run.last as u64);
+    let row = if first == last { INTERVAL } else { INTERVALS };
+    write_row(line, row, &[first, last], is_json)?;
+    if is_json {
+        return write_source_members(line, run);
+    }
+    write_source(line, run)
 }
 
 /// Returns the run of intervals that begins with one of them. The copy after the last of these is the combined one.

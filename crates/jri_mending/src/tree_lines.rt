@@ -1,25 +1,16 @@
 //! The lines of the names in several directories, as text or as JSON objects. Copies have the numbers of their directories,
 //! from 1.
 
+use crate::breaks::number_of;
 use crate::outcome::Outcome;
 use crate::reading::CopyError;
 use crate::report::report_of;
 use crate::trees::TreeFile;
 use jr_mend::Choice;
 use jr_picture::{Fault, Report};
-use jri_machine::{ReadError, begin_line, write_string};
+use jri_machine::{ReadError, begin_line, in_form, plural, write_string};
 use jri_words::Ending;
 use std::alloc::{AllocError, Global};
-
-/// Returns one of two texts.
-fn either(is_json: bool, text: &'static str, object: &'static str) -> &'static str {
-    if is_json { object } else { text }
-}
-
-/// Returns the end of the word for this number of intervals.
-fn plural(count: u32) -> &'static str {
-    if count == 1 { "" } else { "s" }
-}
 
 /// Returns the number of intervals that are taken from a copy.
 fn taken_from(choices: &[Choice], copy: usize) -> u32 {
@@ -30,11 +21,6 @@ fn taken_from(choices: &[Choice], copy: usize) -> u32 {
         }
     }
     count
-}
-
-/// Returns the number of a directory in a line.
-fn number_of(tree: usize) -> u64 {
-    (tree as u64).saturating_add(1)
 }
 
 /// Appends the number of intervals from each copy and from the combined one, as text.
@@ -134,9 +120,9 @@ pub(crate) fn append_equal(
     is_json: bool,
 ) -> Result<(), AllocError> {
     begin_line(line, file.name.as_slice(), is_json)?;
-    line.push_str(either(is_json, "equal", ",\"is\":\"equal\""))?;
+    line.push_str(in_form(("equal", ",\"is\":\"equal\""), is_json))?;
     if is_copied {
-        line.push_str(either(is_json, ", copied", ",\"copied\":true"))?;
+        line.push_str(in_form((", copied", ",\"copied\":true"), is_json))?;
     }
     end_line(line, file, trees, is_json)
 }
@@ -148,7 +134,7 @@ pub(crate) fn append_there(
     is_json: bool,
 ) -> Result<(), AllocError> {
     begin_line(line, name, is_json)?;
-    line.push_str(either(is_json, "already there\n", ",\"is\":\"there\"}\n"))
+    line.push_str(in_form(("already there\n", ",\"is\":\"there\"}\n"), is_json))
 }
 
 /// Appends the line of a name that is neither UTF-8 nor that of a JPEG file.
@@ -158,9 +144,9 @@ pub(crate) fn append_skipped(
     is_json: bool,
 ) -> Result<(), AllocError> {
     begin_line(line, name, is_json)?;
-    line.push_str(either(is_json, "skipped: ", ",\"is\":\"skipped\",\"why\":\""))?;
+    line.push_str(in_form(("skipped: ", ",\"is\":\"skipped\",\"why\":\""), is_json))?;
     line.push_str(ReadError::NameIsNoText.text())?;
-    line.push_str(either(is_json, "\n", "\"}\n"))
+    line.push_str(in_form(("\n", "\"}\n"), is_json))
 }
 
 /// Appends a reason as the last member of an object, with the line's end.

@@ -3,7 +3,7 @@
 use crate::quality::quality_of;
 use jr_head::{Head, Kind};
 use jr_picture::Fault;
-use jri_machine::begin_line;
+use jri_machine::{begin_line, plural};
 use std::alloc::{AllocError, Global};
 use std::fmt;
 use std::fmt::{Display, Formatter};
@@ -67,14 +67,14 @@ fn write_head(line: &mut String, head: &Head) -> Result<(), AllocError> {
         mark: "",
     };
     let intervals = head.intervals();
-    let plural = if intervals == 1 { "" } else { "s" };
+    let s = plural(intervals);
     let quality = Quality {
         before: ", quality ",
         quality: quality_of(head),
     };
     writeln!(
         line,
-        "{width} x {height}, {kind}, sampling {sampling}, {intervals} interval{plural}{quality}, scan at byte {scan_at}"
+        "{width} x {height}, {kind}, sampling {sampling}, {intervals} interval{s}{quality}, scan at byte {scan_at}"
     )
 }
 
