@@ -14,9 +14,9 @@ use crate::sharing::check_all;
 use crate::source::Source;
 use crate::state_file::{State, StateError};
 use jr_base::Tally;
-use jri_machine::{Ended, ReadError, Unasked, answer};
+use jri_machine::{Ended, Noted, ReadError, Unasked, answer};
 use std::alloc::{AllocError, Global};
-use std::io::{BufReader, ErrorKind, Read, Result as IoResult, Write};
+use std::io::{BufReader, ErrorKind, Read, Write};
 use std::sync::Wait;
 use std::thread::Threads;
 
@@ -48,37 +48,6 @@ pub struct Streams<O, E, P> {
     pub errors: E,
     /// Shows how far the run is.
     pub progress: P,
-}
-
-/// An output, and whether its reader has gone away.
-#[derive(Drop)]
-struct Watched<W> {
-    out: W,
-    is_closed: bool,
-}
-
-impl<W: Write> Write for Watched<W> {
-    fn write(&mut self, bytes: &[u8]) -> IoResult<usize> {
-        let written = self.out.write(bytes);
-        if let Err(error) = &written
-            && error.kind() == ErrorKind::BrokenPipe
-        {
-            self.is_closed = true;
-        }
-        written
-    }
-
-    fn flush(&mut self) -> IoResult<()> {
-        self.out.flush()
-    }
-}
-
-/// Returns an output whose reader has not gone away.
-fn watch<W>(out: W) -> Watched<W> {
-    Watched {
-        out,
-        is_closed: false,
-    }
 }
 
 /// Writes the counts, and why not every file has its line. It allocates nothing.
@@ -164,6 +133,14 @@ fn open_all<L: Lists, E: Write>(
     }
 }
 
+/// Returns whether the reader of an output has gone away.
+fn is_left<W>(out: &Noted<W>) -> bool {
+    match out.reason() {
+        Some(reason) => reason.kind() == ErrorKind::BrokenPipe,
+        None => false,
+    }
+}
+
 /// Does what the program's arguments ask for: checks the files of a directory and of a list, and writes a line for each. The
 /// status is that of the check's report, or of what `answer` writes instead, 3 if the list of names cannot be read, or that of the
 /// error of the state file.
@@ -213,8 +190,8 @@ pub fn program<
         state,
     };
     let (is_quiet, is_strict) = (asked.form.is_quiet, asked.is_strict);
-    let (report, out) = check_all(rt, alloc, source, asked, list, watch(out), progress);
-    if !out.is_closed {
+    let (report, out) = check_all(rt, alloc, source, asked, list, Noted::of(out), progress);
+    if !is_left(&out) {
         report_end(&mut errors, &report, is_quiet);
     }
     Ended {

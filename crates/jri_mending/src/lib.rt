@@ -5,7 +5,7 @@ mod asking;
 mod breaks;
 mod combined;
 mod headers;
-mod outcome;
+mod mended_file;
 mod preparing;
 mod reading;
 mod report;

@@ -3,7 +3,7 @@
 use crate::breaks::{CopyBreak, write_break};
 use crate::combined::{joined_at, write_bytes};
 use crate::headers::{Borrowed, write_borrowed};
-use crate::outcome::Outcome;
+use crate::mended_file::MendedFile;
 use crate::preparing::Prepared;
 use crate::runs::{run_at, write_run};
 use jr_cut::ScanEnd;
@@ -87,7 +87,7 @@ fn write_runs<E: Write>(alloc: Global, errors: &mut E, runs: &[ByteRun]) -> IoRe
 pub(crate) fn write_lines<E: Write>(
     alloc: Global,
     errors: &mut E,
-    outcome: &Outcome,
+    outcome: &MendedFile,
     is_mended: bool,
 ) -> IoResult<()> {
     write_runs(alloc, errors, &outcome.runs)?;
@@ -119,15 +119,15 @@ fn begin_element(line: &mut String, key: &str, index: usize) -> Result<(), Alloc
 
 /// Ends a list of this length before another member. An empty one is left out.
 fn end_list(line: &mut String, length: usize) -> Result<(), AllocError> {
-    if length == 0 { Ok(()) } else { line.push_str("],") }
+    if length == 0 {
+        Ok(())
+    } else {
+        line.push_str("],")
+    }
 }
 
 /// Appends the copies that are read under another header, the breaks and the runs of the combined copy as members of an object.
-fn write_lists(
-    line: &mut String,
-    prepared: &Prepared,
-    runs: &[ByteRun],
-) -> Result<(), AllocError> {
+fn write_lists(line: &mut String, prepared: &Prepared, runs: &[ByteRun]) -> Result<(), AllocError> {
     for (index, found) in prepared.borrowed.iter().enumerate() {
         begin_element(line, "headers", index)?;
         write_borrowed(line, *found, true)?;
@@ -153,7 +153,7 @@ fn write_lists(
 /// Returns the report as a JSON object, with the line's end.
 pub(crate) fn object_of(
     alloc: Global,
-    outcome: &Outcome,
+    outcome: &MendedFile,
     prepared: &Prepared,
     is_mended: bool,
 ) -> Result<String, AllocError> {

@@ -5,7 +5,7 @@ ghost use Rattle.jr_mend.specs.declared.choice.TheConstants.{MAX_COPIES};
 ghost use Rattle.jri_machine.specs.Steps.{LeavesFile};
 
 use crate::asking::{MendRequest, asked};
-use crate::outcome::{Outcome, is_changed, mended_of};
+use crate::mended_file::{MendedFile, is_changed, mended_of};
 use crate::preparing::{Prepared, prepare};
 use crate::reading::{CopyError, read_files};
 use crate::report::{object_of, report_of, write_lines, write_prepared};
@@ -117,7 +117,7 @@ fn report_mended<D: Devices, E: Write>(
     alloc: Global,
     devices: &D,
     asked: &MendRequest,
-    outcome: &Outcome,
+    outcome: &MendedFile,
     prepared: &Prepared,
     is_mended: bool,
     errors: &mut E,
@@ -166,7 +166,7 @@ fn write_outcome<D: Devices, E: Write>(
     devices: &mut D,
     asked: &MendRequest,
     first: &[u8],
-    outcome: &Outcome,
+    outcome: &MendedFile,
     prepared: &Prepared,
     errors: &mut E,
 ) -> u8 {

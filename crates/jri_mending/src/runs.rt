@@ -25,10 +25,7 @@ const INTERVALS: Row = Row {
 
 /// Of one interval.
 const INTERVAL: Row = Row {
-    labels: &[
-        ("interval ", "{\"interval\":"),
-        ("", ",\"last_interval\":"),
-    ],
+    labels: &[("interval ", "{\"interval\":"), ("", ",\"last_interval\":")],
     end: (": ", ""),
 };
 

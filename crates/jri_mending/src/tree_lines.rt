@@ -2,7 +2,7 @@
 //! from 1.
 
 use crate::breaks::number_of;
-use crate::outcome::Outcome;
+use crate::mended_file::MendedFile;
 use crate::reading::CopyError;
 use crate::report::report_of;
 use crate::trees::TreeFile;
@@ -24,7 +24,11 @@ fn taken_from(choices: &[Choice], copy: usize) -> u32 {
 }
 
 /// Appends the number of intervals from each copy and from the combined one, as text.
-fn write_sources(line: &mut String, file: &TreeFile, outcome: &Outcome) -> Result<(), AllocError> {
+fn write_sources(
+    line: &mut String,
+    file: &TreeFile,
+    outcome: &MendedFile,
+) -> Result<(), AllocError> {
     let choices = outcome.mended.choices.as_slice();
     for k in 0..file.trees.len() {
         let count = taken_from(choices, k);
@@ -43,7 +47,7 @@ fn write_sources(line: &mut String, file: &TreeFile, outcome: &Outcome) -> Resul
 fn write_source_members(
     line: &mut String,
     file: &TreeFile,
-    outcome: &Outcome,
+    outcome: &MendedFile,
 ) -> Result<(), AllocError> {
     let choices = outcome.mended.choices.as_slice();
     let combined = taken_from(choices, outcome.copies);
@@ -77,7 +81,7 @@ fn end_line(
 pub(crate) fn append_mended(
     line: &mut String,
     file: &TreeFile,
-    outcome: &Outcome,
+    outcome: &MendedFile,
     trees: usize,
     is_json: bool,
 ) -> Result<(), AllocError> {

@@ -4,7 +4,7 @@ ghost use Rattle.std.specs.Prelude.{◌<◌, ◌≤◌, length};
 ghost use Rattle.jr_mend.specs.declared.choice.TheConstants.{MAX_COPIES};
 
 use crate::asking::TreesRequest;
-use crate::outcome::{is_changed, mended_of};
+use crate::mended_file::{is_changed, mended_of};
 use crate::preparing::prepare;
 use crate::reading::{CopyError, read_files};
 use crate::tree_counts::NameState;

@@ -5,8 +5,6 @@ use jr_head::{Head, Kind};
 use jr_picture::Fault;
 use jri_machine::{begin_line, plural};
 use std::alloc::{AllocError, Global};
-use std::fmt;
-use std::fmt::{Display, Formatter};
 
 /// Returns the name of the components' meaning.
 fn kind_name(kind: Kind) -> &'static str {
@@ -17,85 +15,55 @@ fn kind_name(kind: Kind) -> &'static str {
     }
 }
 
-/// The sampling factors of each component (T.81, A.1.1): horizontal, `x`, vertical.
-#[derive(Clone, Copy)]
-struct Sampling<'a> {
-    head: &'a Head,
-    /// The text between two components.
-    between: &'static str,
-    /// The text before and after each component.
-    mark: &'static str,
-}
-
-impl Display for Sampling<'_> {
-    fn fmt<W: fmt::Write>(&self, f: &mut Formatter<W>) -> fmt::Result {
-        // By its contract a header has so few components that their numbers are in order.
-        self.head.assert_invariant();
-        let mark = self.mark;
-        for c in 0..self.head.components() {
-            let between = if c > 0 { self.between } else { "" };
-            let (horizontal, vertical) = (self.head.horizontal(c), self.head.vertical(c));
-            write!(f, "{between}{mark}{horizontal}x{vertical}{mark}")?;
-        }
-        Ok(())
+/// Appends the sampling factors of each component (T.81, A.1.1): horizontal, `x`, vertical. `mark` is before and after each,
+/// `between` between two.
+fn write_sampling(
+    line: &mut String,
+    head: &Head,
+    between: &str,
+    mark: &str,
+) -> Result<(), AllocError> {
+    // By its contract a header has so few components that their numbers are in order.
+    head.assert_invariant();
+    for c in 0..head.components() {
+        let between = if c > 0 { between } else { "" };
+        let (horizontal, vertical) = (head.horizontal(c), head.vertical(c));
+        write!(line, "{between}{mark}{horizontal}x{vertical}{mark}")?;
     }
+    Ok(())
 }
 
-/// A quality after a text, or nothing.
-#[derive(Clone, Copy)]
-struct Quality {
-    before: &'static str,
-    quality: Option<u32>,
-}
-
-impl Display for Quality {
-    fn fmt<W: fmt::Write>(&self, f: &mut Formatter<W>) -> fmt::Result {
-        match self.quality {
-            Some(quality) => write!(f, "{}{quality}", self.before),
-            None => Ok(()),
-        }
+/// Appends the quality after its label, if there is one.
+fn write_quality(line: &mut String, label: &str, head: &Head) -> Result<(), AllocError> {
+    match quality_of(head) {
+        Some(quality) => write!(line, "{label}{quality}"),
+        None => Ok(()),
     }
 }
 
 /// Appends what a header says, after the file's name.
 fn write_head(line: &mut String, head: &Head) -> Result<(), AllocError> {
-    let (width, height, scan_at) = (head.width(), head.height(), head.scan_at());
-    let kind = kind_name(head.kind());
-    let sampling = Sampling {
-        head,
-        between: " ",
-        mark: "",
-    };
-    let intervals = head.intervals();
-    let s = plural(intervals);
-    let quality = Quality {
-        before: ", quality ",
-        quality: quality_of(head),
-    };
-    writeln!(
-        line,
-        "{width} x {height}, {kind}, sampling {sampling}, {intervals} interval{s}{quality}, scan at byte {scan_at}"
-    )
+    let (width, height, intervals) = (head.width(), head.height(), head.intervals());
+    let (kind, s) = (kind_name(head.kind()), plural(intervals));
+    write!(line, "{width} x {height}, {kind}, sampling ")?;
+    write_sampling(line, head, " ", "")?;
+    write!(line, ", {intervals} interval{s}")?;
+    write_quality(line, ", quality ", head)?;
+    writeln!(line, ", scan at byte {}", head.scan_at())
 }
 
 /// Appends the members of a header, after the file's name.
 fn write_members(line: &mut String, head: &Head) -> Result<(), AllocError> {
-    let (width, height, scan_at) = (head.width(), head.height(), head.scan_at());
-    let kind = kind_name(head.kind());
-    let sampling = Sampling {
-        head,
-        between: ",",
-        mark: "\"",
-    };
-    let (intervals, restart) = (head.intervals(), head.restart());
-    let quality = Quality {
-        before: ",\"quality\":",
-        quality: quality_of(head),
-    };
-    writeln!(
+    let (width, height, kind) = (head.width(), head.height(), kind_name(head.kind()));
+    write!(
         line,
-        ",\"width\":{width},\"height\":{height},\"kind\":\"{kind}\",\"sampling\":[{sampling}],\"intervals\":{intervals},\"restart\":{restart}{quality},\"scan_at\":{scan_at}}}"
-    )
+        ",\"width\":{width},\"height\":{height},\"kind\":\"{kind}\",\"sampling\":["
+    )?;
+    write_sampling(line, head, ",", "\"")?;
+    let (intervals, restart) = (head.intervals(), head.restart());
+    write!(line, "],\"intervals\":{intervals},\"restart\":{restart}")?;
+    write_quality(line, ",\"quality\":", head)?;
+    writeln!(line, ",\"scan_at\":{}}}", head.scan_at())
 }
 
 /// Returns the text of a fault without a refusal.

@@ -6,8 +6,8 @@ ghost use Rattle.jr_base.specs.declared.limits.TheConstants.{MAX_WORKERS};
 ghost use Rattle.jri_machine.specs.Steps.{IsInDirectory};
 
 use crate::asking::{
-    first_argument, flag_argument, resync_argument, strings_of, with_argument,
-    workers_argument, workers_of,
+    first_argument, flag_argument, resync_argument, strings_of, with_argument, workers_argument,
+    workers_of,
 };
 use crate::describing::files_argument;
 use clap::{Arg, ArgAction, ArgMatches, Command};

@@ -13,7 +13,7 @@ use std::alloc::Global;
 
 /// A mended file, and what it is of.
 #[derive(Drop)]
-pub(crate) struct Outcome {
+pub(crate) struct MendedFile {
     pub(crate) mended: Mended,
     /// The number of copies, without the combined one.
     pub(crate) copies: usize,
@@ -21,7 +21,7 @@ pub(crate) struct Outcome {
     pub(crate) runs: Vec<ByteRun>,
 }
 
-impl Outcome {
+impl MendedFile {
     /// Returns whether an interval is damaged in all copies.
     pub(crate) fn is_damaged(&self) -> bool {
         report_of(self.mended.choices.as_slice()).damaged > 0
@@ -38,12 +38,15 @@ fn unmended(error: MendError) -> (usize, CopyError) {
 }
 
 /// Mends copies. The error has the number of a copy.
-pub(crate) fn mend_copies(alloc: Global, copies: &[FileCopy]) -> Result<Outcome, (usize, CopyError)>
+pub(crate) fn mend_copies(
+    alloc: Global,
+    copies: &[FileCopy],
+) -> Result<MendedFile, (usize, CopyError)>
     requires some { 0 < length copies.now }
     requires few { length copies.now ≤ MAX_COPIES }
 {
     match mend(alloc, copies) {
-        Ok(mended) => Ok(Outcome {
+        Ok(mended) => Ok(MendedFile {
             mended,
             copies: copies.len(),
             runs: Vec::new(alloc),
@@ -53,7 +56,7 @@ pub(crate) fn mend_copies(alloc: Global, copies: &[FileCopy]) -> Result<Outcome,
 }
 
 /// Returns whether the mended file is written. If all of the first copy is sound, and it is read as it is, that copy is.
-pub(crate) fn is_changed(outcome: &Outcome, prepared: &Prepared) -> bool {
+pub(crate) fn is_changed(outcome: &MendedFile, prepared: &Prepared) -> bool {
     !is_first_sound(outcome.mended.choices.as_slice()) || prepared.changes_first()
 }
 
@@ -72,7 +75,7 @@ pub(crate) fn mend_with<'a>(
     alloc: Global,
     mut copies: Vec<FileCopy<'a>>,
     combined: &'a CombinedCopy,
-) -> Result<Outcome, (usize, CopyError)>
+) -> Result<MendedFile, (usize, CopyError)>
     requires some { 0 < length copies.items }
     requires few { length copies.items < MAX_COPIES }
 {
@@ -93,7 +96,7 @@ pub(crate) fn mend_with<'a>(
     {
         return Err((count, CopyError::Memory));
     }
-    Ok(Outcome {
+    Ok(MendedFile {
         mended,
         copies: count,
         runs,
@@ -107,7 +110,7 @@ pub(crate) fn mended_of(
     asked: &MendRequest,
     files: &[Vec<u8>],
     prepared: &Prepared,
-) -> Result<Outcome, (usize, CopyError)>
+) -> Result<MendedFile, (usize, CopyError)>
     requires some { 0 < length files.now }
     requires few { length files.now ≤ MAX_COPIES }
 {
