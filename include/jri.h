@@ -31,7 +31,7 @@ extern "C" {
 #define JRI_RELEASE "0.1.0"
 
 /* The number of this interface; jri_version() returns that of the library. */
-#define JRI_VERSION 10
+#define JRI_VERSION 11
 
 /* The status of a call. */
 enum {
@@ -164,7 +164,7 @@ struct jri_damage {
 struct jri_damage_list {
     uint32_t count;   /* number of entries */
     uint32_t next;    /* the interval after those that were examined; the number of intervals if none is left */
-    uint64_t next_at; /* offset of that interval's first byte; the length of the file if the scan ends before it */
+    uint64_t next_at; /* offset of that interval's first byte; if the scan ends before it, one that no byte has */
     uint32_t refusal; /* the number of the refusal, 1 to 18, or 19 with JRI_NO_MEMORY; otherwise 0 */
     uint64_t detail;  /* the refusal's offset or marker code */
 };
@@ -391,20 +391,25 @@ uint64_t jri_refusal_text(uint32_t refusal, uint64_t detail, uint8_t *text, size
 
 /*
  * Lists the damaged intervals of a file starting at interval `first`, whose bytes begin at offset `first_at`, in order,
- * as many as `damages` has entries: `damages_count`. 0 and 0 are the first interval; list->next and list->next_at
- * continue a list. Reads the header and the bytes of the intervals examined. Allocates as many bytes as the file has
- * after `first_at`; only those that the longest of these intervals needs are used.
+ * as many as `damages` has entries: `damages_count`. With JRI_PARTIAL more bytes of the file may follow: only the
+ * intervals are examined that these bytes end, since a marker follows them. 0 and 0 are the first interval; list->next
+ * and list->next_at continue a list, also when more bytes have come. Reads the header and the bytes of the intervals
+ * examined. Allocates as many bytes as there are after `first_at`; only those that the longest of these intervals needs
+ * are used.
  *
  * Returns:
  *   JRI_DAMAGED: list->count entries are listed. Continue at list->next until it is the number of intervals.
- *   JRI_SOUND: none is listed. With damages_count above 0, none is left.
+ *   JRI_SOUND: none is listed. With damages_count above 0 none is left, or with JRI_PARTIAL none that has ended.
+ *   JRI_NEED_MORE: only with JRI_PARTIAL; the header is not complete. Call again with more bytes.
  *   JRI_REFUSED, JRI_NO_MEMORY: as jri_read_header.
  *
  * Proved, starting at 0 and 0 or where a list of the same file stopped: the first list->count entries are exactly the
- * damaged intervals from `first` on and before list->next. Each has its MCUs, lines and bytes. With any numbers entries
- * after them are unchanged, and if list->next is less than the number of intervals, all entries are used.
+ * damaged intervals from `first` on and before list->next. Each has its MCUs, lines and bytes. With JRI_PARTIAL this
+ * holds for every file that begins with these bytes. With any numbers entries after them are unchanged; and if
+ * list->next is less than the number of intervals, all entries are used, or with JRI_PARTIAL no marker is among the bytes
+ * starting at list->next_at.
  */
-uint32_t jri_list_damage(const uint8_t *file, size_t file_length, uint32_t first, uint64_t first_at,
+uint32_t jri_list_damage(const uint8_t *file, size_t file_length, uint32_t more, uint32_t first, uint64_t first_at,
                          struct jri_damage *damages, size_t damages_count, struct jri_damage_list *list);
 
 /*

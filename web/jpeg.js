@@ -161,20 +161,21 @@ export class Jpeg {
     });
   }
 
-  /** Yields the damaged intervals of the bytes so far, as of a complete file, that are before an interval. */
-  *damages(before = Infinity) {
+  /** Yields the damaged intervals, starting at one, that no further byte changes. Returns where to continue. */
+  *damages({ next = 0, nextAt = 0 } = {}) {
     const instance = this.#instance;
     const entries = instance.allocate(ENTRIES * sizeOf('jri_damage'));
+    const space = [instance.address(entries), BigInt(ENTRIES)];
     try {
-      for (let next = 0, nextAt = 0; next < before; ) {
+      for (;;) {
         const [status, list] = instance.report('jri_damage_list', (out) =>
-          instance.call('jri_list_damage', this.#file(), next, BigInt(nextAt), instance.address(entries), BigInt(ENTRIES), out),
+          instance.call('jri_list_damage', this.#file(), this.#more, next, BigInt(nextAt), ...space, out),
         );
+        if (status === STATUS.needMore) return { next, nextAt };
         this.#expect(status, list, STATUS.ok, STATUS.damaged);
-        const found = Array.from({ length: list.count }, (_, k) => instance.read('jri_damage', entries, k));
-        yield* found.filter(({ interval }) => interval < before);
-        if (status !== STATUS.damaged) return;
         ({ next, nextAt } = list);
+        for (let k = 0; k < list.count; k += 1) yield instance.read('jri_damage', entries, k);
+        if (status === STATUS.ok) return { next, nextAt };
       }
     } finally {
       instance.free(entries);

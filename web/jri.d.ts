@@ -94,6 +94,12 @@ export interface Position {
   state: number;
 }
 
+/** Where a list of damage continues: an interval, and the offset of its first byte. */
+export interface DamagePosition {
+  next: number;
+  nextAt: number;
+}
+
 export interface Decoded {
   header: Header;
   layout: Layout;
@@ -188,12 +194,10 @@ export interface WatchOptions extends ReadOptions {
 export type MendOptions = ReadOptions & ResyncOptions;
 
 export interface Marks {
-  /** The number of the first intervals that are whole: only these are marked. */
+  /** The number of the first intervals, which have ended: only these are marked. */
   known: number;
   marks: Uint8Array;
   damages: Damage[];
-  report: Report;
-  imageEnd: number;
   size: number;
 }
 
@@ -203,7 +207,7 @@ export type WatchEvent =
   | ({ type: 'lines'; size: number } & Lines)
   | ({ type: 'marks' } & Marks)
   | { type: 'progress'; size: number }
-  | ({ type: 'end'; header: Header } & Marks);
+  | ({ type: 'end' } & Marks & Checked);
 
 /** An error of libjri or of the module that has it. */
 export class JriError extends Error {}
@@ -263,8 +267,8 @@ export class Jpeg {
   /** Throws NoLinesError. */
   decodeLines(first: number, count: number, options?: ResyncOptions): Lines & { report: Report };
   check(options?: ResyncOptions): Checked;
-  /** Yields the damaged intervals before an interval. */
-  damages(before?: number): Generator<Damage>;
+  /** Yields the damaged intervals, starting at one, that no further byte changes. Returns where to continue. */
+  damages(from?: Partial<DamagePosition>): Generator<Damage, DamagePosition>;
   /** Yields the next lines that no further byte changes. */
   rows(options?: { rows?: number; layout?: Layout }): Generator<Lines>;
   /** Moves the position past at most `rows` rows of MCUs. Returns their number. */

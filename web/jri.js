@@ -15,7 +15,7 @@ export { chunksOf } from './sources.js';
 export { watch } from './watch.js';
 
 /** The number of the interface, JRI_VERSION of jri.h. */
-export const INTERFACE = 10;
+export const INTERFACE = 11;
 
 /** Returns what `use` returns of a whole file, in an instance that is freed afterwards. */
 async function withFile(source, options, use) {

@@ -1,11 +1,9 @@
 // A file that is decoded while it arrives.
-import { BLANK, Jpeg } from './jpeg.js';
+import { DAMAGED, Jpeg, SOUND } from './jpeg.js';
 import { chunksOf } from './sources.js';
 
 /** The header is read again when an eighth more of it has come: then all readings together read it at most nine times. */
 const HEADER_SHARE = 1 / 8;
-/** The bytes so far are checked again when a quarter more has come: then all checks together read at most five times as much. */
-const CHECK_SHARE = 1 / 4;
 
 /** What is known of a file that arrives, and when to look at it again. */
 class Arrival {
@@ -13,7 +11,9 @@ class Arrival {
   #options;
   #header = null;
   #due = 0;
-  #checkDue = 0;
+  #marks = null;
+  #damages = [];
+  #examined = { next: 0, nextAt: 0 };
 
   constructor(file, options) {
     this.#file = file;
@@ -27,7 +27,7 @@ class Arrival {
     this.#due = this.#file.size + HEADER_SHARE * (this.#header?.scanAt ?? this.#file.size);
     if (this.#header === null) return;
     yield* this.#lines();
-    if (this.#options.marks && this.#file.size >= this.#checkDue) yield this.#marks(this.#file.position.interval);
+    if (this.#options.marks && this.#file.position.interval > this.#examined.next) yield this.#mark();
   }
 
   /** Yields the rest of a file that is complete, and the report. */
@@ -35,15 +35,15 @@ class Arrival {
     this.#file.finish();
     yield* this.#read();
     yield* this.#lines();
-    const last = this.#marks(this.#header.intervals);
-    yield { ...last, type: 'end', header: this.#header };
+    const { report, imageEnd } = this.#file.check();
+    yield { ...this.#mark(), type: 'end', header: this.#header, report, imageEnd };
   }
 
   *#read() {
     if (this.#header !== null) return;
     this.#header = this.#file.readHeader();
     if (this.#header === null) return;
-    this.#checkDue = this.#file.size;
+    this.#marks = new Uint8Array(this.#header.intervals);
     yield { type: 'header', header: this.#header, size: this.#file.size };
   }
 
@@ -52,13 +52,19 @@ class Arrival {
     for (const found of this.#file.rows({ layout, rows })) yield { type: 'lines', ...found, size: this.#file.size };
   }
 
-  /** Checks the bytes so far, and returns the marks of the first intervals, which are whole, and their damage. */
-  #marks(known) {
-    const { report, marks, imageEnd, size } = this.#file.check();
-    this.#checkDue = size * (1 + CHECK_SHARE);
-    marks.fill(BLANK, known);
-    const damages = report.damaged > 0 ? [...this.#file.damages(known)] : [];
-    return { type: 'marks', known, marks, damages, report, imageEnd, size };
+  /** Examines the intervals that have ended since, and returns the marks and the damage of all that have. */
+  #mark() {
+    const first = this.#examined.next;
+    const listed = this.#file.damages(this.#examined);
+    const found = [];
+    let step = listed.next();
+    for (; !step.done; step = listed.next()) found.push(step.value);
+    this.#examined = step.value;
+    const known = this.#examined.next;
+    this.#marks.fill(SOUND, first, known);
+    for (const { interval } of found) this.#marks[interval] = DAMAGED;
+    this.#damages = [...this.#damages, ...found];
+    return { type: 'marks', known, marks: this.#marks.slice(), damages: this.#damages, size: this.#file.size };
   }
 }
 

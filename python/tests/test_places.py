@@ -262,6 +262,19 @@ def test_damaged_intervals(photo):
         list(jri.damages(b"GIF89a"))
 
 
+def test_damaged_intervals_of_a_file_that_arrives():
+    data = bytearray(made(227, 149, ["-grayscale", "-restart", "1B"]))
+    for at in (len(data) // 3, len(data) // 2):
+        data[at : at + 8] = bytes(8)
+    whole = list(jri.damages(data))
+    seen = 0
+    for size in [*range(0, len(data), 97), len(data)]:
+        found = list(jri.damages(bytes(data[:size]), partial=True))
+        assert found == whole[: len(found)] and seen <= len(found)
+        seen = len(found)
+    assert 0 < seen == len(whole)
+
+
 class Counted:
     """A library that counts the calls of jri_list_damage."""
 

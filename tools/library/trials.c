@@ -235,7 +235,7 @@ static long list_damages(const struct trial *t, uint32_t first, uint64_t first_a
     struct jri_damage *damages = (struct jri_damage *)bytes;
     requests = 0;
     refused = k;
-    uint32_t status = jri_list_damage(t->file, t->length, first, first_at, damages, space, list);
+    uint32_t status = jri_list_damage(t->file, t->length, JRI_COMPLETE, first, first_at, damages, space, list);
     long made = requests;
     refused = -1;
     if (status == JRI_NO_MEMORY && made > k && k >= 0) {
@@ -258,16 +258,39 @@ static void list_parts(const struct trial *t, size_t space) {
     struct jri_damage_list list = {0};
     struct jri_damage damages[3];
     uint32_t all = 0;
-    while (jri_list_damage(t->file, t->length, list.next, list.next_at, damages, space, &list) == JRI_DAMAGED)
+    while (jri_list_damage(t->file, t->length, JRI_COMPLETE, list.next, list.next_at, damages, space, &list) == JRI_DAMAGED)
         for (uint32_t i = 0; i < list.count; i++, all++)
             see(t->marks[damages[i].interval] == JRI_MARK_DAMAGED, t, "damage that is none");
     see(all == t->report.damaged && list.next == t->header.intervals, t, "all damage");
+}
+
+/* Sees that lists of a file that arrives in the given number of parts have each damaged interval once, as the list of the whole file has it. */
+static void list_arriving(const struct trial *t, size_t parts) {
+    struct jri_damage_list list = {0}, wholly = {0};
+    struct jri_damage found, expected;
+    uint32_t all = 0;
+    for (size_t k = 1; k <= parts + 1; k++) {
+        uint32_t more = k <= parts ? JRI_PARTIAL : JRI_COMPLETE, status;
+        size_t length = k < parts ? t->length * k / parts : t->length;
+        uint8_t *come = buffer(length);
+        memcpy(come, t->file, length);
+        while ((status = jri_list_damage(come, length, more, list.next, list.next_at, &found, 1, &list)) == JRI_DAMAGED) {
+            jri_list_damage(t->file, t->length, JRI_COMPLETE, wholly.next, wholly.next_at, &expected, 1, &wholly);
+            see(!memcmp(&found, &expected, sizeof found), t, "damage of a file that arrives");
+            all++;
+        }
+        see(status == JRI_SOUND || (status == JRI_NEED_MORE && more && !list.next && !list.refusal), t, "an answer to damage that arrives");
+        release(come, length);
+    }
+    see(all == t->report.damaged && list.next == t->header.intervals, t, "all damage that arrives");
 }
 
 static void try_damages(const struct trial *t) {
     struct jri_damage_list list = {0};
     list_parts(t, 1);
     list_parts(t, 3);
+    list_arriving(t, 1);
+    list_arriving(t, 7);
     list_damages(t, UINT32_MAX, UINT64_MAX, 1, -1, &list);
     list_damages(t, 0, 0, 0, -1, &list);
     list_damages(t, t->header.intervals / 2, t->length / 2, 2, -1, &list);
@@ -608,7 +631,7 @@ static long mend(const struct trial *t, const struct copies *it, size_t size, si
 static void try_mend(const struct trial *t) {
     struct jri_damage_list list;
     struct jri_damage none;
-    jri_list_damage(t->file, t->length, 0, 0, &none, 0, &list);
+    jri_list_damage(t->file, t->length, JRI_COMPLETE, 0, 0, &none, 0, &list);
     size_t scan_at = list.next_at, sizes[65];
     struct copies it = {.length = t->length + scan_at, .sizes = {t->length, scan_at}};
     it.files = buffer(it.length);
@@ -743,7 +766,8 @@ static void try_null(void) {
     see(!memcmp(text, "expected a marker at byte 18446744073709551615", 46), &none, "a long text's words");
     see(jri_refusal_text(1, 0, text, 5) == 5 && !memcmp(text, "not ated a marker", 17), &none, "a text without space");
     struct jri_damage_list list;
-    see(jri_list_damage(NULL, 0, 0, 0, NULL, 0, &list) == JRI_REFUSED && list.refusal == 1, &none, "damage");
+    see(jri_list_damage(NULL, 0, JRI_COMPLETE, 0, 0, NULL, 0, &list) == JRI_REFUSED && list.refusal == 1, &none, "damage");
+    see(jri_list_damage(NULL, 0, JRI_PARTIAL, 0, 0, NULL, 0, &list) == JRI_NEED_MORE && !list.refusal, &none, "damage of nothing yet");
     struct jri_resynced resynced;
     see(jri_resynchronise(NULL, 0, NULL, 0, NULL, 0, &resynced) == JRI_REFUSED && resynced.refusal == 1, &none, "resynchronising");
     struct jri_mended mended;

@@ -15,6 +15,7 @@ STRUCTS = c_header.classes()
 KINDS = ("grey", "rgb", "ycbcr")
 ENDS = (None, "EOI", "marker", "out of step", "extra restart", "end of file")
 OK, NO_MEMORY, REFUSED, DAMAGED, TOO_SMALL, NO_LINES, TOO_LONG, OTHER_HEADER = 0, 1, 2, 3, 4, 5, 8, 10
+COMPLETE = 0
 RGBX = 3
 # Larger images are not decoded, and of longer lists of damage the first entries are compared: headers may claim much.
 MAX_PIXELS, MAX_DAMAGES = 4_000_000, 200
@@ -140,7 +141,8 @@ class Native:
         entries, found, listed = (STRUCTS["jri_damage"] * 64)(), STRUCTS["jri_damage_list"](), []
         while len(listed) < most:
             size, first_at = ctypes.c_size_t(len(data)), ctypes.c_uint64(found.next_at)
-            status = self.library.jri_list_damage(data, size, found.next, first_at, entries, ctypes.c_size_t(64), ctypes.byref(found))
+            words = COMPLETE, found.next, first_at, entries, ctypes.c_size_t(64)
+            status = self.library.jri_list_damage(data, size, *words, ctypes.byref(found))
             if status not in (OK, DAMAGED):
                 self.fail(status, found.refusal, found.detail)
             listed += [fields_of(it) for it in entries[: found.count]]

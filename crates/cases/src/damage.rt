@@ -2,6 +2,7 @@
 
 use crate::case::Case;
 use crate::differences::Differences;
+use crate::places::LONG;
 use crate::texts::{after_first, is_doubt};
 use jri_memory::{Damage, DamageReport, list_damages};
 use std::alloc::AllocError;
@@ -83,13 +84,38 @@ fn write_damages(text: &mut String, run: &mut Run, damages: &[Damage]) -> Result
     Ok(())
 }
 
-/// Appends the lines of the damaged intervals, listed in parts for which `damages` has space.
+/// Appends the lines of the damaged intervals that `bytes` have after those of the report, listed in parts for which
+/// `damages` has space.
+fn write_further(
+    text: &mut String,
+    case: &Case<'_>,
+    bytes: &[u8],
+    more: u32,
+    run: &mut Run,
+    report: &mut DamageReport,
+    damages: &mut [Damage],
+) -> Result<(), AllocError> {
+    let intervals = case.header.intervals;
+    for _ in 0..=intervals {
+        let (next, at) = (report.next, report.next_at);
+        let _answer = list_damages(case.alloc, bytes, more, next, at, damages, report);
+        let count = (report.count as usize).min(damages.len());
+        write_damages(text, run, &damages[..count])?;
+        if count < damages.len() || report.next >= intervals {
+            break;
+        }
+    }
+    Ok(())
+}
+
+/// Appends the lines of the damaged intervals: first those that are final each time that the given number of bytes has
+/// come, unless that is 0, then the others.
 fn write_listed(
     text: &mut String,
     case: &Case<'_>,
+    part: usize,
     damages: &mut [Damage],
 ) -> Result<(), AllocError> {
-    let (bytes, intervals) = (case.bytes, case.header.intervals);
     let (first, last) = (UNDAMAGED, UNDAMAGED);
     let mut run = Run { first, last };
     let mut report = DamageReport {
@@ -99,25 +125,25 @@ fn write_listed(
         refusal: 0,
         detail: 0,
     };
-    for _ in 0..=intervals {
-        let (next, at) = (report.next, report.next_at);
-        let _answer = list_damages(case.alloc, bytes, next, at, damages, &mut report);
-        let count = (report.count as usize).min(damages.len());
-        write_damages(text, &mut run, &damages[..count])?;
-        if count < damages.len() || report.next >= intervals {
-            break;
+    if part > 0 {
+        let mut length: usize = 0;
+        for more in case.bytes.chunks(part) {
+            length = length.saturating_add(more.len()).min(case.bytes.len());
+            let come = &case.bytes[..length];
+            write_further(text, case, come, 1, &mut run, &mut report, damages)?;
         }
     }
+    write_further(text, case, case.bytes, 0, &mut run, &mut report, damages)?;
     write_run(text, &run)
 }
 
-/// Lists the damage in parts of `entries`.
-fn check_list(case: &Case<'_>, wanted: &str, entries: u32, out: &mut Differences) {
+/// Lists the damage in parts of `entries`, and as parts of the file come, unless `part` is 0.
+fn check_list(case: &Case<'_>, wanted: &str, entries: u32, part: usize, out: &mut Differences) {
     let Ok(mut damages) = vec![in case.alloc; UNDAMAGED; entries as usize] else {
         return out.fail(NotationError::Memory);
     };
     let mut found = String::new(case.alloc);
-    out.note(write_listed(&mut found, case, damages.as_mut_slice()));
+    out.note(write_listed(&mut found, case, part, damages.as_mut_slice()));
     out.compare_texts("list of damage", wanted, found.as_str());
 }
 
@@ -141,11 +167,13 @@ fn write_damaged_lines(text: &mut String, map: &str) -> Result<(), AllocError> {
     Ok(())
 }
 
-/// Lists the damage by one call, and in parts of one and three entries.
+/// Lists the damage by one call, in parts of one and three entries, and while the file comes.
 pub(crate) fn check_damage(case: &Case<'_>, out: &mut Differences) {
     let mut wanted = String::new(case.alloc);
     out.note(write_damaged_lines(&mut wanted, after_first(case.row.damaged)));
     for entries in [1, 3, case.header.intervals] {
-        check_list(case, wanted.as_str(), entries, out);
+        check_list(case, wanted.as_str(), entries, 0, out);
     }
+    let part = if case.bytes.len() <= LONG { 1 } else { 4099 };
+    check_list(case, wanted.as_str(), 2, part, out);
 }

@@ -13,7 +13,7 @@ use jri_memory::{
 use std::alloc::{AllocError, Global};
 
 /// A file of more bytes does not come in small parts.
-const LONG: usize = 1024;
+pub(crate) const LONG: usize = 1024;
 
 /// The top of an image.
 const TOP: RowPlace = RowPlace {

@@ -7,7 +7,7 @@ ghost use Rattle.std.specs.Prelude.{◌≡◌, ◌≢◌, ◌<◌, ◌≤◌, �
 ghost use Rattle.jr_arrival.specs.Arrival.{CanBecome};
 ghost use Rattle.jr_arrival.specs.Settled.{WantsMore};
 ghost use Rattle.jri_memory.specs.Canvases.{DecodesCanvas, LacksCanvas, LacksLayoutOf, LacksLinesToLay, LacksSpaceToLay, LaysOut};
-ghost use Rattle.jri_memory.specs.Damages.{ListsDamages, ReportsNoDamage};
+ghost use Rattle.jri_memory.specs.Damages.{ListsInEach, ReportsNoDamage};
 ghost use Rattle.jri_memory.specs.Checks.{ChecksFile, LacksMarkSpace};
 ghost use Rattle.jri_memory.specs.Mends.{HasOtherHeader, IsTooLongMend, LackCopies, LacksMendSpace, MendsFiles, ReportsCopyFault, ReportsNoMend, files_of};
 ghost use Rattle.jri_memory.specs.Resyncs.{IsTooLongFile, IsTooLongRead, LacksResyncSpace, OfRead, ResyncsFile, ReportsNoResync};
@@ -25,12 +25,12 @@ use jri_memory::{
 use std::alloc::Global;
 
 /// The version number of these calls: it changes if one of them does.
-const VERSION: u32 = 10;
+const VERSION: u32 = 11;
 
 /// The number of these calls.
 #[unsafe(no_mangle)]
 pub extern "C" fn jri_version() -> u32
-    ensures { result ≡ 10 }
+    ensures { result ≡ 11 }
 {
     VERSION
 }
@@ -304,29 +304,35 @@ pub extern "C" fn jri_skip_window(
 }
 
 /// Lists the damaged intervals of a file starting at interval `first`, whose bytes begin at offset `first_at`, in their
-/// order, as many as `damages` holds. Returns 3, and `next` and `next_at` of the report say where to continue; or 0 if
-/// none is left from there. 0 and 0 are the first interval. With 1 if allocation fails and 2 if the file is refused
-/// `damages` is unchanged.
+/// order, as many as `damages` holds and, if more of the file may come (`more` is not 0), as the bytes make final: those
+/// that a marker follows. 0 and 0 are the first interval. Returns 3, or 0 if none is listed, and `next` and `next_at` of
+/// the report say where to continue; what is listed is damage of every file that begins with these bytes. With 1 if
+/// allocation fails, 2 if the file is refused, and 7 if more bytes are wanted for its header, `damages` is unchanged.
 #[unsafe(no_mangle)]
 pub extern "C" fn jri_list_damage(
     alloc: Global,
     file: &[u8],
+    more: u32,
     first: u32,
     first_at: u64,
     damages: &mut [Damage],
     report: &mut DamageReport,
 ) -> u32
-    ensures none_left { result ≡ 0 → ListsDamages file.now first first_at damages.old damages.new report.new }
-    ensures some_listed { result ≡ 3 → ListsDamages file.now first first_at damages.old damages.new report.new }
+    ensures none_left { result ≡ 0 → ListsInEach file.now (are_all more) first first_at damages.old damages.new report.new }
+    ensures some_listed { result ≡ 3 → ListsInEach file.now (are_all more) first first_at damages.old damages.new report.new }
     ensures none { result ≡ 0 → report.new.count ≡ 0 }
     ensures some { result ≡ 3 → 0 < report.new.count }
     ensures refused { result ≡ 2 → ReportsFault file.now report.new.refusal report.new.detail }
+    ensures refused_for_good { result ≡ 2 → are_all more ≡ false → (whole : List ℕ) → CanBecome file.now whole → ReportsFault whole report.new.refusal report.new.detail }
     ensures memory { result ≡ 1 → report.new.refusal ≡ 19 }
+    ensures wanted { result ≡ 7 → WantsMore file.now }
+    ensures partial { result ≡ 7 → are_all more ≡ false }
+    ensures no_refusal { result ≡ 7 → (report.new.refusal ≡ 0) × (report.new.detail ≡ 0) }
     ensures nothing { result ≢ 0 → result ≢ 3 → ReportsNoDamage report.new }
     ensures kept { result ≢ 0 → result ≢ 3 → damages.new ≡ damages.old }
-    ensures few { result ≤ 3 }
+    ensures few { result ≢ 7 → result ≤ 3 }
 {
-    list_damages(alloc, file, first, first_at, damages, report)
+    list_damages(alloc, file, more, first, first_at, damages, report)
 }
 
 /// Writes what ended the scan of a report, in the words of `jri`, into `text`, as much as fits, with no 0 after it, and

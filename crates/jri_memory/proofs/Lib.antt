@@ -1,3 +1,4 @@
+pub mod Arrived
 pub mod CanvasRows
 pub mod Filled
 pub mod Headers

@@ -1,6 +1,7 @@
 -- Damaged intervals that are listed one after the other.
 use Rattle.std.proofs.Common.{arith, refl, subst, sym, ap, ◌∙◌, ◌≡◌, ℕ, List, [], length, set, drop, max, min, ◌-◌, ◌+◌, ◌<◌, ◌≤◌, inl, inr}
 use Rattle.std.specs.List.{All}
+use Rattle.std.specs.Prelude.{Option, Some, None, IfSome}
 use Rattle.std.proofs.lemmas.Bool.{cases_lt}
 use Rattle.std.proofs.lemmas.List.{drop-drop, get_or_past, get_or-set_same, get_or-set_other}
 use Rattle.std.proofs.lemmas.List.Elements.{All-drop}
@@ -13,7 +14,7 @@ use Rattle.jr_head.specs.HeadValue.{HeadValue}
 use Rattle.jr_head.specs.Heads.{HeadOf}
 use Rattle.jr_arrival.proofs.ScanIntervals.{count_is}
 use Rattle.jr_damage.specs.Coded.{BeginsAt, IsNextAt, IsSegmentOf}
-use Rattle.jr_damage.specs.Map.{IsDamageOf}
+use Rattle.jr_damage.specs.Map.{AreBytesOf, IsDamageOf}
 use Rattle.jri_memory.specs.declared.damages.Damage.{Damage}
 use Rattle.jr_damage.specs.Verdicts.{IsFileScan}
 use Rattle.jri_memory.specs.Damages.{AreDamages, IsListedAt, IsDamageEntry, IsPositionOf, damage_at, no_damage}
@@ -93,6 +94,20 @@ drop_on old now new a b le before same =
     let e : a + (b - a) ≡ b = omega (arith, le) in
     same ∙ ap (λ (n : ℕ). drop n now) (sym e) ∙ sym (drop-drop (b - a) a now) ∙ ap (drop (b - a)) before ∙ drop-drop (b - a) a old ∙ ap (λ (n : ℕ). drop n old) e
 
+-- what is reported of an interval is reported of it by another span with the same bytes
+pub damage_by : (s : ScanValue) (i : ℕ) (span other : CodedSpan) (found : Option DamagedInterval) → ((reported : Option CodedSpan) → AreBytesOf span reported → AreBytesOf other reported)
+    → IfSome found (λ d. IsDamageOf (interval_of s i) span d) → IfSome found (λ d. IsDamageOf (interval_of s i) other d)
+damage_by s i span other None same is = is
+damage_by s i span other (Some d) same is = record {
+  number = is.number;
+  undecodable = is.undecodable;
+  decodable = is.decodable;
+  first = is.first;
+  count = is.count;
+  lines = is.lines;
+  bytes = same d.bytes is.bytes;
+}
+
 -- ---- positions
 
 -- the scan of a file with this header
@@ -109,37 +124,19 @@ file_scan file h some small head =
     let s = scan_of_segments h c.datas c.end in
     let is : IsFileScan file s = record { head = head; cut = record { segments = c.datas; cut = c.is; intervals = refl } } in
     let begins : BeginsAt file s 0 h.scan_at = record { within = omega (arith, head.scan_at); segments = c.datas; empty = intervals_of h - length c.datas; cut = c.is; intervals = refl } in
-    let at : h.scan_at ≡ max 0 h.scan_at = omega arith in
+    let at : h.scan_at ≡ min (max 0 h.scan_at) (length file) = omega (arith, head.scan_at) in
     record { scan = s; head = refl; is = is; count = count_is file s is.cut; top = inl (subst (BeginsAt file s 0) at begins) }
 
--- the start of a list
-pub record StartsAt (file : List ℕ) (s : ScanValue) (first first_at start at : ℕ) : Type 0 where
-  pub start_is : start ≡ min first (length s.intervals)
-  pub at_is : at ≡ max first_at s.head.scan_at
-  pub begins : IsNextAt file s start at
-
-pub starts_at : (file : List ℕ) (s : ScanValue) (first first_at start at : ℕ) → length s.intervals ≡ intervals_of s.head → start ≡ min first (intervals_of s.head)
-    → (max first_at s.head.scan_at ≤ length file → at ≡ max first_at s.head.scan_at) → IsPositionOf file s first first_at → StartsAt file s first first_at start at
-starts_at file s first first_at start at count e there (inl b) =
-    let is = there b.within in
+-- the position at which a list starts, if the given one is a position: of the last interval's end if its number is more
+pub starts_at : (file : List ℕ) (s : ScanValue) (first at start : ℕ) → length s.intervals ≡ intervals_of s.head → start ≡ min first (intervals_of s.head)
+    → IsNextAt file s first at → IsNextAt file s start at
+starts_at file s first at start count e (inl b) =
     let same : first ≡ start = omega (arith, e, b.cut.few) in
-    record { start_is = omega (arith, e, count); at_is = is; begins = inl (subst (λ (k : ℕ). BeginsAt file s k at) same (subst (BeginsAt file s first) (sym is) b)) }
-starts_at file s first first_at start at count e there (inr h) =
-    let is = there (omega (arith, h.last)) in
-    record {
-      start_is = omega (arith, e, count);
-      at_is = is;
-      begins = inr (record {
-        last = is ∙ h.last;
-        none = λ j le. elim (cases_lt j (length s.intervals)) [
-          | inl lt ↦ h.none j (omega (arith, lt, le, e, count))
-          | inr past ↦ get_or_past s.intervals j [] past
-        ];
-      });
-    }
-
--- the end of a list
-pub stops_at : (file : List ℕ) (s : ScanValue) (first first_at start at next stop : ℕ) → StartsAt file s first first_at start at → at ≤ stop → IsNextAt file s next stop → IsPositionOf file s next stop
-stops_at file s first first_at start at next stop from le begins =
-    let same : stop ≡ max stop s.head.scan_at = omega (arith, le, from.at_is) in
-    subst (IsNextAt file s next) same begins
+    inl (subst (λ (k : ℕ). BeginsAt file s k at) same b)
+starts_at file s first at start count e (inr h) = inr (record {
+  last = h.last;
+  none = λ j le. elim (cases_lt j (length s.intervals)) [
+    | inl lt ↦ h.none j (omega (arith, lt, le, e, count))
+    | inr past ↦ get_or_past s.intervals j [] past
+  ];
+})

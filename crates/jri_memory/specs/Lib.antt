@@ -4,6 +4,7 @@ pub mod Canvases
 pub mod Checks
 pub mod Damages
 pub mod Filling
+pub mod FinalSegments
 pub mod Frames
 pub mod Mends
 pub mod Resyncs

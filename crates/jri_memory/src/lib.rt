@@ -13,6 +13,7 @@ mod decode;
 mod file_head;
 mod file_scan;
 mod filling;
+mod final_segment;
 mod frame_size;
 mod header;
 mod laying;

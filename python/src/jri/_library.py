@@ -4,7 +4,7 @@ from __future__ import annotations
 
 from typing import Any
 
-CALLS = 10
+CALLS = 11
 
 SOUND, NO_MEMORY, REFUSED, DAMAGED, BUFFER_TOO_SMALL, NO_LINES, NO_LAYOUT, NEED_MORE, TOO_LONG, NO_COPIES, OTHER_HEADER = range(11)
 
@@ -44,7 +44,8 @@ def declare(builder: Any) -> None:
         uint32_t jri_skip_rows(const uint8_t *, size_t, uint32_t, struct jri_position *, uint32_t, struct jri_rows *);
         uint32_t jri_decode_canvas(const uint8_t *, size_t, uint32_t, uint8_t *, size_t, size_t, uint32_t, uint8_t *, size_t,
                                    struct jri_report *);
-        uint32_t jri_list_damage(const uint8_t *, size_t, uint32_t, uint64_t, struct jri_damage *, size_t, struct jri_damage_list *);
+        uint32_t jri_list_damage(const uint8_t *, size_t, uint32_t, uint32_t, uint64_t, struct jri_damage *, size_t,
+                                 struct jri_damage_list *);
         uint32_t jri_resynchronise(const uint8_t *, size_t, uint8_t *, size_t, struct jri_break *, size_t, struct jri_resynced *);
         uint32_t jri_mend(const uint8_t *, size_t, const size_t *, size_t, uint8_t *, size_t, struct jri_choice *, size_t,
                           struct jri_mended *);

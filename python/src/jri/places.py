@@ -422,25 +422,28 @@ class Damage(NamedTuple):
     bytes: Optional[Tuple[int, int]]
 
 
-def damages(source: Source) -> Iterator[Damage]:
+def damages(source: Source, *, partial: bool = False) -> Iterator[Damage]:
     """Yields the damaged intervals of a file, in order. Makes no image.
+
+    With `partial` the source has the first bytes of a file that is arriving: only the intervals are read that these bytes end, and
+    what is yielded is damage of every file that begins with them.
 
     A source that can be written is copied first. A read-only one must not change before the last interval.
     """
-    return _damages(_file(source))
+    return _damages(_file(source), PARTIAL if partial else COMPLETE)
 
 
 #: The number of damaged intervals that a call lists.
 _DAMAGES = 256
 
 
-def _damages(file: _File) -> Iterator[Damage]:
+def _damages(file: _File, more: int) -> Iterator[Damage]:
     listed, filled = ffi.new("struct jri_damage[]", _DAMAGES), ffi.new("struct jri_damage_list *")
     while True:
         status = library.jri_list_damage(
-            file.data, len(file.data), filled.next, filled.next_at, listed, _DAMAGES, filled
+            file.data, len(file.data), more, filled.next, filled.next_at, listed, _DAMAGES, filled
         )
-        if status == SOUND:
+        if status in (SOUND, NEED_MORE):
             return
         if status != DAMAGED:
             _raise(status, filled.refusal, filled.detail, file.name)

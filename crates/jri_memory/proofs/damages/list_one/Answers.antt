@@ -1,11 +1,9 @@
-use Rattle.std.proofs.Common.{sym, ap, ◌∙◌}
-use Rattle.jr_scan.specs.ScanValue.{intervals_of}
+use Rattle.jri_memory.proofs.Listing.{damage_by}
 use Rattle.jri_memory.proofs.damages.list_one.Goals as goal
 
 pub returns-clause-listed : goal.returns-clause-listed
-returns-clause-listed c s first e begins a =
+returns-clause-listed c whole s first e final a =
     let i = c.args.before.next in
-    let span = c.segment_at-segment.result.bytes in
-    let segment = c.segment_at-segment.ensures.bytes (intervals_of s.head) s.intervals s.ended (ap intervals_of e ∙ sym c.intervals.ensures.value) begins in
     let stated = c.examine-damaged.ensures in
-    c.store.ensures.listed c.args.file.now s span first i (stated.sound s e segment) (stated.damaged s e segment) segment a
+    let damaged = damage_by s i c.args.segment.bytes final.span c.examine-damaged.result final.same (stated.damaged s e final.spelled) in
+    c.store.ensures.listed whole s final.span first i (stated.sound s e final.spelled) damaged final.segment a
