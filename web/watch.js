@@ -4,6 +4,8 @@ import { chunksOf } from './sources.js';
 
 /** The header is read again when an eighth more of it has come: then all readings together read it at most nine times. */
 const HEADER_SHARE = 1 / 8;
+/** The marks are reported again when this share more intervals have ended: then all reports together have at most 33 times as many. */
+const MARKS_SHARE = 1 / 32;
 
 /** What is known of a file that arrives, and when to look at it again. */
 class Arrival {
@@ -27,7 +29,7 @@ class Arrival {
     this.#due = this.#file.size + HEADER_SHARE * (this.#header?.scanAt ?? this.#file.size);
     if (this.#header === null) return;
     yield* this.#lines();
-    if (this.#options.marks && this.#file.position.interval > this.#examined.next) yield this.#mark();
+    if (this.#options.marks && this.#file.position.interval > this.#examined.next * (1 + MARKS_SHARE)) yield this.#mark();
   }
 
   /** Yields the rest of a file that is complete, and the report. */
