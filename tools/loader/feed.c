@@ -65,7 +65,7 @@ static void tell_lines(const struct seen *seen, const GdkPixbuf *last) {
         again += seen->reported[line] > 1;
         changed += seen->reported[line] && memcmp(seen->pixels + line * line_bytes(last), line_of(last, line), line_bytes(last)) != 0;
     }
-    g_printerr("updates %u\nuntold %u\nagain %u\nchanged %u\n", seen->updates, unreported, again, changed);
+    g_printerr("updates %u\nunreported %u\nagain %u\nchanged %u\n", seen->updates, unreported, again, changed);
 }
 
 /* Feeds the bytes; whether all went well. */
