@@ -4,16 +4,12 @@
 //! standard error is before each call and one after it, so that a library that is loaded before this program can refuse
 //! memory in one call alone, as `tools/refuse-memory` does.
 //!
-//! `single_calls FILE ..` decodes each file with 1, 2 and 4 workers, interleaved, and reports the minimum of the
-//! microseconds that `decode_all` takes with each number of workers, for `tools/bench-beside-djpeg --decoding`. It keeps
-//! no image.
-//!
 //! `single_calls --guesses FILE ..` reads each file by speculative reads, and reports how many come into step, and how
 //! many MCUs are taken over, for `tools/compare-workers`.
 //!
 //! `single_calls --arriving BYTES < photo.jpg > photo.ppm` writes the image while the file arrives in parts of at most
 //! BYTES bytes, and reports on standard error how many restart intervals are sound and damaged, for
-//! `tools/compare-arriving`.
+//! `tools/check-viewer`.
 #![tactic(auto)]
 
 mod caller;
@@ -22,7 +18,6 @@ mod intervals;
 mod keeping;
 mod partial_file;
 mod strips;
-mod times;
 mod writing;
 
 use caller::{Caller, scan_of};
@@ -32,9 +27,7 @@ use std::io::Write;
 use std::process::ExitCode;
 use std::sync::{Arc, Wait};
 use std::thread::Threads;
-use std::time::Clock;
 use std::{env, fs};
-use times::least_times;
 
 /// Reports whether a call is right; `None` if it reports that allocation fails.
 fn report_outcome<W: Write>(out: &mut W, name: &str, outcome: Option<bool>) {
@@ -86,7 +79,6 @@ fn report_of_file<R: Threads + Wait + Sync, W: Write>(
 /// What is done with the arguments after one that names it.
 #[derive(Clone, Copy)]
 enum Task {
-    Times,
     Guesses,
     Calls,
     PartialFile,
@@ -106,18 +98,6 @@ fn task_of(word: &str) -> Option<Task> {
 fn scan_at(rt: &HostRuntime, name: &str) -> Option<Arc<Scan>> {
     let file = fs::read(rt, name).ok()?;
     scan_of(rt.alloc(), file.as_slice())
-}
-
-/// Reports the times of a file's decoding. `None` if there is no such file, or memory or a thread is refused.
-fn report_times_of<R: Threads + Wait + Clock + Sync>(
-    rt: &HostRuntime,
-    threads: &R,
-    name: &str,
-) -> Option<()> {
-    let scan = scan_at(rt, name)?;
-    let times = least_times(threads, rt.alloc(), &scan)?;
-    times::report_outcome(&mut rt.stdout(), &times);
-    Some(())
 }
 
 /// Reports the use of speculative reads of a file. `None` if there is no such file, or allocation fails.
@@ -144,14 +124,8 @@ fn report_calls_on<R: Threads + Wait + Sync>(
 }
 
 /// Does a task with an argument, and returns the exit status.
-fn run<R: Threads + Wait + Clock + Sync>(
-    rt: &HostRuntime,
-    threads: &R,
-    task: Task,
-    word: &str,
-) -> u8 {
+fn run<R: Threads + Wait + Sync>(rt: &HostRuntime, threads: &R, task: Task, word: &str) -> u8 {
     let done = match task {
-        Task::Times => report_times_of(rt, threads, word),
         Task::Guesses => report_guesses_of(rt, word),
         Task::Calls => report_calls_on(rt, threads, word),
         Task::PartialFile => return partial_file::show_input(rt, word),
@@ -163,7 +137,7 @@ fn main(rt: HostRuntime) -> ExitCode {
     let Ok(words) = env::args(&rt) else {
         return ExitCode::from(1);
     };
-    let mut task = Task::Times;
+    let mut task = Task::Calls;
     for word in words.skip(1) {
         if let Some(named) = task_of(word.as_str()) {
             task = named;
