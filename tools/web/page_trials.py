@@ -154,7 +154,9 @@ def show_arrival(browser, server, findings, library):
         part = {"crc": zlib.crc32(whole[: 4 * width * rows]), "isBlank": True}
         compare(findings, "arriving", found, part)
         findings.see("arriving", found["state"].startswith("arriving") and rows > 0, found["state"])
-        findings.see("arriving", not re.search(r"\b0 not here yet", found["bar"]), found["bar"])
+        # after a marker that ends the scan no further interval comes: all marks are known
+        report, marks = library.check(data)[1], re.findall(r"\d+", found["bar"])
+        findings.see("arriving", marks[2:] != ["0"] or marks[:2] == [str(report["sound"]), str(report["damaged"])], found["bar"])
         server.release.set()
         browser.wait(IS_SHOWN, seconds=SECONDS)
         compare(findings, "arrived", browser.run(READ), image_of(library, data))
