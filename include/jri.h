@@ -390,12 +390,11 @@ uint32_t jri_skip_window(const uint8_t *header, size_t header_length, const uint
 uint64_t jri_refusal_text(uint32_t refusal, uint64_t detail, uint8_t *text, size_t text_size);
 
 /*
- * Lists the damaged intervals of a file starting at interval `first`, whose bytes begin at offset `first_at`, in order,
- * as many as `damages` has entries: `damages_count`. With JRI_PARTIAL more bytes of the file may follow: only the
- * intervals are examined that these bytes end, since a marker follows them. 0 and 0 are the first interval; list->next
- * and list->next_at continue a list, also when more bytes have come. Reads the header and the bytes of the intervals
- * examined. Allocates as many bytes as there are after `first_at`; only those that the longest of these intervals needs
- * are used.
+ * Lists the damaged intervals of a file in order, at most `damages_count`. It starts at interval `first`, whose bytes
+ * begin at offset `first_at`; 0 and 0 are the first interval. list->next and list->next_at continue a list, also when
+ * more bytes have come. With JRI_PARTIAL more bytes of the file may follow: it examines the intervals after which these
+ * bytes have a marker. Reads the header and the bytes of the intervals examined. Allocates the number of bytes after
+ * `first_at`; only those that the longest of these intervals needs are used.
  *
  * Returns:
  *   JRI_DAMAGED: list->count entries are listed. Continue at list->next until it is the number of intervals.
