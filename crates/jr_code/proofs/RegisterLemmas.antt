@@ -1,10 +1,9 @@
--- The bits of a register: with a 32-bit word after them, their first bits, and the rest of them.
-use Rattle.std.proofs.Common.{Bool, false, ◌≡◌, ℕ, zero, suc, ◌+◌, ◌-◌, ◌*◌, ◌/◌, ◌%◌, ◌^◌, ◌<◌, ◌≤◌, ◌==◌, List, [], ◌∷◌, ◌++◌, length, drop, take, get_or, replicate, refl, sym, ◌∙◌, ap, arith, length-append, ⊎_elim}
+-- The bits of a register: with bytes after them, their first bits, and the rest of them.
+use Rattle.std.proofs.Common.{Bool, false, ◌≡◌, ℕ, zero, suc, ◌+◌, ◌-◌, ◌*◌, ◌/◌, ◌%◌, ◌^◌, ◌<◌, ◌≤◌, ◌==◌, List, [], ◌∷◌, ◌++◌, length, drop, take, get_or, replicate, refl, sym, ◌∙◌, ap, arith, length-append}
 use Rattle.std.specs.Prelude.{bit_and, bit_or}
-use Rattle.std.specs.Int.{w32, from_be_bytes}
+use Rattle.std.specs.Int.{w64, from_be_bytes}
 use Rattle.std.proofs.lemmas.Nat.{and_mask, div-add-mod', field_of, mod-pow-add, mod_low, one_shl, or_shifted, pow-add, pow_pos, shl-shr, shl_below, shl_whole, shr-shr, shr_below, shr_high}
-use Rattle.std.proofs.lemmas.Bool.{cases_lt}
-use Rattle.std.proofs.lemmas.List.{append_assoc, append-nil, length-drop, length-take-le, take-append-drop, take-append-le, take-replicate, take-take, take_all, take_at}
+use Rattle.std.proofs.lemmas.List.{append_assoc, append-nil, drop_more, length-drop, length-take-le, take-append-drop, take-append-le, take-replicate, take-take, take_all, take_at}
 use Rattle.std.proofs.lemmas.List.Concat.{flat_map-append}
 use Rattle.std.proofs.Math.Pow.{mod-mod-pow}
 use Rattle.std.proofs.Math.Nat.{add-mul, mul_assoc, mul-mod_left, mod-eq_of_lt}
@@ -58,19 +57,32 @@ push_byte count held byte rest few small =
     ap (λ t. t ++ bits rest) (bits_of-push count 8 held byte (omega arith) small)
     ∙ append_assoc (bits_of count held) (bits_of 8 byte) (bits rest)
 
-word_of : (a b c d : ℕ) → from_be_bytes w32 (a ∷ b ∷ c ∷ d ∷ []) ≡ ((a * 2 ^ 8 + b) * 2 ^ 8 + c) * 2 ^ 8 + d
-word_of a b c d = omega arith
+-- a number with the byte at k after it, and the bytes after that
+next_byte : (count n k : ℕ) (bytes : List ℕ) → k < length bytes → get_or bytes k 0 < 256
+    → bits_of (count + 8) (n * 2 ^ 8 + get_or bytes k 0) ++ bits (drop (k + 1) bytes) ≡ bits_of count n ++ bits (drop k bytes)
+next_byte count n k bytes within small =
+    ap (λ t. t ++ bits (drop (k + 1) bytes)) (bits_of-join count 8 n (get_or bytes k 0) small)
+    ∙ append_assoc (bits_of count n) (bits_of 8 (get_or bytes k 0)) (bits (drop (k + 1) bytes))
+    ∙ ap (λ t. bits_of count n ++ bits t) (sym (drop_more bytes k 0 within))
+
+word_of : (a b c d e f g h : ℕ) → from_be_bytes w64 (a ∷ b ∷ c ∷ d ∷ e ∷ f ∷ g ∷ h ∷ [])
+    ≡ ((((((a * 2 ^ 8 + b) * 2 ^ 8 + c) * 2 ^ 8 + d) * 2 ^ 8 + e) * 2 ^ 8 + f) * 2 ^ 8 + g) * 2 ^ 8 + h
+word_of a b c d e f g h = omega arith
 
 -- the bits of a big-endian word are those of its bytes
-pub word_bits : (a b c d n : ℕ) → a < 256 → b < 256 → c < 256 → d < 256 → n ≡ from_be_bytes w32 (a ∷ b ∷ c ∷ d ∷ []) → bits_of 32 n ≡ bits (a ∷ b ∷ c ∷ d ∷ [])
-word_bits a b c d n ha hb hc hd is =
-    ap (λ n. bits_of 32 n) (is ∙ word_of a b c d)
-    ∙ bits_of-join 24 8 ((a * 2 ^ 8 + b) * 2 ^ 8 + c) d hd
-    ∙ ap (λ t. t ++ bits_of 8 d) (bits_of-join 16 8 (a * 2 ^ 8 + b) c hc)
-    ∙ append_assoc (bits_of 16 (a * 2 ^ 8 + b)) (bits_of 8 c) (bits_of 8 d)
-    ∙ ap (λ t. t ++ (bits_of 8 c ++ bits_of 8 d)) (bits_of-join 8 8 a b hb)
-    ∙ append_assoc (bits_of 8 a) (bits_of 8 b) (bits_of 8 c ++ bits_of 8 d)
-    ∙ ap (λ t. bits_of 8 a ++ (bits_of 8 b ++ (bits_of 8 c ++ t))) (sym (append-nil (bits_of 8 d)))
+pub first_word : (n : ℕ) (bytes : List ℕ) → 8 ≤ length bytes → ((i : ℕ) → get_or bytes i 0 < 256)
+    → n ≡ from_be_bytes w64 (get_or bytes 0 0 ∷ get_or bytes 1 0 ∷ get_or bytes 2 0 ∷ get_or bytes 3 0 ∷ get_or bytes 4 0 ∷ get_or bytes 5 0 ∷ get_or bytes 6 0 ∷ get_or bytes 7 0 ∷ [])
+    → bits_of 64 n ++ bits (drop 8 bytes) ≡ bits bytes
+first_word n bytes long small is =
+    ap (λ n. bits_of 64 n ++ bits (drop 8 bytes)) (is ∙ word_of (get_or bytes 0 0) (get_or bytes 1 0) (get_or bytes 2 0) (get_or bytes 3 0) (get_or bytes 4 0) (get_or bytes 5 0) (get_or bytes 6 0) (get_or bytes 7 0))
+    ∙ next_byte 56 _ 7 bytes (omega (arith, long)) (small 7)
+    ∙ next_byte 48 _ 6 bytes (omega (arith, long)) (small 6)
+    ∙ next_byte 40 _ 5 bytes (omega (arith, long)) (small 5)
+    ∙ next_byte 32 _ 4 bytes (omega (arith, long)) (small 4)
+    ∙ next_byte 24 _ 3 bytes (omega (arith, long)) (small 3)
+    ∙ next_byte 16 _ 2 bytes (omega (arith, long)) (small 2)
+    ∙ next_byte 8 (get_or bytes 0 0) 1 bytes (omega (arith, long)) (small 1)
+    ∙ ap bits (sym (drop_more bytes 0 0 (omega (arith, long))))
 
 -- the first n bits of a register, and what follows them
 split_at : (n count held : ℕ) → n ≤ count → bits_of count held ≡ bits_of n (held / 2 ^ (count - n)) ++ bits_of (count - n) held
@@ -202,90 +214,76 @@ clean_after n count held h few clean =
 held_is : (count held : ℕ) → held % 2 ^ (64 - count) ≡ 0 → held ≡ held / 2 ^ (64 - count) * 2 ^ (64 - count)
 held_is count held clean = omega (arith, div-add-mod' held (2 ^ (64 - count)), clean)
 
--- a word after fewer than 32 bits
-with_word : (count held word : ℕ) → count < 32 → held % 2 ^ (64 - count) ≡ 0
-    → held + word * 2 ^ (32 - count) ≡ (held / 2 ^ (64 - count) * 2 ^ 32 + word) * 2 ^ (32 - count)
-with_word count held word few clean =
-    let x = held / 2 ^ (64 - count) in
-    let e : 32 + (32 - count) ≡ 64 - count = omega arith in
-    let pow : 2 ^ (64 - count) ≡ 2 ^ 32 * 2 ^ (32 - count) = ap (λ k. 2 ^ k) (sym e) ∙ pow-add 2 32 (32 - count) in
-    ap (λ h. h + word * 2 ^ (32 - count)) (held_is count held clean ∙ ap (λ p. held / 2 ^ (64 - count) * p) pow ∙ sym (mul_assoc (held / 2 ^ (64 - count)) (2 ^ 32) (2 ^ (32 - count))))
-    ∙ sym (add-mul (held / 2 ^ (64 - count) * 2 ^ 32) word (2 ^ (32 - count)))
+-- k bits after the first count
+with_bits : (count k held w : ℕ) → count + k ≤ 64 → held % 2 ^ (64 - count) ≡ 0
+    → held + w * 2 ^ (64 - (count + k)) ≡ (held / 2 ^ (64 - count) * 2 ^ k + w) * 2 ^ (64 - (count + k))
+with_bits count k held w fits clean =
+    let e : k + (64 - (count + k)) ≡ 64 - count = omega arith in
+    let pow : 2 ^ (64 - count) ≡ 2 ^ k * 2 ^ (64 - (count + k)) = ap (λ n. 2 ^ n) (sym e) ∙ pow-add 2 k (64 - (count + k)) in
+    ap (λ h. h + w * 2 ^ (64 - (count + k))) (held_is count held clean ∙ ap (λ p. held / 2 ^ (64 - count) * p) pow ∙ sym (mul_assoc (held / 2 ^ (64 - count)) (2 ^ k) (2 ^ (64 - (count + k)))))
+    ∙ sym (add-mul (held / 2 ^ (64 - count) * 2 ^ k) w (2 ^ (64 - (count + k))))
 
--- a shift moves it there; a shift of 0 moves nothing there
-pub word_or : (count held word : ℕ) → count < 32 → held % 2 ^ (64 - count) ≡ 0 → word < 2 ^ 32
-    → bit_or held (word * 2 ^ 32 % 2 ^ 64 / 2 ^ count) ≡ held + word * 2 ^ (32 - count)
-word_or count held word few clean small =
-    let top : word * 2 ^ 32 % 2 ^ 64 ≡ word * 2 ^ 32 = shl_whole word 32 32 64 small (omega arith) in
-    let e : 32 - count + count ≡ 32 = omega arith in
-    let f : 32 + (32 - count) ≡ 64 - count = omega arith in
-    let down : word * 2 ^ 32 / 2 ^ count ≡ word * 2 ^ (32 - count) =
-    ap (λ k. word * 2 ^ k / 2 ^ count) (sym e) ∙ ap (λ p. word * p / 2 ^ count) (pow-add 2 (32 - count) count)
-    ∙ ap (λ m. m / 2 ^ count) (sym (mul_assoc word (2 ^ (32 - count)) (2 ^ count))) ∙ shl-shr (word * 2 ^ (32 - count)) count in
-    let below : word * 2 ^ (32 - count) < 2 ^ (64 - count) = omega (arith, shl_below word 32 (32 - count) small, ap (λ k. 2 ^ k) f) in
-    ap (λ m. bit_or held (m / 2 ^ count)) top
-    ∙ ap (λ m. bit_or held m) down
-    ∙ ap (λ h. bit_or h (word * 2 ^ (32 - count))) (held_is count held clean)
-    ∙ or_shifted (held / 2 ^ (64 - count)) (64 - count) (word * 2 ^ (32 - count)) below
-    ∙ ap (λ h. h + word * 2 ^ (32 - count)) (sym (held_is count held clean))
+push_bits : (count k held w : ℕ) → count + k ≤ 64 → held % 2 ^ (64 - count) ≡ 0 → w < 2 ^ k
+    → upper_bits (count + k) (held + w * 2 ^ (64 - (count + k))) ≡ upper_bits count held ++ bits_of k w
+push_bits count k held w fits clean small =
+    first_is (count + k) (held + w * 2 ^ (64 - (count + k))) fits
+    ∙ ap (λ m. bits_of (count + k) (m / 2 ^ (64 - (count + k)))) (with_bits count k held w fits clean)
+    ∙ ap (λ m. bits_of (count + k) m) (shl-shr (held / 2 ^ (64 - count) * 2 ^ k + w) (64 - (count + k)))
+    ∙ bits_of-join count k (held / 2 ^ (64 - count)) w small
+    ∙ ap (λ t. t ++ bits_of k w) (sym (first_is count held (omega (arith, fits))))
 
-pub word_none : (count held : ℕ) → bit_or held (0 * 2 ^ 32 % 2 ^ 64 / 2 ^ count) ≡ held
-word_none count held =
-    let nothing : 0 / 2 ^ count ≡ 0 = omega arith in
-    let same : held ≡ held * 2 ^ 0 = omega arith in
-    ap (λ m. bit_or held m) nothing
-    ∙ ap (λ h. bit_or h 0) same
-    ∙ or_shifted held 0 0 (omega arith) ∙ omega arith
+push_clean : (count k held w : ℕ) → count + k ≤ 64 → held % 2 ^ (64 - count) ≡ 0 → (held + w * 2 ^ (64 - (count + k))) % 2 ^ (64 - (count + k)) ≡ 0
+push_clean count k held w fits clean =
+    ap (λ m. m % 2 ^ (64 - (count + k))) (with_bits count k held w fits clean) ∙ mul-mod_left (held / 2 ^ (64 - count) * 2 ^ k + w) (2 ^ (64 - (count + k)))
 
-pub word_clean : (count held word : ℕ) → count < 32 → held % 2 ^ (64 - count) ≡ 0 → (held + word * 2 ^ (32 - count)) % 2 ^ (32 - count) ≡ 0
-word_clean count held word few clean =
-    ap (λ m. m % 2 ^ (32 - count)) (with_word count held word few clean) ∙ mul-mod_left (held / 2 ^ (64 - count) * 2 ^ 32 + word) (2 ^ (32 - count))
+-- the first bits of a word, moved there
+pub word_or : (count unused held word : ℕ) → count + unused ≤ 64 → held % 2 ^ (64 - count) ≡ 0 → word < 2 ^ 64
+    → bit_or held (word / 2 ^ count / 2 ^ unused * 2 ^ unused % 2 ^ 64) ≡ held + word / 2 ^ (count + unused) * 2 ^ unused
+word_or count unused held word fits clean small =
+    let w = word / 2 ^ (count + unused) in
+    let left = 64 - (count + unused) in
+    let whole : left + (count + unused) ≡ 64 = omega arith in
+    let below : w < 2 ^ left = shr_below word left (count + unused) (omega (arith, small, ap (λ k. 2 ^ k) whole)) in
+    let f : left + unused ≡ 64 - count = omega arith in
+    let inside : w * 2 ^ unused < 2 ^ (64 - count) = omega (arith, shl_below w left unused below, ap (λ k. 2 ^ k) f) in
+    ap (λ m. bit_or held (m * 2 ^ unused % 2 ^ 64)) (shr-shr word count unused)
+    ∙ ap (λ m. bit_or held m) (shl_whole w left unused 64 below (omega arith))
+    ∙ ap (λ h. bit_or h (w * 2 ^ unused)) (held_is count held clean)
+    ∙ or_shifted (held / 2 ^ (64 - count)) (64 - count) (w * 2 ^ unused) inside
+    ∙ ap (λ h. h + w * 2 ^ unused) (sym (held_is count held clean))
 
-word_front : (count held word : ℕ) → count < 32 → held % 2 ^ (64 - count) ≡ 0 → word < 2 ^ 32
-    → upper_bits (count + 32) (held + word * 2 ^ (32 - count)) ≡ upper_bits count held ++ bits_of 32 word
-word_front count held word few clean small =
-    let x = held / 2 ^ (64 - count) in
-    let k : 64 - (count + 32) ≡ 32 - count = omega arith in
-    first_is (count + 32) (held + word * 2 ^ (32 - count)) (omega (arith, few))
-    ∙ ap (λ n. bits_of (count + 32) ((held + word * 2 ^ (32 - count)) / 2 ^ n)) k
-    ∙ ap (λ m. bits_of (count + 32) (m / 2 ^ (32 - count))) (with_word count held word few clean)
-    ∙ ap (λ m. bits_of (count + 32) m) (shl-shr (held / 2 ^ (64 - count) * 2 ^ 32 + word) (32 - count))
-    ∙ bits_of-join count 32 (held / 2 ^ (64 - count)) word small
-    ∙ ap (λ t. t ++ bits_of 32 word) (sym (first_is count held (omega (arith, few))))
-
--- one more word, the next four bytes
-pub push_word : (count held word : ℕ) (rest : List ℕ) → count < 32 → held % 2 ^ (64 - count) ≡ 0 → 4 ≤ length rest → word < 2 ^ 32
-    → bits_of 32 word ≡ bits (get_or rest 0 0 ∷ get_or rest 1 0 ∷ get_or rest 2 0 ∷ get_or rest 3 0 ∷ [])
-    → upper_bits (count + 32) (held + word * 2 ^ (32 - count)) ++ bits (drop 4 rest) ≡ upper_bits count held ++ bits rest
-push_word count held word (a ∷ b ∷ c ∷ d ∷ rest) few clean long small is =
-    ap (λ t. t ++ bits rest) (word_front count held word few clean small)
-    ∙ append_assoc (upper_bits count held) (bits_of 32 word) (bits rest)
-    ∙ ap (λ t. upper_bits count held ++ (t ++ bits rest)) is
-    ∙ ap (λ t. upper_bits count held ++ t) (sym (flat_map-append (bits_of 8) (a ∷ b ∷ c ∷ d ∷ []) rest))
-push_word count held word [] few clean long small is = absurd (omega (arith, long))
-push_word count held word (a ∷ []) few clean long small is = absurd (omega (arith, long))
-push_word count held word (a ∷ b ∷ []) few clean long small is = absurd (omega (arith, long))
-push_word count held word (a ∷ b ∷ c ∷ []) few clean long small is = absurd (omega (arith, long))
+-- the first b bytes of that word
+first_bytes : (b word : ℕ) (rest : List ℕ) → b ≤ 8 → 8 ≤ length rest → bits_of 64 word ++ bits (drop 8 rest) ≡ bits rest
+    → bits_of (8 * b) (word / 2 ^ (64 - 8 * b)) ++ bits (drop b rest) ≡ bits rest
+first_bytes b word rest few long is =
+    let whole : bits (take b rest) ++ bits (drop b rest) ≡ bits rest = sym (flat_map-append (bits_of 8) (take b rest) (drop b rest)) ∙ ap bits (take-append-drop b rest) in
+    let size : length (bits (take b rest)) ≡ 8 * b = length-bits (take b rest) ∙ ap (λ n. 8 * n) (length-take-le b rest (omega (arith, few, long))) in
+    let front : bits_of (8 * b) (word / 2 ^ (64 - 8 * b)) ≡ bits (take b rest) =
+    sym (take-held (8 * b) 64 word (drop 8 rest) (omega (arith, few))) ∙ ap (λ t. take (8 * b) t) (is ∙ sym whole) ∙ take_at (bits (take b rest)) (bits (drop b rest)) (8 * b) size in
+    ap (λ t. t ++ bits (drop b rest)) front ∙ whole
 
 -- the last bytes are appended
-pub push_last : (count all held number : ℕ) (rest : List ℕ) → count < 32 → all ≡ count + 8 * length rest → all ≤ 64
-    → ((k : ℕ) → k ≤ 32 → bits_of (k + 8 * length rest) number ≡ bits_of k (held / 2 ^ 32 / 2 ^ (32 - count)) ++ bits rest)
-    → upper_bits all (number * 2 ^ (64 - all) % 2 ^ 64) ++ bits [] ≡ upper_bits count held ++ bits rest
-push_last count all held number rest few e fits is =
+pub push_last : (count all held number : ℕ) (first rest : List ℕ) → count ≤ 56 → all ≡ count + 8 * length first → all ≤ 64
+    → ((k : ℕ) → k + 8 * length first ≤ 64 → bits_of (k + 8 * length first) number ≡ bits_of k (held / 2 ^ 8 / 2 ^ (56 - count)) ++ bits first)
+    → upper_bits all (number * 2 ^ (64 - all) % 2 ^ 64) ++ bits rest ≡ upper_bits count held ++ bits (first ++ rest)
+push_last count all held number first rest few e fits is =
     let whole : all + (64 - all) ≡ 64 = omega arith in
-    let f : 32 + (32 - count) ≡ 64 - count = omega arith in
+    let f : 8 + (56 - count) ≡ 64 - count = omega arith in
     let g : 0 + all ≡ all = omega arith in
-    append-nil (upper_bits all (number * 2 ^ (64 - all) % 2 ^ 64))
-    ∙ first_is all (number * 2 ^ (64 - all) % 2 ^ 64) fits
+    let front : upper_bits all (number * 2 ^ (64 - all) % 2 ^ 64) ≡ upper_bits count held ++ bits first =
+    first_is all (number * 2 ^ (64 - all) % 2 ^ 64) fits
     ∙ ap (λ k. bits_of all (number * 2 ^ (64 - all) % 2 ^ k / 2 ^ (64 - all))) (sym whole)
     ∙ ap (λ m. bits_of all m) (field_of (number * 2 ^ (64 - all)) all (64 - all))
     ∙ ap (λ m. bits_of all (m % 2 ^ all)) (shl-shr number (64 - all))
     ∙ ap (λ k. bits_of all (number % 2 ^ k)) (sym g)
     ∙ bits_of-mod 0 all number
     ∙ ap (λ k. bits_of k number) e
-    ∙ is count (omega (arith, few))
-    ∙ ap (λ m. bits_of count m ++ bits rest) (shr-shr held 32 (32 - count) ∙ ap (λ k. held / 2 ^ k) f)
-    ∙ ap (λ t. t ++ bits rest) (sym (first_is count held (omega (arith, few))))
+    ∙ is count (omega (arith, e, fits))
+    ∙ ap (λ m. bits_of count m ++ bits first) (shr-shr held 8 (56 - count) ∙ ap (λ k. held / 2 ^ k) f)
+    ∙ ap (λ t. t ++ bits first) (sym (first_is count held (omega (arith, few)))) in
+    ap (λ t. t ++ bits rest) front
+    ∙ append_assoc (upper_bits count held) (bits first) (bits rest)
+    ∙ ap (λ t. upper_bits count held ++ t) (sym (flat_map-append (bits_of 8) first rest))
 
 pub last_clean : (all number : ℕ) → all ≤ 64 → number * 2 ^ (64 - all) % 2 ^ 64 % 2 ^ (64 - all) ≡ 0
 last_clean all number fits =
@@ -294,41 +292,34 @@ last_clean all number fits =
     ∙ mod-mod-pow (number * 2 ^ (64 - all)) all (64 - all)
     ∙ mul-mod_left number (2 ^ (64 - all))
 
--- a register refilled: with one more word if it holds fewer than 32 bits, otherwise unchanged
-pub refilled_bits : (count held word words after_held : ℕ) (rest after : List ℕ) → count < 64 → held % 2 ^ (64 - count) ≡ 0 → 4 ≤ length rest → word < 2 ^ 32
-    → bits_of 32 word ≡ bits (get_or rest 0 0 ∷ get_or rest 1 0 ∷ get_or rest 2 0 ∷ get_or rest 3 0 ∷ [])
-    → words ≡ (63 - count) / 32 → after ≡ take (length rest - 4 * words) (drop (4 * words) rest)
-    → (count < 32 → after_held ≡ held + word * 2 ^ (32 - count)) → (32 ≤ count → after_held ≡ held)
-    → upper_bits (count % 32 + 32) after_held ++ bits after ≡ upper_bits count held ++ bits rest
-refilled_bits count held word words after_held rest after short clean long small is words_is after_is one none =
-    ⊎_elim
-    (λ few.
-    let w : words ≡ 1 = omega (arith, words_is, few) in
-    let all : count % 32 + 32 ≡ count + 32 = omega (arith, few) in
-    let left : after ≡ drop 4 rest =
-    after_is ∙ ap (λ n. take (length rest - 4 * n) (drop (4 * n) rest)) w ∙ take_all (length rest - 4) (drop 4 rest) (omega (arith, length-drop 4 rest)) in
+-- a register refilled by the bytes of a word that fit into 63 bits
+pub refilled_bits : (count held word after_held : ℕ) (rest after : List ℕ) → count < 64 → held % 2 ^ (64 - count) ≡ 0 → word < 2 ^ 64 → 8 ≤ length rest
+    → bits_of 64 word ++ bits (drop 8 rest) ≡ bits rest → after ≡ take (length rest - (63 - count) / 8) (drop ((63 - count) / 8) rest)
+    → after_held ≡ held + word / 2 ^ (count + (8 - count % 8)) * 2 ^ (8 - count % 8)
+    → upper_bits (count % 8 + 56) after_held ++ bits after ≡ upper_bits count held ++ bits rest
+refilled_bits count held word after_held rest after short clean small long is after_is held_is =
+    let b = (63 - count) / 8 in
+    let fits : count + 8 * b ≤ 64 = omega (arith, short) in
+    let all : count % 8 + 56 ≡ count + 8 * b = omega (arith, short) in
+    let unused : 8 - count % 8 ≡ 64 - (count + 8 * b) = omega (arith, short) in
+    let shift : count + (8 - count % 8) ≡ 64 - 8 * b = omega (arith, short) in
+    let w = word / 2 ^ (64 - 8 * b) in
+    let whole : 8 * b + (64 - 8 * b) ≡ 64 = omega arith in
+    let below : w < 2 ^ (8 * b) = shr_below word (8 * b) (64 - 8 * b) (omega (arith, small, ap (λ k. 2 ^ k) whole)) in
     ap (λ n. upper_bits n after_held ++ bits after) all
-    ∙ ap (λ h. upper_bits (count + 32) h ++ bits after) (one few)
-    ∙ ap (λ r. upper_bits (count + 32) (held + word * 2 ^ (32 - count)) ++ bits r) left
-    ∙ push_word count held word rest few clean long small is)
-    (λ many.
-    let w : words ≡ 0 = omega (arith, words_is, many) in
-    let all : count % 32 + 32 ≡ count = omega (arith, many, short) in
-    let left : after ≡ rest =
-    after_is ∙ ap (λ n. take (length rest - 4 * n) (drop (4 * n) rest)) w ∙ take_all (length rest - 0) rest (omega arith) in
-    ap (λ n. upper_bits n after_held ++ bits after) all
-    ∙ ap (λ h. upper_bits count h ++ bits after) (none many)
-    ∙ ap (λ r. upper_bits count held ++ bits r) left)
-    (cases_lt count 32)
+    ∙ ap (λ h. upper_bits (count + 8 * b) h ++ bits after) (held_is ∙ ap (λ n. held + word / 2 ^ n * 2 ^ (8 - count % 8)) shift ∙ ap (λ n. held + w * 2 ^ n) unused)
+    ∙ ap (λ r. upper_bits (count + 8 * b) (held + w * 2 ^ (64 - (count + 8 * b))) ++ bits r) (after_is ∙ take_all (length rest - b) (drop b rest) (omega (arith, length-drop b rest)))
+    ∙ ap (λ t. t ++ bits (drop b rest)) (push_bits count (8 * b) held w fits clean below)
+    ∙ append_assoc (upper_bits count held) (bits_of (8 * b) w) (bits (drop b rest))
+    ∙ ap (λ t. upper_bits count held ++ t) (first_bytes b word rest (omega arith) long is)
 
 pub refilled_clean : (count held word after_held : ℕ) → count < 64 → held % 2 ^ (64 - count) ≡ 0
-    → (count < 32 → after_held ≡ held + word * 2 ^ (32 - count)) → (32 ≤ count → after_held ≡ held) → after_held % 2 ^ (64 - (count % 32 + 32)) ≡ 0
-refilled_clean count held word after_held short clean one none =
-    ⊎_elim
-    (λ few.
-    let all : 64 - (count % 32 + 32) ≡ 32 - count = omega (arith, few) in
-    ap (λ n. after_held % 2 ^ n) all ∙ ap (λ h. h % 2 ^ (32 - count)) (one few) ∙ word_clean count held word few clean)
-    (λ many.
-    let all : 64 - (count % 32 + 32) ≡ 64 - count = omega (arith, many, short) in
-    ap (λ n. after_held % 2 ^ n) all ∙ ap (λ h. h % 2 ^ (64 - count)) (none many) ∙ clean)
-    (cases_lt count 32)
+    → after_held ≡ held + word / 2 ^ (count + (8 - count % 8)) * 2 ^ (8 - count % 8) → after_held % 2 ^ (64 - (count % 8 + 56)) ≡ 0
+refilled_clean count held word after_held short clean held_is =
+    let b = (63 - count) / 8 in
+    let fits : count + 8 * b ≤ 64 = omega (arith, short) in
+    let all : 64 - (count % 8 + 56) ≡ 64 - (count + 8 * b) = omega (arith, short) in
+    let unused : 8 - count % 8 ≡ 64 - (count + 8 * b) = omega (arith, short) in
+    ap (λ n. after_held % 2 ^ n) all
+    ∙ ap (λ h. h % 2 ^ (64 - (count + 8 * b))) (held_is ∙ ap (λ n. held + word / 2 ^ (count + (8 - count % 8)) * 2 ^ n) unused)
+    ∙ push_clean count (8 * b) held (word / 2 ^ (count + (8 - count % 8))) fits clean

@@ -166,8 +166,8 @@ impl CodeBook {
         Some(code)
     }
 
-    /// Does what `read_places` does, with a refill that overlaps the look-up and suffices for one more coefficient that
-    /// a look-up holds.
+    /// Does what `read_places` does, with a refill that overlaps the look-up and suffices for four more coefficients, each
+    /// held by a look-up.
     #[inline(always)]
     pub fn read_places_and_refill(&self, bits: &mut Bits) -> Option<Packed>
         ensures found { IfSome result (λ p. TakesPlaces self.now p bits.old bits.new) }

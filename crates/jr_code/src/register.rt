@@ -37,40 +37,42 @@ impl<'a> Register<'a> {
         8 * self.rest.len() as u64 + u64::from(self.count)
     }
 
-    /// Returns the same bits with at least 32 of them, or all that are left, in the register, and no fewer than before.
+    /// Returns the same bits with at least 56 of them, or all that are left, in the register, and no fewer than before.
     /// It does not branch on the number of bits in the register, which no processor predicts.
     #[inline(always)]
     pub(crate) fn refilled(self) -> Register<'a>
         ensures same { bits_in result ≡ bits_in self.entry }
-        ensures full { (32 ≤ result.count) ⊎ (result.rest.now ≡ []) }
+        ensures full { (56 ≤ result.count) ⊎ (result.rest.now ≡ []) }
         ensures more { self.entry.count ≤ result.count }
     {
-        let &[a, b, c, d, ..] = self.rest else {
+        let Some(word) = first_word(self.rest) else {
             return self.ended();
         };
-        let words = (63 - self.count) / 32;
+        let bytes = (63 - self.count) / 8;
         Register {
-            rest: &self.rest[4 * words as usize..],
-            held: with_word(self.held, self.count, word(a, b, c, d)),
-            count: self.count % 32 + 32,
+            rest: &self.rest[bytes as usize..],
+            held: with_bytes(self.held, self.count, word),
+            count: self.count % 8 + 56,
         }
     }
 
-    /// Returns the same bits with at least 32 of them, or all, in the register: at most three bytes follow.
+    /// Returns the same bits with at least 56 of them, or all, in the register: at most seven bytes follow.
     #[inline(always)]
     fn ended(self) -> Register<'a>
-        requires { length self.rest.now < 4 }
+        requires { length self.rest.now < 8 }
         ensures same { bits_in result ≡ bits_in self.entry }
-        ensures full { (32 ≤ result.count) ⊎ (result.rest.now ≡ []) }
+        ensures full { (56 ≤ result.count) ⊎ (result.rest.now ≡ []) }
         ensures more { self.entry.count ≤ result.count }
     {
-        if self.count >= 32 || self.rest.is_empty() {
+        let bytes = ((63 - self.count) / 8).min(self.rest.len() as u32);
+        if bytes == 0 {
             return self;
         }
-        let count = self.count + 8 * self.rest.len() as u32;
-        let number = followed(self.held >> 32 >> (32 - self.count), self.rest);
+        let (first, rest) = self.rest.split_at(bytes as usize);
+        let count = self.count + 8 * bytes;
+        let number = followed(self.held >> 8 >> (56 - self.count), first);
         Register {
-            rest: &[],
+            rest,
             held: number << (64 - count),
             count,
         }
@@ -141,33 +143,36 @@ impl<'a> Register<'a> {
     }
 }
 
-/// Returns a register's number with a word after its first `count` bits if these are fewer than 32, and unchanged
-/// otherwise.
+/// Returns a register's number with the first bytes of a word after its first `count` bits: the whole bytes that fit into
+/// 63 bits.
 #[inline(always)]
-fn with_word(held: u64, count: u32, word: u32) -> u64
+fn with_bytes(held: u64, count: u32, word: u64) -> u64
     requires few { count < 64 }
     requires clean { held % 2 ^ (64 - count) ≡ 0 }
-    ensures one { count < 32 → result ≡ held + word * 2 ^ (32 - count) }
-    ensures none { 32 ≤ count → result ≡ held }
+    ensures { result ≡ held + word / 2 ^ (count + (8 - count % 8)) * 2 ^ (8 - count % 8) }
 {
-    let word = if count < 32 { word } else { 0 };
-    held | u64::from(word) << 32 >> count
+    let unused = 8 - count % 8;
+    held | word >> count >> unused << unused
 }
 
-/// Returns the number of four bytes, the first counting most.
+/// Returns the number of the first eight bytes, the first counting most, or `None` if there are fewer.
 #[inline(always)]
-fn word(a: u8, b: u8, c: u8, d: u8) -> u32
-    ensures { bits_of 32 result ≡ bits (a ∷ b ∷ c ∷ d ∷ []) }
+fn first_word(bytes: &[u8]) -> Option<u64>
+    ensures some { IfSome result (λ word. bits_of 64 word ++ bits (drop 8 bytes.now) ≡ bits bytes.now) }
+    ensures long { IsSome result ↔ (8 ≤ length bytes.now) }
 {
-    u32::from_be_bytes([a, b, c, d])
+    let &[a, b, c, d, e, f, g, h, ..] = bytes else {
+        return None;
+    };
+    Some(u64::from_be_bytes([a, b, c, d, e, f, g, h]))
 }
 
 /// Returns a number with the last bytes of a slice after it. By value, so that no address of a reader leaves its loop.
 #[cold]
 #[inline(never)]
 fn followed(held: u64, bytes: &[u8]) -> u64
-    requires { length bytes.now < 4 }
-    ensures { (count : ℕ) → count ≤ 32 → bits_of (count + 8 * length bytes.now) result ≡ bits_of count held ++ bits bytes.now }
+    requires { length bytes.now < 8 }
+    ensures { (count : ℕ) → count + 8 * length bytes.now ≤ 64 → bits_of (count + 8 * length bytes.now) result ≡ bits_of count held ++ bits bytes.now }
 {
     let mut held = held;
     for &byte in bytes {

@@ -43,7 +43,11 @@ fn end_block(place: u32, value: i16, block: &mut Coefficients) -> Option<()>
     Some(())
 }
 
-/// Reads the coefficients after the first into a block, two codes a turn: a refill lasts for both.
+/// Number of codes that are read after a refill before the next one: it suffices for them and the one beside the refill,
+/// if a look-up holds each.
+const HELD_CODES: u32 = 4;
+
+/// Reads the coefficients after the first into a block.
 #[inline(always)]
 pub(crate) fn read_others(
     ac: &CodeBook,
@@ -58,12 +62,14 @@ pub(crate) fn read_others(
     block.set(0, first);
     let mut place: u32 = 0;
     'codes: loop {
-        let code = ac.read_places(bits)?;
-        place += code.places();
-        if place > 62 {
-            return end_block(place, code.value(), block);
+        'held: for _ in 0..HELD_CODES {
+            let code = ac.read_places(bits)?;
+            place += code.places();
+            if place > 62 {
+                return end_block(place, code.value(), block);
+            }
+            block.set(place as usize, code.value());
         }
-        block.set(place as usize, code.value());
 
         let next = ac.read_places_and_refill(bits)?;
         place += next.places();
@@ -94,10 +100,12 @@ pub(crate) fn skip_others(ac: &CodeBook, bits: &mut Bits<'_>) -> Option<()>
 {
     let mut place: u32 = 0;
     'codes: loop {
-        let code = ac.read_places(bits)?;
-        place += code.places();
-        if place > 62 {
-            return end_at(place);
+        'held: for _ in 0..HELD_CODES {
+            let code = ac.read_places(bits)?;
+            place += code.places();
+            if place > 62 {
+                return end_at(place);
+            }
         }
 
         let next = ac.read_places_and_refill(bits)?;
