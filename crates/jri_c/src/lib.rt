@@ -304,10 +304,11 @@ pub extern "C" fn jri_skip_window(
 }
 
 /// Lists the damaged intervals of a file starting at interval `first`, whose bytes begin at offset `first_at`, in their
-/// order, as many as `damages` holds and, if more of the file may come (`more` is not 0), as the bytes make final: those
-/// that a marker follows. 0 and 0 are the first interval. Returns 3, or 0 if none is listed, and `next` and `next_at` of
-/// the report say where to continue; what is listed is damage of every file that begins with these bytes. With 1 if
-/// allocation fails, 2 if the file is refused, and 7 if more bytes are wanted for its header, `damages` is unchanged.
+/// order, at most `damages.len()`. If more of the file may come (`more` is not 0), it lists those that the bytes make
+/// final, which a marker follows. 0 and 0 are the first interval. Returns 3, or 0 if none is listed, and `next` and
+/// `next_at` of the report say where to continue; what is listed is damage of every file that begins with these bytes.
+/// With 1 if allocation fails, 2 if the file is refused, and 7 if more bytes are wanted for its header, `damages` is
+/// unchanged.
 #[unsafe(no_mangle)]
 pub extern "C" fn jri_list_damage(
     alloc: Global,

@@ -202,7 +202,7 @@ fn list_one(
     }
 }
 
-/// Lists the damaged intervals starting at a position, as many as fit and as the bytes so far make final.
+/// Lists the damaged intervals starting at a position, at most `damages.len()`, as far as the bytes make them final.
 fn list(
     head: &Head,
     file: FileBytes<'_>,
@@ -252,8 +252,8 @@ fn start_of(head: &Head, file: FileBytes<'_>, first: u32, first_at: u64) -> Prog
     }
 }
 
-/// Lists the damaged intervals of a file with this header starting at a position, as many as fit and as the bytes so far
-/// make final. Reads the bytes of the intervals examined.
+/// Lists the damaged intervals of a file with this header starting at a position, at most `damages.len()`, as far as the
+/// bytes make them final. Reads the bytes of the intervals examined.
 fn list_from(
     alloc: Global,
     head: &Head,
@@ -321,10 +321,11 @@ fn list_of_file(
 }
 
 /// Lists the damaged intervals of a file starting at interval `first`, whose bytes begin at offset `first_at`, in their
-/// order, as many as `damages` holds and, if more of the file may come (`more` is not 0), as the bytes make final: those
-/// that a marker follows. 0 and 0 are the first interval. Returns 3, or 0 if none is listed, and `next` and `next_at` of
-/// the report say where to continue; what is listed is damage of every file that begins with these bytes. With 1 if
-/// allocation fails, 2 if the file is refused, and 7 if more bytes are wanted for its header, `damages` is unchanged.
+/// order, at most `damages.len()`. If more of the file may come (`more` is not 0), it lists those that the bytes make
+/// final, which a marker follows. 0 and 0 are the first interval. Returns 3, or 0 if none is listed, and `next` and
+/// `next_at` of the report say where to continue; what is listed is damage of every file that begins with these bytes.
+/// With 1 if allocation fails, 2 if the file is refused, and 7 if more bytes are wanted for its header, `damages` is
+/// unchanged.
 pub fn list_damages(
     alloc: Global,
     file: &[u8],
