@@ -22,6 +22,11 @@ places_are s n byte (inl end) = inr end.1
 places_are s n byte (inr (inl zeros)) = inl (omega (arith, zeros.1), omega (arith, zeros.1))
 places_are s n byte (inr (inr some)) = inl (omega (arith, some.2), omega (arith, some.2, byte))
 
+pub some_places : (ac : Table) (old new : List Bool) (p : Packed) → TakesPlaces ac p old new → 1 ≤ places_in p
+some_places ac old new p t =
+    let byte = symbol_small (places_in p) (p.number / 65536 % 16) (omega arith) in
+    elim (places_are (unpacked p).symbol (places_in p) byte t.1) [ inl near ↦ near.0 | inr far ↦ omega (arith, far) ]
+
 -- a code that advances to a position is a run of zeros and a coefficient
 takes_places : (ac : Table) (s n : ℕ) (v : ℤ) (old new : List Bool) → s < 256 → TakesExtended ac s v old new → GoesOn s n → n < 128 → TakesAcCode ac (replicate (n - 1) (pos 0) ++ v ∷ []) old new
 takes_places ac s n v old new byte x (inl end) near = absurd (omega (arith, end.1, near))
@@ -57,7 +62,7 @@ pub partial_places : (ac : Table) → IsPrefixFree ac → (first : ℤ) (old bit
 partial_places ac free first old bits new block block' place place' p s space t is fits wrote =
     let byte = symbol_small (places_in p) (p.number / 65536 % 16) (omega arith) in
     let code = takes_places ac (unpacked p).symbol (places_in p) (unpacked p).value bits new byte t.0 t.1 (omega (arith, is, fits)) in
-    let some : 1 ≤ places_in p = elim (places_are (unpacked p).symbol (places_in p) byte t.1) [ inl near ↦ near.0 | inr far ↦ omega (arith, far) ] in
+    let some = some_places ac bits new p t in
     partial_coef ac free first (unpacked p).value old bits new block block' (place + 1) (places_in p - 1) place' (place' + 1) s (omega (arith, space)) code (omega (arith, is, some)) fits wrote refl
 
 -- at the end of the block
@@ -82,7 +87,7 @@ partial_past ac free first old bits new block place place' p s space t is past n
     let byte = symbol_small (places_in p) (p.number / 65536 % 16) (omega arith) in
     let v = (unpacked p).value in
     let code = takes_places ac (unpacked p).symbol (places_in p) v bits new byte t.0 t.1 (omega (arith, is, near)) in
-    let some : 1 ≤ places_in p = elim (places_are (unpacked p).symbol (places_in p) byte t.1) [ inl few ↦ few.0 | inr far ↦ omega (arith, far) ] in
+    let some = some_places ac bits new p t in
     partial_over ac free first old bits new block (replicate (places_in p - 1) (pos 0) ++ v ∷ []) (place + 1) s (omega (arith, space)) code
     (omega (arith, length-append (replicate (places_in p - 1) (pos 0)) (v ∷ []), length-replicate {A = ℤ} (places_in p - 1) (pos 0), is, past, some))
 

@@ -7,3 +7,6 @@ invariant-codes l = (l.place ≤ 62) × ((block : List ℤ) × IsPartialCut l.ac
 
 abbrev pub decreases-codes : goal.decreases-codes
 decreases-codes l = 63 - l.place
+
+abbrev pub invariant-held : goal.invariant-held
+invariant-held l = ((l.initial.place ≤ l.place) × (l.place ≤ 62)) × ((block : List ℤ) × IsPartialCut l.ac (pos 0) l.fn.bits l.bits block (l.place + 1))
