@@ -64,12 +64,12 @@ impl McuSink for SampleRow {
 
 /// Skips each MCU of a row.
 #[derive(Drop)]
-pub(crate) struct Skipped {
+pub(crate) struct SkippedMcus {
     /// Number of MCUs of a row.
     pub across: u32,
 }
 
-impl McuSink for Skipped {
+impl McuSink for SkippedMcus {
     ghost has_space = { λ h skipped. skipped.across ≡ mcus_across h };
 
     ghost keeps = { false };

@@ -12,7 +12,7 @@ ghost use Rattle.jr_arrival.specs.Places.{IsPlaceOf, lines_above, lines_between,
 
 use crate::file_bytes::FileBytes;
 use crate::file_source::FileSource;
-use crate::mcu_sink::Skipped;
+use crate::mcu_sink::SkippedMcus;
 use crate::place::RowPlace;
 use crate::row_walk::walk_row;
 use jr_base::Memory;
@@ -153,7 +153,7 @@ pub fn skip_rows(
     let mut source = FileSource::open(alloc, head, file, place)?;
     let shape = shape_of(head);
     let most = rows.min(shape.down - place.row);
-    let mut skipped = Skipped {
+    let mut skipped = SkippedMcus {
         across: shape.across,
     };
     let mut next = *place;

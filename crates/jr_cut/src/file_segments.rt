@@ -21,7 +21,7 @@ pub struct CodedSpan {
 
 /// The bytes that code an interval, and where those of the next one begin.
 #[derive(Clone, Copy)]
-pub struct Segment {
+pub struct FileSegment {
     pub bytes: CodedSpan,
     /// Offset after the restart marker that is due, or the length of the file if the scan ends before it.
     pub next: usize,
@@ -46,7 +46,7 @@ fn next_at(file: &[u8], end: usize, k: u32, intervals: u32) -> usize
 
 /// Returns the segment of interval k, which begins at offset `at` of the file. Reads its bytes and the marker after them
 /// alone.
-pub fn segment_at(file: &[u8], at: usize, k: u32, intervals: u32) -> Segment
+pub fn segment_at(file: &[u8], at: usize, k: u32, intervals: u32) -> FileSegment
     requires there { at ≤ length file.now }
     requires few { k < intervals }
     ensures start { result.bytes.start ≡ at }
@@ -59,7 +59,7 @@ pub fn segment_at(file: &[u8], at: usize, k: u32, intervals: u32) -> Segment
         → IsNextSegment file.now n datas ended k at → IsNextSegment file.now n datas ended (k + 1) result.next }
 {
     let end = at + segment_length(&file[at..]);
-    Segment {
+    FileSegment {
         bytes: CodedSpan { start: at, end },
         next: next_at(file, end, k, intervals),
     }

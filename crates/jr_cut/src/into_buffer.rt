@@ -17,7 +17,7 @@ pub struct Spelled {
 
 /// Number of bytes of data that the first bytes of a segment spell, and whether the data end with them.
 #[derive(Clone, Copy)]
-pub struct Part {
+pub struct UnstuffedPart {
     pub found: usize,
     pub ends: bool,
 }
@@ -77,7 +77,7 @@ fn ends_within(raw: &[u8], read: usize, most: usize) -> bool
 
 /// Writes the data that the first `most` bytes of `raw` spell into the first bytes of `space`, up to a marker or the end,
 /// or until that is full.
-pub fn unstuff_some(raw: &[u8], most: usize, space: &mut [u8]) -> Part
+pub fn unstuff_some(raw: &[u8], most: usize, space: &mut [u8]) -> UnstuffedPart
     ensures fits { result.found ≤ length space.old }
     ensures long { length space.new ≡ length space.old }
     ensures spells { (read : ℕ) × (read ≤ length raw.now) × IsRaw (take read raw.now) (take result.found space.new) × (result.ends ≡ true → IsStop (drop read raw.now)) }
@@ -87,9 +87,9 @@ pub fn unstuff_some(raw: &[u8], most: usize, space: &mut [u8]) -> Part
     let end = most.min(raw.len());
     let Spelled { read, found } = unstuff_into(&raw[..end], space);
     if found == space.len() {
-        return Part { found, ends: false };
+        return UnstuffedPart { found, ends: false };
     }
-    Part {
+    UnstuffedPart {
         found,
         ends: ends_within(raw, read, end),
     }

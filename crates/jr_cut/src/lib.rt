@@ -16,9 +16,9 @@ mod unstuff;
 
 pub use breaks::Break;
 pub use coded_segments::{CodedSegments, SegmentsToEnd, cut, cut_to_end};
-pub use file_segments::{CodedSpan, Segment, segment_at, unstuff_at};
+pub use file_segments::{CodedSpan, FileSegment, segment_at, unstuff_at};
 pub use front::{segment_length, spelled_length};
-pub use into_buffer::{Part, Spelled, unstuff_into, unstuff_segment, unstuff_some};
+pub use into_buffer::{Spelled, UnstuffedPart, unstuff_into, unstuff_segment, unstuff_some};
 pub use laws::{each_scan_has_a_cut, one_cut};
 pub use partial_cut::PartialCut;
 pub use scan_end::ScanEnd;

@@ -30,12 +30,12 @@ fn helpers_of(scan: &Scan, threads: u32) -> u32 {
 
 /// The calling thread reads the scan, and then ends the others' work.
 #[derive(Drop)]
-struct Reading<'s, 'a, R: Wait, S: OneScan> {
+struct ScanReading<'s, 'a, R: Wait, S: OneScan> {
     scan: &'s SharedScan<'a, S>,
     rt: &'s R,
 }
 
-impl<'s, 'a, R: Wait, S: OneScan> Beside for Reading<'s, 'a, R, S> {
+impl<'s, 'a, R: Wait, S: OneScan> Beside for ScanReading<'s, 'a, R, S> {
     type Answer = Verdict;
 
     ghost may = { λ r. Unit };
@@ -92,7 +92,7 @@ fn check_as<R: Threads + Wait + Sync, S: OneScan + Send>(
         Ok(guesses) => {
             let shared = SharedScan::of(alloc, part, guesses);
             let guessing = Guessing { scan: &shared, rt };
-            run_beside(rt, helpers, &guessing, Reading { scan: &shared, rt })
+            run_beside(rt, helpers, &guessing, ScanReading { scan: &shared, rt })
         }
         Err(_) => check_scan(scan),
     }

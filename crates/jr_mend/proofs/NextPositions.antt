@@ -6,18 +6,18 @@ use Rattle.std.proofs.lemmas.List.{get_or_default}
 use Rattle.std.proofs.lemmas.Slice.Zip.{AllZip-long}
 use Rattle.std.proofs.Math.ListN.{get_or-append}
 use Rattle.std.proofs.Math.Seq.{get_or-append_seam}
-use Rattle.jr_cut.specs.declared.file_segments.Segment.{Segment}
+use Rattle.jr_cut.specs.declared.file_segments.FileSegment.{FileSegment}
 use Rattle.jr_damage.specs.Coded.{IsNextAt, IsSegmentOf}
 use Rattle.jr_scan.specs.ScanValue.{ScanValue}
 use Rattle.jr_mend.specs.Copies.{CopyValue}
 
 -- in each copy the segment is that of interval i
-abbrev pub AreSegmentsOf : List CopyValue → List Segment → (i : ℕ) → Type 0
-AreSegmentsOf copies segments i = AllZip (λ (c : CopyValue) (s : Segment). IsSegmentOf c.file c.scan i s.bytes) copies segments
+abbrev pub AreSegmentsOf : List CopyValue → List FileSegment → (i : ℕ) → Type 0
+AreSegmentsOf copies segments i = AllZip (λ (c : CopyValue) (s : FileSegment). IsSegmentOf c.file c.scan i s.bytes) copies segments
 
 -- in each copy interval i is next after the segment
-abbrev pub AreNextAt : List CopyValue → List Segment → (i : ℕ) → Type 0
-AreNextAt copies segments i = AllZip (λ (c : CopyValue) (s : Segment). IsNextAt c.file c.scan i s.next) copies segments
+abbrev pub AreNextAt : List CopyValue → List FileSegment → (i : ℕ) → Type 0
+AreNextAt copies segments i = AllZip (λ (c : CopyValue) (s : FileSegment). IsNextAt c.file c.scan i s.next) copies segments
 
 -- a buffer of this capacity has space for the data of any segment of the copies
 abbrev pub HasSpace : List CopyValue → ℕ → Type 0
@@ -36,24 +36,24 @@ zip_from R [] (y ∷ ys) long each = absurd (omega (arith, long))
 zip_from R (x ∷ xs) [] long each = absurd (omega (arith, long))
 zip_from R (x ∷ xs) (y ∷ ys) long each = (each 0 x y (omega arith), zip_from R xs ys (omega (arith, long)) (λ k d e lt. each (suc k) d e (omega (arith, lt))))
 
-pub segments_long : (copies : List CopyValue) (segments : List Segment) (i : ℕ) → AreSegmentsOf copies segments i → length segments ≡ length copies
-segments_long copies segments i are = AllZip-long (λ (c : CopyValue) (s : Segment). IsSegmentOf c.file c.scan i s.bytes) copies segments are
+pub segments_long : (copies : List CopyValue) (segments : List FileSegment) (i : ℕ) → AreSegmentsOf copies segments i → length segments ≡ length copies
+segments_long copies segments i are = AllZip-long (λ (c : CopyValue) (s : FileSegment). IsSegmentOf c.file c.scan i s.bytes) copies segments are
 
-pub nexts_long : (copies : List CopyValue) (segments : List Segment) (i : ℕ) → AreNextAt copies segments i → length segments ≡ length copies
-nexts_long copies segments i are = AllZip-long (λ (c : CopyValue) (s : Segment). IsNextAt c.file c.scan i s.next) copies segments are
+pub nexts_long : (copies : List CopyValue) (segments : List FileSegment) (i : ℕ) → AreNextAt copies segments i → length segments ≡ length copies
+nexts_long copies segments i are = AllZip-long (λ (c : CopyValue) (s : FileSegment). IsNextAt c.file c.scan i s.next) copies segments are
 
 pub next_within : (file : List ℕ) (s : ScanValue) (i at : ℕ) → IsNextAt file s i at → at ≤ length file
 next_within file s i at (inl b) = b.within
 next_within file s i at (inr h) = omega (arith, h.last)
 
 -- in copy k interval i is next after the segment, or the segment is that of interval i
-abbrev pub IsNextIn : List CopyValue → (i k : ℕ) → Segment → Type 0
+abbrev pub IsNextIn : List CopyValue → (i k : ℕ) → FileSegment → Type 0
 IsNextIn copies i k s = (c : CopyValue) → IsNextAt (get_or copies k c).file (get_or copies k c).scan i s.next
 
-abbrev pub IsSegmentIn : List CopyValue → (i k : ℕ) → Segment → Type 0
+abbrev pub IsSegmentIn : List CopyValue → (i k : ℕ) → FileSegment → Type 0
 IsSegmentIn copies i k s = (c : CopyValue) → IsSegmentOf (get_or copies k c).file (get_or copies k c).scan i s.bytes
 
-module _ (copies : List CopyValue) (i k : ℕ) (s : Segment) (copy : CopyValue) (lt : k < length copies) (is : copy ≡ get_or copies k copy) where
+module _ (copies : List CopyValue) (i k : ℕ) (s : FileSegment) (copy : CopyValue) (lt : k < length copies) (is : copy ≡ get_or copies k copy) where
   pub next_in_copy : IsNextAt copy.file copy.scan i s.next → IsNextIn copies i k s
   next_in_copy next = λ c. subst (λ (d : CopyValue). IsNextAt d.file d.scan i s.next) (is ∙ get_or_default copies k copy c lt) next
 
@@ -61,12 +61,12 @@ module _ (copies : List CopyValue) (i k : ℕ) (s : Segment) (copy : CopyValue) 
   segment_in_copy segment = λ c. subst (λ (d : CopyValue). IsSegmentOf d.file d.scan i s.bytes) (is ∙ get_or_default copies k copy c lt) segment
 
 -- a copy's segment, and the space for its data
-abbrev pub no_segment : Segment
+abbrev pub no_segment : FileSegment
 no_segment = record { bytes = record { start = 0; end = 0 }; next = 0 }
 
-pub segment_of : (copies : List CopyValue) (segments : List Segment) (i k : ℕ) (copy : CopyValue) → AreSegmentsOf copies segments i → k < length copies → copy ≡ get_or copies k copy → IsSegmentOf copy.file copy.scan i (get_or segments k no_segment).bytes
+pub segment_of : (copies : List CopyValue) (segments : List FileSegment) (i k : ℕ) (copy : CopyValue) → AreSegmentsOf copies segments i → k < length copies → copy ≡ get_or copies k copy → IsSegmentOf copy.file copy.scan i (get_or segments k no_segment).bytes
 segment_of copies segments i k copy are lt is =
-    subst (λ (d : CopyValue). IsSegmentOf d.file d.scan i (get_or segments k no_segment).bytes) (sym is) (zip_at (λ (c : CopyValue) (s : Segment). IsSegmentOf c.file c.scan i s.bytes) copies segments k copy no_segment are lt)
+    subst (λ (d : CopyValue). IsSegmentOf d.file d.scan i (get_or segments k no_segment).bytes) (sym is) (zip_at (λ (c : CopyValue) (s : FileSegment). IsSegmentOf c.file c.scan i s.bytes) copies segments k copy no_segment are lt)
 
 pub space_of : (copies : List CopyValue) (capacity k : ℕ) (copy : CopyValue) → HasSpace copies capacity → k < length copies → copy ≡ get_or copies k copy → length copy.file < capacity
 space_of copies capacity k copy space lt is = subst (λ (d : CopyValue). length d.file < capacity) (sym is) (space k copy lt)

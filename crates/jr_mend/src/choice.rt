@@ -12,7 +12,7 @@ ghost use Rattle.jr_mend.specs.Copies.{versions_of};
 
 use crate::buffers::DataBuffers;
 use crate::file_copy::FileCopy;
-use jr_cut::{CodedSpan, Segment};
+use jr_cut::{CodedSpan, FileSegment};
 use jr_damage::damaged_front;
 use jr_scan::IntervalRef;
 
@@ -103,7 +103,7 @@ fn has_same_bytes(one: &FileCopy, its: CodedSpan, other: &FileCopy, span: CodedS
 fn with_copy(
     before: Choice,
     copies: &[FileCopy],
-    segments: &[Segment],
+    segments: &[FileSegment],
     number: u32,
     i: u32,
     buffers: &mut DataBuffers,
@@ -138,7 +138,7 @@ fn with_copy(
 /// Chooses among the copies of interval i, whose segments these are.
 pub(crate) fn choose(
     copies: &[FileCopy],
-    segments: &[Segment],
+    segments: &[FileSegment],
     i: u32,
     buffers: &mut DataBuffers,
 ) -> Choice

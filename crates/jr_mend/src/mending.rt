@@ -17,7 +17,7 @@ use crate::positions::{advance, starts_of};
 use crate::splice::{write_header, write_image_end, write_interval};
 use jr_base::Memory;
 use jr_base::limits::MAX_FILE_BYTES;
-use jr_cut::{CodedSpan, Segment};
+use jr_cut::{CodedSpan, FileSegment};
 use std::alloc::Global;
 
 /// A mended file, and the choice for each of its intervals.
@@ -67,7 +67,7 @@ fn write_from(bytes: &mut Vec<u8>, copy: &FileCopy, span: CodedSpan, i: u32) -> 
 fn write_chosen(
     bytes: &mut Vec<u8>,
     copies: &[FileCopy],
-    segments: &[Segment],
+    segments: &[FileSegment],
     i: u32,
     buffers: &mut DataBuffers,
 ) -> Result<Choice, Memory>

@@ -7,22 +7,22 @@ ghost use Rattle.jr_scan.specs.ScanValue.{intervals_of};
 
 use crate::file_copy::FileCopy;
 use jr_base::Memory;
-use jr_cut::{CodedSpan, Segment, segment_at};
+use jr_cut::{CodedSpan, FileSegment, segment_at};
 use std::alloc::Global;
 
 /// Returns the segment before interval 0 of a copy: it has no bytes.
-fn start_of(copy: &FileCopy) -> Segment
+fn start_of(copy: &FileCopy) -> FileSegment
     ensures { IsNextAt copy.now.file copy.now.scan 0 result.next }
 {
     let at = copy.head().scan_at() as usize;
-    Segment {
+    FileSegment {
         bytes: CodedSpan { start: at, end: at },
         next: at,
     }
 }
 
 /// Returns the segments before interval 0.
-pub(crate) fn starts_of(alloc: Global, copies: &[FileCopy]) -> Result<Vec<Segment>, Memory>
+pub(crate) fn starts_of(alloc: Global, copies: &[FileCopy]) -> Result<Vec<FileSegment>, Memory>
     ensures { IfOk result (λ segments. AllZip (λ c s. IsNextAt c.file c.scan 0 s.next) copies.now segments.items) }
 {
     let mut segments = Vec::new(alloc);
@@ -33,7 +33,7 @@ pub(crate) fn starts_of(alloc: Global, copies: &[FileCopy]) -> Result<Vec<Segmen
 }
 
 /// Returns the segment of interval i in a copy, which begins at `at`.
-fn segment_in(copy: &FileCopy, at: usize, i: u32) -> Segment
+fn segment_in(copy: &FileCopy, at: usize, i: u32) -> FileSegment
     requires there { i < intervals_of copy.now.scan.head }
     requires at { IsNextAt copy.now.file copy.now.scan i at }
     ensures segment { IsSegmentOf copy.now.file copy.now.scan i result.bytes }
@@ -44,7 +44,7 @@ fn segment_in(copy: &FileCopy, at: usize, i: u32) -> Segment
 }
 
 /// Moves from the segments before interval i to its segments.
-pub(crate) fn advance(copies: &[FileCopy], segments: &mut [Segment], i: u32)
+pub(crate) fn advance(copies: &[FileCopy], segments: &mut [FileSegment], i: u32)
     requires there { All (λ c. i < intervals_of c.scan.head) copies.now }
     requires at { AllZip (λ c s. IsNextAt c.file c.scan i s.next) copies.now segments.old }
     ensures segments { AllZip (λ c s. IsSegmentOf c.file c.scan i s.bytes) copies.now segments.new }

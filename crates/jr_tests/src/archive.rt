@@ -2,8 +2,8 @@
 //! them: the reading of each waits for that of the other.
 
 use jri_archive::{
-    CheckRequest, Directory, FileCounts, Findings, NoProgress, Source, State, append_counts_line,
-    asked, check_all, write_counts_line,
+    CheckRequest, CheckSource, Directory, FileCounts, Findings, NoProgress, State,
+    append_counts_line, asked, check_all, write_counts_line,
 };
 use jri_machine::{Entry, ReadError};
 use std::alloc::Global;
@@ -102,7 +102,7 @@ fn two_files_are_read_at_once(rt: HostRuntime) -> Result<(), Fail> {
     };
     let state: Option<State<Vec<u8>>> = None;
     let out = Vec::new(rt.alloc());
-    let source = Source { directory, state };
+    let source = CheckSource { directory, state };
     let (report, lines) = check_all(&rt, rt.alloc(), source, asked, NO_LIST, out, NoProgress);
     let expected = "a: refused 1: not a JPEG file\nb: refused 1: not a JPEG file\n".as_bytes();
     let is_right = met.load(Ordering::SeqCst) == 2

@@ -2,8 +2,8 @@
 
 use crate::archive::{NO_LIST, request_of};
 use jri_archive::{
-    CheckEnd, Directory, FileRecord, NoProgress, RecordedState, Source, Stamp, State, StateError,
-    check_all, parse_record, read_state, record_line,
+    CheckEnd, CheckSource, Directory, FileRecord, NoProgress, RecordedState, Stamp, State,
+    StateError, check_all, parse_record, read_state, record_line,
 };
 use jri_machine::{Entry, EntryKind, ReadError};
 use std::alloc::Global;
@@ -332,7 +332,7 @@ fn is_run<R: Threads + Wait + Sync + AllocGlobal>(
     };
     let state = Some(state);
     let out = Vec::new(alloc);
-    let source = Source { directory, state };
+    let source = CheckSource { directory, state };
     let (report, lines) = check_all(rt, alloc, source, asked, NO_LIST, out, NoProgress);
     let is_kept = bytes.lock(rt).as_slice() == before.as_slice();
     let (status, read, unchanged) = step.outcome;

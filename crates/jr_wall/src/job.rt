@@ -6,7 +6,7 @@ ghost use Rattle.std.specs.Arc.{arc_value};
 ghost use Rattle.jr_wall.specs.Sharing.{IsOneOf};
 
 use crate::gathered::Gathered;
-use crate::reading::{Next, Reading, strip_mcus};
+use crate::reading::{IntervalReading, Next, strip_mcus};
 use crate::strip_work::{ScanStrip, StripWork};
 use jr_base::Memory;
 use jr_base::limits::MAX_WORKERS;
@@ -88,7 +88,7 @@ impl<S: OneScan> Job<S> {
         let (Ok(read), Ok(kept)) = (Arc::try_clone(&interval), Arc::try_clone(&interval)) else {
             return Err(Memory);
         };
-        let reading = Reading::of(read);
+        let reading = IntervalReading::of(read);
         let guesses = open_guesses(alloc, part, i, strip_mcus(&interval), workers);
         let gathered = Gathered::of(alloc, kept);
         let work = StripWork::of(alloc, gathered, workers.saturating_sub(1).max(1));
@@ -113,7 +113,7 @@ impl<S: OneScan> Job<S> {
         rt: &R,
         alloc: Global,
         part: &FirstIntervals<'_>,
-        mut reading: Reading<S>,
+        mut reading: IntervalReading<S>,
     )
         requires { S.part ≡ Some part.now }
     {

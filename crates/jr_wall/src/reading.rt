@@ -72,7 +72,7 @@ fn next_strip(
 
 /// The reader of an interval of the scan.
 #[derive(Drop)]
-pub(crate) struct Reading<S: OneScan> {
+pub(crate) struct IntervalReading<S: OneScan> {
     reader: StripReader,
     each: u32,
     /// The reads by which the next strip is skipped; if there are none, it is read.
@@ -80,7 +80,7 @@ pub(crate) struct Reading<S: OneScan> {
     of: PhantomData<S>,
 }
 
-impl<S: OneScan> Model for Reading<S> {
+impl<S: OneScan> Model for IntervalReading<S> {
     ghost use Rattle.std.specs.Prelude.{◌<◌};
     ghost use Rattle.jr_scan.specs.Guesses.{AreGuessesOf};
     ghost use Rattle.jr_scan.specs.IntervalValue.{IntervalValue};
@@ -93,14 +93,14 @@ impl<S: OneScan> Model for Reading<S> {
     ghost invariant = { λ r. IsOneOf S.part r.reader.interval × (0 < r.each) × AreGuessesOf r.reader.interval r.guesses };
 }
 
-impl<S: OneScan> Reading<S> {
+impl<S: OneScan> IntervalReading<S> {
     /// Returns a reader of an interval of which nothing is read yet.
-    pub(crate) fn of(interval: Arc<Interval>) -> Reading<S>
+    pub(crate) fn of(interval: Arc<Interval>) -> IntervalReading<S>
         requires { IsOneOf S.part (arc_value interval) }
         ensures { result ≡ arc_value interval }
     {
         let each = strip_mcus(&interval);
-        Reading {
+        IntervalReading {
             reader: StripReader::over(interval),
             each,
             guesses: Guesses::none(),

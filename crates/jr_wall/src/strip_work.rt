@@ -5,7 +5,7 @@ ghost use Rattle.std.specs.Arc.{arc_value};
 ghost use Rattle.jr_wall.specs.Sharing.{IsOneOf, interval_of_strip, HasItsGuesses};
 
 use crate::gathered::Gathered;
-use crate::reading::Reading;
+use crate::reading::IntervalReading;
 use crate::waiting_strip::WaitingStrip;
 use jr_base::{Coefficients, Memory};
 use jr_piece::Strip;
@@ -96,9 +96,9 @@ impl<S: OneScan> StripWork<S> {
 }
 
 impl<S: OneScan> Work<S> for StripWork<S> {
-    type Reader = Reading<S>;
+    type Reader = IntervalReading<S>;
 
-    type Begun = Reading<S>;
+    type Begun = IntervalReading<S>;
 
     type Unfinished = ScanStrip<S>;
 
@@ -108,17 +108,17 @@ impl<S: OneScan> Work<S> for StripWork<S> {
         unfinished < self.most_waiting
     }
 
-    fn position(&self, _part: &FirstIntervals<'_>, reader: &Reading<S>) -> (u32, u64) {
+    fn position(&self, _part: &FirstIntervals<'_>, reader: &IntervalReading<S>) -> (u32, u64) {
         (reader.number(), reader.bit())
     }
 
     fn begin(
         &mut self,
         part: &FirstIntervals<'_>,
-        mut reader: Reading<S>,
+        mut reader: IntervalReading<S>,
         guesses: &GuessQueue<S>,
         skips: bool,
-    ) -> Option<(Reading<S>, Option<Reading<S>>)> {
+    ) -> Option<(IntervalReading<S>, Option<IntervalReading<S>>)> {
         if skips {
             let guesses = guesses.for_next(part, reader.number());
             reader.guide(guesses);

@@ -5,7 +5,7 @@ ghost use Rattle.jr_segments.specs.declared.refusal.Refusal.TheVariants as refus
 ghost use Rattle.jr_head.specs.Heads.{HeadOf};
 ghost use Rattle.jri_archive.specs.InStep.{IsInStepError, IsInStepOf};
 
-use crate::reading::{Directory, FileBytes};
+use crate::reading::{CheckedBytes, Directory};
 use crate::state_record::Stamp;
 use jr_head::{Head, read_head};
 use jr_mend::{ResyncFault, is_in_step, resynchronised};
@@ -21,16 +21,16 @@ pub struct InStepDirectory<F> {
 }
 
 /// Returns a file that has this header with its restart markers in step. A file that has them so is returned unchanged.
-fn write_in_step(alloc: Global, head: &Head, file: Vec<u8>) -> Result<FileBytes, ReadError>
+fn write_in_step(alloc: Global, head: &Head, file: Vec<u8>) -> Result<CheckedBytes, ReadError>
     requires { HeadOf file.items head.now }
     ensures bytes { IfOk result (λ r. IsInStepOf file.items r.bytes.items r.breaks.items) }
     ensures error { IfErr result (IsInStepError file.items) }
 {
     if is_in_step(head, &file) {
-        return Ok(FileBytes::unchanged(alloc, file));
+        return Ok(CheckedBytes::unchanged(alloc, file));
     }
     match resynchronised(alloc, head, &file) {
-        Ok(resynced) => Ok(FileBytes {
+        Ok(resynced) => Ok(CheckedBytes {
             bytes: resynced.file,
             breaks: resynced.breaks,
         }),
@@ -40,18 +40,18 @@ fn write_in_step(alloc: Global, head: &Head, file: Vec<u8>) -> Result<FileBytes,
 }
 
 /// Returns a refused file unchanged.
-fn left(alloc: Global, refusal: Refusal, file: Vec<u8>) -> Result<FileBytes, ReadError>
+fn left(alloc: Global, refusal: Refusal, file: Vec<u8>) -> Result<CheckedBytes, ReadError>
     ensures bytes { IfOk result (λ r. (refusal ≢ refusals.Memory) × (r.bytes.items ≡ file.items)) }
     ensures error { IfErr result (λ e. e ≡ ReadError.Memory) }
 {
     match refusal {
         Refusal::Memory => Err(ReadError::Memory),
-        _ => Ok(FileBytes::unchanged(alloc, file)),
+        _ => Ok(CheckedBytes::unchanged(alloc, file)),
     }
 }
 
 /// Returns a file with its restart markers in step; a refused one unchanged.
-fn in_step(alloc: Global, file: Vec<u8>) -> Result<FileBytes, ReadError>
+fn in_step(alloc: Global, file: Vec<u8>) -> Result<CheckedBytes, ReadError>
     ensures bytes { IfOk result (λ r. IsInStepOf file.items r.bytes.items r.breaks.items) }
     ensures error { IfErr result (IsInStepError file.items) }
 {
@@ -77,7 +77,7 @@ impl<F: Directory> Directory for InStepDirectory<F> {
         }
     }
 
-    fn read_for_check(&self, alloc: Global, name: &str) -> Result<FileBytes, ReadError> {
+    fn read_for_check(&self, alloc: Global, name: &str) -> Result<CheckedBytes, ReadError> {
         let bytes = match self.directory.read(alloc, name) {
             Ok(bytes) => bytes,
             Err(error) => return Err(error),
@@ -85,7 +85,7 @@ impl<F: Directory> Directory for InStepDirectory<F> {
         if self.is_resync {
             return in_step(alloc, bytes);
         }
-        Ok(FileBytes::unchanged(alloc, bytes))
+        Ok(CheckedBytes::unchanged(alloc, bytes))
     }
 
     fn stamp(&self, name: &str) -> Option<Stamp> {

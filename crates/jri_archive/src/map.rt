@@ -11,7 +11,7 @@ use crate::answers::LineForm;
 use crate::checking::Checked;
 use crate::damaged_run::DamagedRun;
 use crate::rows::{append_break, append_doubtful, append_run, append_sound};
-use jr_cut::{Break, CodedSpan, Segment, segment_at};
+use jr_cut::{Break, CodedSpan, FileSegment, segment_at};
 use jr_damage::{DoubtfulMcu, damaged_interval, decodable_end, first_doubtful};
 use jr_head::Head;
 use jr_scan::IntervalRef;
@@ -159,7 +159,7 @@ pub(crate) fn write_map<'a, O: Write>(
     };
     let mut is_doubtful = false;
     for i in 0..intervals {
-        let Segment { bytes, next } = segment_at(file, at, i, intervals);
+        let FileSegment { bytes, next } = segment_at(file, at, i, intervals);
         at = next;
         if checked.verdict.damaged > 0
             && let Some(damaged) = damaged_run(file, bytes, scan.interval_ref(i))

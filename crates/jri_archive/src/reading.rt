@@ -9,19 +9,19 @@ use std::alloc::Global;
 
 /// The bytes of a file that are checked.
 #[derive(Drop)]
-pub struct FileBytes {
+pub struct CheckedBytes {
     pub bytes: Vec<u8>,
     /// The markers that were out of step, if the file was resynchronised.
     pub breaks: Vec<Break>,
 }
 
-impl FileBytes {
+impl CheckedBytes {
     /// Returns bytes that are checked as they were read.
-    pub(crate) fn unchanged(alloc: Global, bytes: Vec<u8>) -> FileBytes
+    pub(crate) fn unchanged(alloc: Global, bytes: Vec<u8>) -> CheckedBytes
         ensures bytes { result.bytes.items ≡ bytes.items }
         ensures breaks { result.breaks.items ≡ [] }
     {
-        FileBytes {
+        CheckedBytes {
             bytes,
             breaks: Vec::new(alloc),
         }
@@ -48,12 +48,12 @@ pub trait Directory {
         ensures error { IfErr result (fails self.now name.now) };
 
     /// Returns the bytes of the file of that name that are checked.
-    fn read_for_check(&self, alloc: Global, name: &str) -> Result<FileBytes, ReadError>
+    fn read_for_check(&self, alloc: Global, name: &str) -> Result<CheckedBytes, ReadError>
         ensures bytes { IfOk result (λ r. holds self.now name.now r.bytes.items) }
         ensures error { IfErr result (fails self.now name.now) }
     {
         match self.read(alloc, name) {
-            Ok(bytes) => Ok(FileBytes::unchanged(alloc, bytes)),
+            Ok(bytes) => Ok(CheckedBytes::unchanged(alloc, bytes)),
             Err(error) => Err(error),
         }
     }

@@ -11,7 +11,7 @@ use crate::in_step::InStepDirectory;
 use crate::progress::Progress;
 use crate::reading::Directory;
 use crate::sharing::check_all;
-use crate::source::Source;
+use crate::source::CheckSource;
 use crate::state_file::{State, StateError};
 use jr_base::Tally;
 use jri_machine::{Ended, Noted, ReadError, Unasked, answer};
@@ -182,7 +182,7 @@ pub fn program<
         Err(status) => return Ended { status },
     };
     let is_resync = asked.is_resync;
-    let source = Source {
+    let source = CheckSource {
         directory: InStepDirectory {
             directory,
             is_resync,

@@ -16,7 +16,7 @@ use crate::one_check::OneCheck;
 use crate::outcome::Outcome;
 use crate::progress::Progress;
 use crate::reading::Directory;
-use crate::source::{Content, Source};
+use crate::source::{CheckSource, Content};
 use jri_machine::{NamedFile, ReadError};
 use std::alloc::Global;
 use std::io::{BufReader, Read, Write};
@@ -52,7 +52,7 @@ impl<S: OneCheck, I: Read + Drop> Model for NameQueue<S, I> {
 #[derive(Drop)]
 struct Sharing<S: OneCheck, F: Directory, I: Read + Drop, O, P, W> {
     alloc: Global,
-    source: Source<F, W>,
+    source: CheckSource<F, W>,
     workers: u32,
     has_map: bool,
     names: Mutex<NameQueue<S, I>>,
@@ -63,10 +63,10 @@ struct Sharing<S: OneCheck, F: Directory, I: Read + Drop, O, P, W> {
 
 impl<S: OneCheck, F: Directory, I: Read + Drop, O, P, W> Model for Sharing<S, F, I, O, P, W> {
     ghost use Rattle.std.specs.Prelude.{◌≡◌, ℕ, List, None};
-    ghost use Rattle.jri_archive.specs.declared.source.Source.{Source};
+    ghost use Rattle.jri_archive.specs.declared.source.CheckSource.{CheckSource};
     ghost use Rattle.jri_archive.specs.Reporting.{AllowsEntries, AreChecksOf, HasRecord};
 
-    ghost Value = { Source F W };
+    ghost Value = { CheckSource F W };
 
     ghost view = { λ s. s.source };
 
@@ -306,7 +306,7 @@ fn check_as<
 >(
     rt: &R,
     alloc: Global,
-    source: Source<F, W>,
+    source: CheckSource<F, W>,
     asked: CheckRequest,
     list: Option<BufReader<I>>,
     out: O,
@@ -353,7 +353,7 @@ pub fn check_all<
 >(
     rt: &R,
     alloc: Global,
-    source: Source<F, W>,
+    source: CheckSource<F, W>,
     asked: CheckRequest,
     list: Option<BufReader<I>>,
     out: O,

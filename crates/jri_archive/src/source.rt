@@ -8,7 +8,7 @@ ghost use Rattle.jri_archive.specs.Reporting.{HasRecord, IsOlder, IsRecordOf, Is
 use crate::map::ReportError;
 use crate::names::FileNames;
 use crate::outcome::Outcome;
-use crate::reading::{Directory, FileBytes};
+use crate::reading::{CheckedBytes, Directory};
 use crate::state_file::State;
 use crate::state_record::{FileRecord, RecordedState, Stamp};
 use jr_cut::Break;
@@ -20,7 +20,7 @@ use std::sync::Wait;
 
 /// Where files come from, and the state file of a run, if it has one.
 #[derive(Drop)]
-pub struct Source<F, W> {
+pub struct CheckSource<F, W> {
     pub directory: F,
     pub state: Option<State<W>>,
 }
@@ -53,7 +53,7 @@ pub(crate) struct Content {
     pub(crate) breaks: Option<Vec<Break>>,
 }
 
-impl<F: Directory, W: Write + Drop> Source<F, W> {
+impl<F: Directory, W: Write + Drop> CheckSource<F, W> {
     /// Returns the bytes of a file that are checked, and its markers that are out of step.
     fn read(
         &self,
@@ -70,7 +70,7 @@ impl<F: Directory, W: Write + Drop> Source<F, W> {
             return (Err(ReadError::NameIsNoText), None);
         };
         match self.directory.read_for_check(alloc, name) {
-            Ok(FileBytes { bytes, breaks }) => (Ok(bytes), Some(breaks)),
+            Ok(CheckedBytes { bytes, breaks }) => (Ok(bytes), Some(breaks)),
             Err(error) => (Err(error), None),
         }
     }

@@ -9,7 +9,7 @@ use Rattle.jri_machine.specs.Status.{AsksForHelp, answered_status}
 use Rattle.jri_machine.specs.Steps.{Step, Follow}
 use Rattle.jri_words.specs.Images.{LeavesNamed, is_picture_status}
 use Rattle.jri_words.proofs.StepLemmas.{answered, none_yet, unread}
-use Rattle.jri_engine.specs.declared.resync.ResyncReport.{ResyncReport}
+use Rattle.jri_engine.specs.declared.resync.ResyncedReport.{ResyncedReport}
 use Rattle.jri_engine.specs.Decoding.{PaintsBy}
 use Rattle.jri_engine.specs.Files.{PaintsFile}
 use Rattle.jri_engine.specs.Resync.{PaintsResynced}
@@ -31,7 +31,7 @@ paints_kept file first r old mid new p q = record {
   reported = p.reported;
 }
 
-pub painted_kept : (is_resync : Bool) (left : Option (List ℕ)) (first : Option ℕ) (r : ResyncReport) (old mid new : Option (List ℕ)) → Keeps mid new → PaintsBy is_resync left first r old mid → PaintsBy is_resync left first r old new
+pub painted_kept : (is_resync : Bool) (left : Option (List ℕ)) (first : Option ℕ) (r : ResyncedReport) (old mid new : Option (List ℕ)) → Keeps mid new → PaintsBy is_resync left first r old mid → PaintsBy is_resync left first r old new
 painted_kept false left first r old mid new q p = of_file left (λ file. PaintsFile file first r.report old mid) (λ file. PaintsFile file first r.report old new) (λ file is. paints_kept file first r.report old mid new is q) p
 painted_kept true left first r old mid new q p =
     of_file left (λ file. PaintsResynced file first r old mid) (λ file. PaintsResynced file first r old new)

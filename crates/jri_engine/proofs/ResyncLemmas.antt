@@ -12,7 +12,7 @@ use Rattle.jr_segments.specs.declared.refusal.Refusal.{Refusal}
 use Rattle.jr_picture.specs.declared.report.Fault.{Fault}
 use Rattle.jr_picture.specs.declared.report.Fault.TheVariants as fault
 use Rattle.jri_file.specs.Files.{IsFaultOfInput, IsScanOfFile, OfFile}
-use Rattle.jri_engine.specs.declared.resync.ResyncReport.{ResyncReport}
+use Rattle.jri_engine.specs.declared.resync.ResyncedReport.{ResyncedReport}
 use Rattle.jri_engine.specs.Files.{BeginsFile, PaintsFile}
 use Rattle.jri_engine.proofs.PaintsLemmas.{of_file}
 use Rattle.jri_engine.specs.Resync.{BeginsResynced, HasResyncedScan, IsResyncFaultOf, IsResyncFaultOfInput, PaintsResynced, RefusesResync}
@@ -38,7 +38,7 @@ own_scan file h s breaks in_step same is none =
 
 module _ (left : Option (List ℕ)) (first : Option ℕ) (scan : ScanValue) (old new : Option (List ℕ)) where
   -- its image is that of the scan
-  pub paints : (report : ResyncReport) → ((file : List ℕ) → IsScanOfFile file scan → PaintsFile file first report.report old new) → OfFile left (λ file. HasResyncedScan file scan report.breaks.items)
+  pub paints : (report : ResyncedReport) → ((file : List ℕ) → IsScanOfFile file scan → PaintsFile file first report.report old new) → OfFile left (λ file. HasResyncedScan file scan report.breaks.items)
       → OfFile left (λ file. PaintsResynced file first report old new)
   paints report painted has =
       of_file left (λ file. HasResyncedScan file scan report.breaks.items) (λ file. PaintsResynced file first report old new)

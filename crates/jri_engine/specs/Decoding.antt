@@ -3,12 +3,12 @@ use Rattle.std.specs.Prelude.{◌≡◌, ℕ, Bool, true, false, List, Option}
 use Rattle.jr_segments.specs.declared.refusal.Refusal.{Refusal}
 use Rattle.jr_head.specs.Heads.{RefusalOf}
 use Rattle.jri_file.specs.Files.{OfFile}
-use Rattle.jri_engine.specs.declared.resync.ResyncReport.{ResyncReport}
+use Rattle.jri_engine.specs.declared.resync.ResyncedReport.{ResyncedReport}
 use Rattle.jri_engine.specs.Files.{BeginsImage, Paints}
 use Rattle.jri_engine.specs.Resync.{BeginsResynced, PaintsResynced, RefusesResync}
 
 -- the image of what a reader has left was appended, and this is its report
-abbrev pub PaintsBy : (is_resync : Bool) → Option (List ℕ) → Option ℕ → ResyncReport → Option (List ℕ) → Option (List ℕ) → Type 0
+abbrev pub PaintsBy : (is_resync : Bool) → Option (List ℕ) → Option ℕ → ResyncedReport → Option (List ℕ) → Option (List ℕ) → Type 0
 PaintsBy false remaining first r old new = Paints remaining first r.report old new
 PaintsBy true remaining first r old new = OfFile remaining (λ file. PaintsResynced file first r old new)
 

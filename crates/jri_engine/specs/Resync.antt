@@ -11,7 +11,7 @@ use Rattle.jr_mend.specs.Reading.{Becomes, IsTooLong}
 use Rattle.jr_picture.specs.declared.report.Fault.{Fault}
 use Rattle.jr_picture.specs.declared.report.Fault.TheVariants as fault
 use Rattle.jri_file.specs.Files.{IsScanOfFile, OfFile}
-use Rattle.jri_engine.specs.declared.resync.ResyncReport.{ResyncReport}
+use Rattle.jri_engine.specs.declared.resync.ResyncedReport.{ResyncedReport}
 use Rattle.jri_engine.specs.Files.{BeginsFile, PaintsFile}
 
 -- the file has a header, and becomes this one, with these breaks, once its restart markers are in step
@@ -22,7 +22,7 @@ pub record Resyncs (file new : List ℕ) (breaks : List Break) : Type 0 where
   pub is : Becomes file head new breaks ended
 
 -- an image of the resynchronised file was appended; the report is of its marks, and the breaks are the damaged file's
-pub record PaintsResynced (file : List ℕ) (first : Option ℕ) (report : ResyncReport) (old new : Option (List ℕ)) : Type 0 where
+pub record PaintsResynced (file : List ℕ) (first : Option ℕ) (report : ResyncedReport) (old new : Option (List ℕ)) : Type 0 where
   pub resynced : List ℕ
   pub is : Resyncs file resynced report.breaks.items
   pub painted : PaintsFile resynced first report.report old new

@@ -18,5 +18,5 @@ pub use jri_words::{
     decode_request, describe_request, finish, many_request,
 };
 pub use many::program_for_many;
-pub use resync::{ResyncReport, run_resynced};
+pub use resync::{ResyncedReport, run_resynced};
 pub use running::program;

@@ -6,7 +6,7 @@ ghost use Rattle.jr_base.specs.declared.limits.TheConstants.{MAX_WORKERS};
 ghost use Rattle.jri_machine.specs.Steps.{Follow, IsInDirectory, LeavesFile};
 ghost use Rattle.jri_words.specs.Images.{DecodesEach, is_picture_status, worse};
 
-use crate::running::{Decoding, FAILED, ImageFile, decode_to_part};
+use crate::running::{DecodeOptions, FAILED, ImageFile, decode_to_part};
 use jr_base::Tally;
 use jr_cut::Break;
 use jr_picture::Fault;
@@ -39,7 +39,7 @@ fn decode_into_new<T: Threads + Wait + Sync, D: Devices>(
     rt: &T,
     alloc: Global,
     devices: &mut D,
-    decoding: Decoding,
+    decoding: DecodeOptions,
     file: &str,
     image: &str,
     breaks: &mut Vec<Break>,
@@ -83,7 +83,7 @@ fn decode_one<T: Threads + Wait + Sync, D: Devices, E: Write>(
         is_quiet: request.is_quiet,
         is_verbose: true,
     };
-    let decoding = Decoding {
+    let decoding = DecodeOptions {
         workers: request.workers,
         first: request.first,
         is_resync: request.is_resync,

@@ -28,7 +28,7 @@ use std::thread::Threads;
 
 /// The report of a file that is resynchronised, and whose image was written.
 #[derive(Drop)]
-pub struct ResyncReport {
+pub struct ResyncedReport {
     /// The report of the resynchronised file.
     pub report: Report,
     /// The markers that are out of step, in order.
@@ -139,7 +139,7 @@ pub fn run_resynced<T: Threads + Wait + Sync, R: Read, W: Write, G: Gate + Sync>
     workers: u32,
     first: Option<u32>,
     gate: &G,
-) -> Result<ResyncReport, Fault>
+) -> Result<ResyncedReport, Fault>
     requires input { has_failed input.old ≡ false }
     requires output { has_failed out.old ≡ false }
     requires some { 1 ≤ workers }
@@ -158,7 +158,7 @@ pub fn run_resynced<T: Threads + Wait + Sync, R: Read, W: Write, G: Gate + Sync>
 {
     let resynced = read_resynced(alloc, input)?;
     match write_image(rt, alloc, &resynced.scan, workers, first, gate, out) {
-        Ok(report) => Ok(ResyncReport {
+        Ok(report) => Ok(ResyncedReport {
             report,
             breaks: resynced.breaks,
         }),

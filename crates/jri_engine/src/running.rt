@@ -31,7 +31,7 @@ pub(crate) const FAILED: u8 = 1;
 
 /// How a file is decoded.
 #[derive(Clone, Copy)]
-pub(crate) struct Decoding {
+pub(crate) struct DecodeOptions {
     /// The number of workers, 1 to 64.
     pub(crate) workers: u32,
     /// The number of intervals that are decoded, starting at the first one; all if it is `None`.
@@ -41,12 +41,12 @@ pub(crate) struct Decoding {
 }
 
 /// Returns how the arguments ask for a file to be decoded.
-fn decoding_of(request: &DecodeRequest) -> Decoding
+fn decoding_of(request: &DecodeRequest) -> DecodeOptions
     ensures workers { result.workers ≡ request.now.asked.workers }
     ensures first { result.first ≡ request.now.asked.first }
     ensures resync { result.is_resync ≡ request.now.is_resync }
 {
-    Decoding {
+    DecodeOptions {
         workers: request.asked.workers,
         first: request.asked.first,
         is_resync: request.is_resync,
@@ -57,7 +57,7 @@ fn decoding_of(request: &DecodeRequest) -> Decoding
 fn outcome_of<T: Threads + Wait + Sync, R: Read, W: Write>(
     rt: &T,
     alloc: Global,
-    decoding: Decoding,
+    decoding: DecodeOptions,
     input: &mut Tally<R>,
     output: &mut Tally<W>,
     breaks: &mut Vec<Break>,
@@ -70,7 +70,7 @@ fn outcome_of<T: Threads + Wait + Sync, R: Read, W: Write>(
     ensures begun { result ≡ Err Fault.Write → BeginsBy decoding.is_resync (known_in R.remaining input.old) decoding.first (known_in W.contents output.old) (known_in W.contents output.new) }
     ensures refused { (f : Refusal) → result ≡ Err (Fault.Refused f) → RefusesBy decoding.is_resync (known_in R.remaining input.old) f }
 {
-    let Decoding {
+    let DecodeOptions {
         workers,
         first,
         is_resync,
@@ -87,28 +87,21 @@ fn outcome_of<T: Threads + Wait + Sync, R: Read, W: Write>(
     }
 }
 
-/// How a decoding ended, and the output.
-#[derive(Drop)]
-struct Decoded<W> {
-    ending: Ending,
-    out: W,
-}
-
-/// Decodes a source into an output, which is flushed if the image is written. The breaks of a resynchronised file are
-/// stored.
+/// Decodes a source into an output, which is flushed if the image is written. Returns how it ended, and the output. The
+/// breaks of a resynchronised file are stored.
 fn decode<T: Threads + Wait + Sync, R: Read + Drop, W: Write + Drop>(
     rt: &T,
     alloc: Global,
-    decoding: Decoding,
+    decoding: DecodeOptions,
     source: R,
     out: W,
     breaks: &mut Vec<Break>,
-) -> Decoded<Noted<W>>
+) -> (Ending, Noted<W>)
     requires some { 1 ≤ decoding.workers }
     requires few { decoding.workers ≤ MAX_WORKERS }
-    ensures painted { IfOk result.ending.outcome (λ r. PaintsBy decoding.is_resync (R.remaining source) decoding.first (record { report = r; breaks = breaks.new }) (W.contents out) (W.contents (noted_in result.out))) }
-    ensures flushed { IfOk result.ending.outcome (λ _. has_flushed result.out ≡ true) }
-    ensures refused { (f : Refusal) → result.ending.outcome ≡ Err (Fault.Refused f) → RefusesBy decoding.is_resync (R.remaining source) f }
+    ensures painted { IfOk result.0.outcome (λ r. PaintsBy decoding.is_resync (R.remaining source) decoding.first (record { report = r; breaks = breaks.new }) (W.contents out) (W.contents (noted_in result.1))) }
+    ensures flushed { IfOk result.0.outcome (λ _. has_flushed result.1 ≡ true) }
+    ensures refused { (f : Refusal) → result.0.outcome ≡ Err (Fault.Refused f) → RefusesBy decoding.is_resync (R.remaining source) f }
 {
     let mut input = Tally::of(Noted::of(source));
     let mut output = Tally::of(Noted::of(out));
@@ -120,10 +113,7 @@ fn decode<T: Threads + Wait + Sync, R: Read + Drop, W: Write + Drop>(
         Err(Fault::Write) => out.reason(),
         _ => None,
     };
-    Decoded {
-        ending: Ending { outcome, reason },
-        out,
-    }
+    (Ending { outcome, reason }, out)
 }
 
 /// The file of an image.
@@ -140,7 +130,7 @@ pub(crate) fn decode_to_part<T: Threads + Wait + Sync, D: Devices, R: Read + Dro
     rt: &T,
     alloc: Global,
     devices: &mut D,
-    decoding: Decoding,
+    decoding: DecodeOptions,
     source: R,
     image: ImageFile<'_>,
     breaks: &mut Vec<Break>,
@@ -153,7 +143,7 @@ pub(crate) fn decode_to_part<T: Threads + Wait + Sync, D: Devices, R: Read + Dro
         Ok(part) => part,
         Err(ending) => return ending,
     };
-    let Decoded { ending, out } = decode(rt, alloc, decoding, source, file, breaks);
+    let (ending, out) = decode(rt, alloc, decoding, source, file, breaks);
     let part = Part {
         file: out.into_inner(),
         name,
@@ -178,7 +168,7 @@ fn decode_to_file<T: Threads + Wait + Sync, D: Devices, R: Read + Drop>(
     let file = request.asked.file.as_ref().map(|file| file.as_str());
     if let Destination::WrittenInto = devices.destination(name, file) {
         return match devices.open_device(name) {
-            Ok(device) => decode(rt, alloc, decoding_of(request), source, device, breaks).ending,
+            Ok(device) => decode(rt, alloc, decoding_of(request), source, device, breaks).0,
             Err(error) => unwritten(error),
         };
     }
@@ -223,7 +213,7 @@ pub fn program<T: Threads + Wait + Sync, D: Devices, E: Write>(
         Ok(source) => match &asked.target {
             Target::Output | Target::AnyOutput => {
                 let out = devices.output();
-                decode(rt, alloc, decoding_of(&request), source, out, &mut breaks).ending
+                decode(rt, alloc, decoding_of(&request), source, out, &mut breaks).0
             }
             Target::File(name) => decode_to_file(
                 rt,

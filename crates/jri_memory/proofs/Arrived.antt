@@ -6,7 +6,7 @@ use Rattle.std.proofs.lemmas.List.{append-nil, drop-append-le, drop_all}
 use Rattle.jr_base.specs.declared.limits.TheConstants.{MAX_FILE_BYTES}
 use Rattle.jr_base.specs.declared.marker.TheConstants.{PREFIX, RST0}
 use Rattle.jr_cut.specs.declared.file_segments.CodedSpan.{CodedSpan}
-use Rattle.jr_cut.specs.declared.file_segments.Segment.{Segment}
+use Rattle.jr_cut.specs.declared.file_segments.FileSegment.{FileSegment}
 use Rattle.jr_cut.specs.declared.scan_end.ScanEnd.{ScanEnd}
 use Rattle.jr_cut.specs.declared.scan_end.ScanEnd.TheVariants.{EndOfFile}
 use Rattle.jr_cut.specs.Coded.{EndsAfter, GoesOnAfter, IsSpelledAt}

@@ -3,7 +3,7 @@ use Rattle.std.specs.Prelude.{◌≡◌, ℕ, ◌+◌, Bool, true, false, List, 
 use Rattle.jr_base.specs.declared.limits.TheConstants.{MAX_FILE_BYTES}
 use Rattle.jr_base.specs.declared.marker.TheConstants.{PREFIX}
 use Rattle.jr_cut.specs.declared.file_segments.CodedSpan.{CodedSpan}
-use Rattle.jr_cut.specs.declared.file_segments.Segment.{Segment}
+use Rattle.jr_cut.specs.declared.file_segments.FileSegment.{FileSegment}
 use Rattle.jr_cut.specs.Coded.{IsSpelledAt}
 use Rattle.jr_cut.specs.Cut.{IsRaw}
 use Rattle.jr_arrival.specs.Arrival.{CanBecome}
@@ -31,7 +31,7 @@ pub record HasNoMarkerFrom (bytes : List ℕ) (at : ℕ) : Type 0 where
 
 -- the bytes spell the data of interval k of the file's scan, their span is its segment in the file if it has bytes, and the next one
 -- begins at that offset, or at the file's end if that is earlier
-pub record IsFinalSegment (bytes file : List ℕ) (s : ScanValue) (k : ℕ) (g : Segment) : Type 0 where
+pub record IsFinalSegment (bytes file : List ℕ) (s : ScanValue) (k : ℕ) (g : FileSegment) : Type 0 where
   pub spelled : IsSpelledAt bytes g.bytes (slice_index_or s.intervals k [])
   pub span : CodedSpan
   pub segment : IsSegmentOf file s k span

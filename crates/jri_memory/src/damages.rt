@@ -24,7 +24,7 @@ use crate::final_segment::{end_of, final_segment};
 use crate::status::{DAMAGED, NEED_MORE, SOUND};
 use crate::{detail, status_of};
 use jr_arrival::FileBytes;
-use jr_cut::{CodedSpan, Segment, unstuff_at};
+use jr_cut::{CodedSpan, FileSegment, unstuff_at};
 use jr_damage::{DamagedInterval, damaged_interval};
 use jr_head::Head;
 use jr_scan::IntervalRef;
@@ -119,7 +119,7 @@ impl Damage {
 
 /// How far a list has come: the number of its entries, the interval that is next, and the offset at which its bytes begin.
 #[derive(Clone, Copy)]
-struct Progress {
+struct ListPosition {
     pub count: u32,
     pub next: u32,
     pub at: usize,
@@ -171,11 +171,11 @@ fn store(damaged: Option<DamagedInterval>, damages: &mut [Damage], count: u32) -
 fn list_one(
     head: &Head,
     file: &[u8],
-    segment: Segment,
-    before: Progress,
+    segment: FileSegment,
+    before: ListPosition,
     buffer: &mut Vec<u8>,
     damages: &mut [Damage],
-) -> Progress
+) -> ListPosition
     requires there { before.next < intervals_of head.now }
     requires small { length file.now < 2 ^ 61 }
     requires spelled { (bytes : List ℕ) × IsSpelledAt file.now segment.bytes bytes }
@@ -195,7 +195,7 @@ fn list_one(
     // By its contract the numbers of all intervals fit.
     let _all = head.intervals();
     let damaged = examine(head, file, segment.bytes, before.next, buffer);
-    Progress {
+    ListPosition {
         count: store(damaged, damages, before.count),
         next: before.next + 1,
         at: segment.next,
@@ -206,10 +206,10 @@ fn list_one(
 fn list(
     head: &Head,
     file: FileBytes<'_>,
-    from: Progress,
+    from: ListPosition,
     buffer: &mut Vec<u8>,
     damages: &mut [Damage],
-) -> Progress
+) -> ListPosition
     requires none { from.count ≡ 0 }
     requires there { from.next ≤ intervals_of head.now }
     requires at { from.at ≤ end_of file.are_all file.bytes.now }
@@ -238,14 +238,14 @@ fn list(
 }
 
 /// Returns where a list starts: at the end of the file if the offset is past it.
-fn start_of(head: &Head, file: FileBytes<'_>, first: u32, first_at: u64) -> Progress
+fn start_of(head: &Head, file: FileBytes<'_>, first: u32, first_at: u64) -> ListPosition
     requires small { length file.bytes.now ≤ MAX_FILE_BYTES }
     ensures none { result.count ≡ 0 }
     ensures next { result.next ≡ min first (intervals_of head.now) }
     ensures at { result.at ≡ min (max first_at head.now.scan_at) (end_of file.entry.are_all file.entry.bytes.now) }
 {
     let at = first_at.max(head.scan_at());
-    Progress {
+    ListPosition {
         count: 0,
         next: first.min(head.intervals()),
         at: at.min(end_of(file) as u64) as usize,

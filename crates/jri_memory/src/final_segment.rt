@@ -14,7 +14,7 @@ ghost use Rattle.jri_memory.specs.FinalSegments.{HasNoMarkerFrom, IsFileOf, IsFi
 use jr_arrival::FileBytes;
 use jr_base::limits::MAX_FILE_BYTES;
 use jr_base::marker::fill_count;
-use jr_cut::{CodedSpan, ScanEnd, Segment, Stop, segment_length, stop_at};
+use jr_cut::{CodedSpan, FileSegment, ScanEnd, Stop, segment_length, stop_at};
 
 /// Returns the offset that no byte of the file has: its length, or the maximum length if more of it may come.
 pub(crate) fn end_of(file: FileBytes<'_>) -> usize
@@ -72,7 +72,7 @@ pub(crate) fn final_segment(
     at: usize,
     k: u32,
     intervals: u32,
-) -> Option<Segment>
+) -> Option<FileSegment>
     requires small { length file.bytes.now ≤ MAX_FILE_BYTES }
     requires few { k < intervals }
     ensures spelled { IfSome result (λ g. (found : List ℕ) × IsSpelledAt file.entry.bytes.now g.bytes found) }
@@ -90,7 +90,7 @@ pub(crate) fn final_segment(
             start: length,
             end: length,
         };
-        return Some(Segment { bytes, next: all });
+        return Some(FileSegment { bytes, next: all });
     }
     if at > length {
         return None;
@@ -98,5 +98,5 @@ pub(crate) fn final_segment(
     let end = at + segment_length(&file.bytes[at..]);
     let next = next_at(file, end, k, intervals)?;
     let bytes = CodedSpan { start: at, end };
-    Some(Segment { bytes, next })
+    Some(FileSegment { bytes, next })
 }

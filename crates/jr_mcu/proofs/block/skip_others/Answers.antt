@@ -50,10 +50,10 @@ returns-then-place-gt62-2-clause-none c =
 
 pub codes-preserved : goal.codes-preserved
 codes-preserved c = (
-      omega (arith, c.if-place-gt62-2.false),
-      skipped_on c.args.ac.now (one_word _) c.args.bits.now c.held.bits c.read_places_and_refill.new.bits c.held.place (c.held.place + c.places-place-in-codes.result) c.in_ok-next.next
-          c.held.invariant.1 c.held.invariant.0.1 c.in_ok-next.ensures.found (ap (λ n. c.held.place + n) c.places-place-in-codes.ensures.value) (omega (arith, c.if-place-gt62-2.false)),
-    )
+  omega (arith, c.if-place-gt62-2.false),
+  skipped_on c.args.ac.now (one_word _) c.args.bits.now c.held.bits c.read_places_and_refill.new.bits c.held.place (c.held.place + c.places-place-in-codes.result) c.in_ok-next.next
+      c.held.invariant.1 c.held.invariant.0.1 c.in_ok-next.ensures.found (ap (λ n. c.held.place + n) c.places-place-in-codes.ensures.value) (omega (arith, c.if-place-gt62-2.false)),
+)
 
 pub codes-smaller : goal.codes-smaller
 codes-smaller c = omega (arith, c.held.invariant.0.0, c.places-place-in-codes.ensures.value, some_places c.args.ac.now _ _ c.in_ok-next.next c.in_ok-next.ensures.found, c.if-place-gt62-2.false)

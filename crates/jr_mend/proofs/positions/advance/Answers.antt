@@ -1,6 +1,6 @@
 use Rattle.std.proofs.Common.{ℕ, ◌+◌, ◌<◌, ◌≤◌, ◌≢◌, sym, subst, ◌∙◌, get_or, get_or-set_other, rules, arith}
 use Rattle.std.proofs.lemmas.List.{length-set}
-use Rattle.jr_cut.specs.declared.file_segments.Segment.{Segment}
+use Rattle.jr_cut.specs.declared.file_segments.FileSegment.{FileSegment}
 use Rattle.jr_damage.specs.Coded.{IsNextAt, IsSegmentOf}
 use Rattle.jr_scan.specs.ScanValue.{intervals_of}
 use Rattle.jr_mend.specs.Copies.{CopyValue}
@@ -11,7 +11,7 @@ pub loop-k-init : goal.loop-k-init
 loop-k-init c = (
   nexts_long c.args.copies.now c.args.segments.now c.args.i c.requires.at,
   λ j s lt. absurd (omega (arith, lt)),
-  λ j s le lt d. zip_at (λ (e : CopyValue) (t : Segment). IsNextAt e.file e.scan c.args.i t.next) c.args.copies.now c.args.segments.now j d s c.requires.at lt,
+  λ j s le lt d. zip_at (λ (e : CopyValue) (t : FileSegment). IsNextAt e.file e.scan c.args.i t.next) c.args.copies.now c.args.segments.now j d s c.requires.at lt,
 )
 
 pub bounds-segments-k : goal.bounds-segments-k
@@ -44,17 +44,17 @@ loop-k-preserved c =
     let before = c.loop-k.invariant in
     let has : IsSegmentIn copies i k next × IsNextIn copies (i + 1) k next = (segment_in_copy copies i k next copy lt is c.segment_in.ensures.segment, next_in_copy copies (i + 1) k next copy lt is c.segment_in.ensures.next) in (
       length-set segments k next ∙ before.0,
-      one_set (λ (j : ℕ) (s : Segment). IsSegmentIn copies i j s × IsNextIn copies (i + 1) j s) segments k next has (omega (arith, lt, before.0)) before.1,
+      one_set (λ (j : ℕ) (s : FileSegment). IsSegmentIn copies i j s × IsNextIn copies (i + 1) j s) segments k next has (omega (arith, lt, before.0)) before.1,
       (λ j s le there.
           let ne : j ≢ k = λ e. omega (arith, e, le) in
           let later : k ≤ j = omega (arith, le) in
-          subst (λ (t : Segment). IsNextIn copies i j t) (sym (get_or-set_other segments k j next s ne)) (before.2 j s later there)),
+          subst (λ (t : FileSegment). IsNextIn copies i j t) (sym (get_or-set_other segments k j next s ne)) (before.2 j s later there)),
     )
 
 pub returns-clause-segments : goal.returns-clause-segments
 returns-clause-segments c =
-    zip_from (λ (e : CopyValue) (t : Segment). IsSegmentOf e.file e.scan c.args.i t.bytes) c.args.copies.now c.loop-k.segments c.loop-k.invariant.0 (λ k d s lt. (c.loop-k.invariant.1 k s (omega (arith, lt, c.loop-k-test.false))).0 d)
+    zip_from (λ (e : CopyValue) (t : FileSegment). IsSegmentOf e.file e.scan c.args.i t.bytes) c.args.copies.now c.loop-k.segments c.loop-k.invariant.0 (λ k d s lt. (c.loop-k.invariant.1 k s (omega (arith, lt, c.loop-k-test.false))).0 d)
 
 pub returns-clause-next : goal.returns-clause-next
 returns-clause-next c =
-    zip_from (λ (e : CopyValue) (t : Segment). IsNextAt e.file e.scan (c.args.i + 1) t.next) c.args.copies.now c.loop-k.segments c.loop-k.invariant.0 (λ k d s lt. (c.loop-k.invariant.1 k s (omega (arith, lt, c.loop-k-test.false))).1 d)
+    zip_from (λ (e : CopyValue) (t : FileSegment). IsNextAt e.file e.scan (c.args.i + 1) t.next) c.args.copies.now c.loop-k.segments c.loop-k.invariant.0 (λ k d s lt. (c.loop-k.invariant.1 k s (omega (arith, lt, c.loop-k-test.false))).1 d)

@@ -4,7 +4,7 @@ use Rattle.std.specs.Arc.{arc_value}
 use Rattle.jr_base.specs.Tally.{has_failed, known_in}
 use Rattle.jr_picture.specs.declared.report.Fault.{Fault}
 use Rattle.jr_picture.specs.declared.report.Fault.TheVariants as fault
-use Rattle.jri_engine.specs.declared.resync.ResyncReport.{ResyncReport}
+use Rattle.jri_engine.specs.declared.resync.ResyncedReport.{ResyncedReport}
 use Rattle.jri_engine.proofs.PaintsLemmas.{IsOfWriting, of_writing}
 use Rattle.jri_engine.proofs.ResyncLemmas.{begins, not_err, not_missing, not_write, paints, refuses, same_fault}
 use Rattle.jri_engine.proofs.resync.run_resynced.Goals as goal
@@ -49,7 +49,7 @@ pub returns-in_err-resynced-clause-written : goal.returns-in_err-resynced-clause
 returns-in_err-resynced-clause-written g c =
     let gave = err_from_is_err_and c.from_residual.result c.from_residual.ensures.1 in
     let stated : c.from_residual.result ≡ Err c.in_err-resynced.field-0.0 = gave.1 ∙ ap Err gave.2 in
-    subst (λ (r : Result ResyncReport Fault). OnOk r (has_failed c.args.out.now ≡ false)) (sym stated) tt
+    subst (λ (r : Result ResyncedReport Fault). OnOk r (has_failed c.args.out.now ≡ false)) (sym stated) tt
 
 pub returns-in_err-resynced-clause-untouched_read : goal.returns-in_err-resynced-clause-untouched_read
 returns-in_err-resynced-clause-untouched_read g c = search rules

@@ -5,7 +5,7 @@ use Rattle.jr_scan.specs.Cursors.{ReadingValue}
 use Rattle.jr_wall.specs.Sharing.{IsOneOf}
 use Rattle.jr_piece.specs.Strips.{ReportsEnd}
 use Rattle.jr_wall.proofs.Gathering.{reports_end}
-use Rattle.jr_wall.proofs.reading.Reading.next.Goals as goal
+use Rattle.jr_wall.proofs.reading.IntervalReading.next.Goals as goal
 
 pub returns : goal.returns
 returns g c =

@@ -1,5 +1,5 @@
 use Rattle.std.proofs.Common.{[], rules}
-use Rattle.jr_arrival.proofs.mcu_sink.SkippedMcuSink.take.Goals as goal
+use Rattle.jr_arrival.proofs.mcu_sink.SkippedMcusMcuSink.take.Goals as goal
 
 pub returns-clause-taken : goal.returns-clause-taken
 returns-clause-taken c read =
