@@ -2,5 +2,4 @@ pub mod DecodedScan
 pub mod Samples
 pub mod Headline
 pub mod Exactness
-pub mod Status
 pub mod Writing

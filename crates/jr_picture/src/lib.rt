@@ -10,7 +10,6 @@ mod laws;
 mod mark;
 mod picture_error;
 mod report;
-mod status;
 
 pub use blank::blank_sample;
 pub use counts::Counts;

@@ -11,7 +11,7 @@ use jr_picture::Fault;
 use jr_segments::Refusal;
 use jri_file::read_file_head;
 use jri_machine::{Devices, Ended, STREAM, Unasked, answer};
-use jri_words::{DescribeRequest, describe};
+use jri_words::{DescribeRequest, describe, fault_status};
 use std::alloc::Global;
 use std::io::{ErrorKind, Result as IoResult, Write};
 
@@ -52,7 +52,7 @@ fn describe_one<D: Devices, W: Write>(
     out.write_all(line.as_bytes())?;
     Ok(match head {
         Ok(_) => 0,
-        Err(fault) => fault.status(),
+        Err(fault) => fault_status(fault),
     })
 }
 

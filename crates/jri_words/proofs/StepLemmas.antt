@@ -4,7 +4,7 @@ use Rattle.std.proofs.lemmas.Bool.{true≢false}
 use Rattle.jr_picture.specs.declared.report.Report.{Report}
 use Rattle.jr_picture.specs.declared.report.Fault.{Fault}
 use Rattle.jr_picture.specs.declared.report.Fault.TheVariants as fault
-use Rattle.jr_picture.specs.Status.{report_status, fault_status}
+use Rattle.jri_words.specs.Status.{status_of_report, status_of_fault}
 use Rattle.std.specs.List.{AllByRecursion}
 use Rattle.clap.specs.Words.{Text}
 use Rattle.jri_machine.specs.declared.unasked.Unasked.{Unasked}
@@ -48,7 +48,7 @@ damage_reports true = refl
 damage_reports false = refl
 
 -- the exit status says whether an image was written
-pub status_reports : (r : Result Report Fault) (n : ℕ) → IfOk r (λ report. n ≡ report_status report false) → IfErr r (λ f. n ≡ fault_status f) → is_picture_status n ≡ is_ok r
+pub status_reports : (r : Result Report Fault) (n : ℕ) → IfOk r (λ report. n ≡ status_of_report report false) → IfErr r (λ f. n ≡ status_of_fault f) → is_picture_status n ≡ is_ok r
 status_reports (Ok report) n p q = rw p (damage_reports (report.damaged == 0))
 status_reports (Err fault.Read) n p q = rw q refl
 status_reports (Err (fault.Refused f)) n p q = rw q refl

@@ -1,3 +1,4 @@
 pub mod CommandLine
 pub mod Quality
 pub mod Images
+pub mod Status

@@ -1,10 +1,11 @@
 //! The end of a run, reported on standard error.
 
 ghost use Rattle.std.specs.Prelude.{◌≡◌, IfOk, IfErr, true, false};
-ghost use Rattle.jr_picture.specs.Status.{fault_status, report_status};
+ghost use Rattle.jri_words.specs.Status.{status_of_fault, status_of_report};
 
 use crate::answers::{Asked, Target, Verbosity};
 use crate::line::{LineContext, write_line};
+use crate::status::{fault_status, report_status};
 use jr_cut::Break;
 use jr_picture::{Fault, Report};
 use std::io::{Error, ErrorKind, Result as IoResult, Write};
@@ -122,8 +123,8 @@ pub fn report_ending<E: Write>(
     verbosity: Verbosity,
     errors: &mut E,
 ) -> u8
-    ensures written { IfOk ending.now.outcome (λ report. result ≡ report_status report false) }
-    ensures fault { IfErr ending.now.outcome (λ fault. result ≡ fault_status fault) }
+    ensures written { IfOk ending.now.outcome (λ report. result ≡ status_of_report report false) }
+    ensures fault { IfErr ending.now.outcome (λ fault. result ≡ status_of_fault fault) }
     ensures quiet { IfOk ending.now.outcome (λ _. verbosity.is_quiet ≡ true → errors.new ≡ errors.old) }
 {
     let context = line_context(ending, names, verbosity);
@@ -132,13 +133,13 @@ pub fn report_ending<E: Write>(
             if !verbosity.is_quiet {
                 let _ = write_report(errors, &report, context);
             }
-            report.status()
+            report_status(&report)
         }
         Err(fault) => {
             if !(verbosity.is_quiet && ending.is_left()) {
                 let _ = write_fault(errors, fault, context);
             }
-            fault.status()
+            fault_status(fault)
         }
     }
 }

@@ -4,7 +4,7 @@ ghost use Rattle.std.specs.Prelude.{◌≡◌, IfOk, IfErr, OnOk, true, false};
 ghost use Rattle.std.specs.Io.KnownBytes.{Keeps};
 ghost use Rattle.jr_base.specs.Tally.{has_failed, known_in};
 ghost use Rattle.jri_machine.specs.Noted.{has_flushed, noted_in};
-ghost use Rattle.jr_picture.specs.Status.{fault_status, report_status};
+ghost use Rattle.jri_words.specs.Status.{status_of_fault, status_of_report};
 
 use crate::answers::Verbosity;
 use crate::ending::{Ending, Names, report_ending};
@@ -39,8 +39,8 @@ pub fn finish<W: Write, E: Write>(
     out: &mut Tally<W>,
     errors: &mut E,
 ) -> u8
-    ensures written { IfOk outcome (λ report. has_failed out.old ≡ false → result ≡ report_status report (has_failed out.new)) }
-    ensures fault { IfErr outcome (λ fault. result ≡ fault_status fault) }
+    ensures written { IfOk outcome (λ report. has_failed out.old ≡ false → result ≡ status_of_report report (has_failed out.new)) }
+    ensures fault { IfErr outcome (λ fault. result ≡ status_of_fault fault) }
     ensures kept { Keeps (known_in W.contents out.old) (known_in W.contents out.new) }
     ensures untouched { IfErr outcome (λ _. out.new ≡ out.old) }
 {

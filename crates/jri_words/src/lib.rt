@@ -14,6 +14,7 @@ mod modes;
 mod opening;
 mod placing;
 mod quality;
+mod status;
 
 pub use answers::{Asked, DecodeRequest, Target, Verbosity};
 pub use asking::{
@@ -28,3 +29,4 @@ pub use modes::Mode;
 pub use opening::{opened, understood, warn_of_name};
 pub use placing::{make_part, place, unwritten};
 pub use quality::quality_of;
+pub use status::fault_status;
