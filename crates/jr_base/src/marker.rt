@@ -32,6 +32,9 @@ pub const SOF10: u8 = 0xCA;
 
 pub const SOF11: u8 = 0xCB;
 
+/// Define arithmetic coding conditioning.
+pub const DAC: u8 = 0xCC;
+
 pub const SOF13: u8 = 0xCD;
 
 pub const SOF14: u8 = 0xCE;
@@ -57,6 +60,9 @@ pub const DQT: u8 = 0xDB;
 
 /// Define restart interval.
 pub const DRI: u8 = 0xDD;
+
+/// Define hierarchical progression.
+pub const DHP: u8 = 0xDE;
 
 /// Application data 0, where JFIF has its mark.
 pub const APP0: u8 = 0xE0;

@@ -3,6 +3,7 @@
 ghost use Rattle.std.specs.Prelude.{◌≡◌};
 ghost use Rattle.jr_segments.specs.declared.refusal.Refusal.TheVariants.{Memory};
 
+use jr_base::marker::{DAC, DHP};
 use std::alloc::{AllocError, AllocFailed};
 use thiserror::Error;
 
@@ -69,7 +70,7 @@ pub enum Refusal {
 }
 
 impl Refusal {
-    ghost use Rattle.jr_segments.specs.Refusal.{number_of};
+    ghost use Rattle.jr_segments.specs.Refusal.{detail_of, may_be_valid, number_of};
 
     /// Returns the number of the refusal, from 1 to 19, which the program prints.
     pub fn number(&self) -> u8
@@ -95,6 +96,39 @@ impl Refusal {
             Refusal::MissingTable => 17,
             Refusal::TooLong => 18,
             Refusal::Memory => 19,
+        }
+    }
+
+    /// Returns the refusal's detail: the offset of a missing marker, or a marker's code.
+    pub fn detail(&self) -> Option<u64>
+        ensures { result ≡ detail_of self.now }
+    {
+        match self {
+            Refusal::ExpectedMarker(at) => Some(*at),
+            Refusal::UnexpectedMarker(code)
+            | Refusal::NotBaseline(code)
+            | Refusal::BadLength(code) => Some(u64::from(*code)),
+            _ => None,
+        }
+    }
+
+    /// Returns whether a valid file may have this refusal, since it is of a kind that is not decoded.
+    /// Damage to a frame or scan header can have the same refusal.
+    pub fn is_unsupported(&self) -> bool
+        ensures { result ≡ may_be_valid self.now }
+    {
+        match self {
+            Refusal::UnexpectedMarker(code) => *code == DAC || *code == DHP,
+            Refusal::NotBaseline(_)
+            | Refusal::BadPrecision
+            | Refusal::BadSize
+            | Refusal::TooManyPixels
+            | Refusal::BadComponents
+            | Refusal::BadSampling
+            | Refusal::BadScanHeader
+            | Refusal::MissingTable
+            | Refusal::TooLong => true,
+            _ => false,
         }
     }
 }

@@ -6,4 +6,3 @@ pub mod Outcomes
 pub mod Records
 pub mod Status
 pub mod Reporting
-pub mod Unsupported

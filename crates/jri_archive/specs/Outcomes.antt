@@ -1,6 +1,7 @@
 -- What a check of a file comes to.
 use Rattle.std.specs.Prelude.{◌≡◌, ◌≢◌, ℕ, ◌==◌, List, length, if◌then◌else◌}
 use Rattle.jr_segments.specs.declared.refusal.Refusal.TheVariants as refusal
+use Rattle.jr_segments.specs.Refusal.{may_be_valid}
 use Rattle.jr_head.specs.Heads.{RefusalOf}
 use Rattle.jr_scan.specs.ImageEnd.{IsImageEndIn}
 use Rattle.jri_archive.specs.declared.counts.FileState.{FileState}
@@ -10,7 +11,6 @@ use Rattle.jri_archive.specs.declared.outcome.Outcome.{Outcome}
 use Rattle.jri_archive.specs.declared.outcome.Outcome.TheVariants as outcome
 use Rattle.jri_archive.specs.DamagedLines.{AreUndecoded}
 use Rattle.jri_archive.specs.Records.{file_state}
-use Rattle.jri_archive.specs.Unsupported.{may_be_valid}
 use Rattle.jr_damage.specs.Verdicts.{IsFileScan, IsVerdictOf}
 
 -- the file's size and scan, where its image ends and what is damaged of it, or its first fault; if memory ran out nothing is said of it

@@ -47,4 +47,3 @@ pub use source::CheckSource;
 pub use state_file::{Records, State, StateError, read_state};
 pub use state_line::{parse_record, record_line};
 pub use state_record::{FileRecord, RecordedState, Stamp};
-pub use unsupported::is_unsupported;

@@ -94,17 +94,6 @@ fn write_checked(
     write_after_end(line, checked, is_json)
 }
 
-/// Returns the offset or the marker's code that a refusal names.
-fn detail_of(refusal: &Refusal) -> Option<u64> {
-    match refusal {
-        Refusal::ExpectedMarker(at) => Some(*at),
-        Refusal::UnexpectedMarker(code) | Refusal::NotBaseline(code) | Refusal::BadLength(code) => {
-            Some(u64::from(*code))
-        }
-        _ => None,
-    }
-}
-
 /// Appends why a file is refused as members; the first has the name `key`.
 fn write_refusal_members(
     line: &mut String,
@@ -113,7 +102,7 @@ fn write_refusal_members(
 ) -> Result<(), AllocError> {
     let (word, number) = (refused_word(refusal), refusal.number());
     write!(line, ",\"{key}\":\"{word}\",\"refusal\":{number}")?;
-    if let Some(detail) = detail_of(refusal) {
+    if let Some(detail) = refusal.detail() {
         write!(line, ",\"detail\":{detail}")?;
     }
     line.push_str(",\"why\":\"")?;

@@ -9,7 +9,6 @@ ghost use Rattle.jri_archive.specs.Outcomes.{IsOutcomeOf, plain_outcome, state_o
 use crate::checking::{Checked, check_file};
 use crate::counts::FileState;
 use crate::state_record::RecordedState;
-use crate::unsupported::is_unsupported;
 use jr_segments::Refusal;
 use jri_machine::ReadError;
 use std::alloc::Global;
@@ -64,7 +63,7 @@ impl Outcome {
             Outcome::Checked(_) => FileState::Damaged,
             Outcome::Refused(Refusal::Memory) | Outcome::Unread(ReadError::Memory) =>
                 FileState::OutOfMemory,
-            Outcome::Refused(refusal) if is_unsupported(refusal) => FileState::Unsupported,
+            Outcome::Refused(refusal) if refusal.is_unsupported() => FileState::Unsupported,
             Outcome::Refused(_) => FileState::Refused,
             Outcome::Skipped => FileState::Skipped,
             Outcome::Unread(_) => FileState::Unread,

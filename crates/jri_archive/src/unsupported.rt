@@ -1,41 +1,12 @@
-//! Files that other decoders may read: the refusals that a valid file may have, and their texts.
+//! The texts of refusals; those that a valid file may have say what is not supported.
 
-ghost use Rattle.std.specs.Prelude.{◌≡◌};
-ghost use Rattle.jri_archive.specs.Unsupported.{may_be_valid};
-
-use jr_base::marker::{SOF0, SOF2, SOF3, SOF9, SOF10, SOF11};
+use jr_base::marker::{DAC, DHP, SOF0, SOF2, SOF3, SOF9, SOF10, SOF11};
 use jr_segments::Refusal;
 use std::alloc::AllocError;
 
-/// Define arithmetic coding conditioning (T.81, B.2.4.3).
-const DAC: u8 = 0xCC;
-
-/// Define hierarchical progression (T.81, B.3.2).
-const DHP: u8 = 0xDE;
-
-/// Returns whether a valid file may have this refusal, since it is of a kind that is not decoded.
-/// Damage to a frame or scan header can have the same refusal.
-pub fn is_unsupported(refusal: &Refusal) -> bool
-    ensures { result ≡ may_be_valid refusal.now }
-{
-    match refusal {
-        Refusal::UnexpectedMarker(code) => *code == DAC || *code == DHP,
-        Refusal::NotBaseline(_)
-        | Refusal::BadPrecision
-        | Refusal::BadSize
-        | Refusal::TooManyPixels
-        | Refusal::BadComponents
-        | Refusal::BadSampling
-        | Refusal::BadScanHeader
-        | Refusal::MissingTable
-        | Refusal::TooLong => true,
-        _ => false,
-    }
-}
-
 /// Returns the verdict of a refused file.
 pub(crate) fn refused_word(refusal: &Refusal) -> &'static str {
-    if is_unsupported(refusal) {
+    if refusal.is_unsupported() {
         "unsupported"
     } else {
         "refused"

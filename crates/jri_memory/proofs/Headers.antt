@@ -6,7 +6,7 @@ use Rattle.jr_head.specs.Heads.{RefusalOf}
 use Rattle.jr_segments.specs.Refusal.{number_of}
 use Rattle.jr_arrival.specs.Arrival.{CanBecome, IsFinalFault}
 use Rattle.jr_arrival.proofs.HeadsStay.{fault_is_final, head_is_final}
-use Rattle.jri_memory.specs.Calls.{IsHeaderOf, ReportsFault, ReportsNoSize, ReportsSize, detail_of}
+use Rattle.jri_memory.specs.Calls.{IsHeaderOf, ReportsFault, ReportsNoSize, ReportsSize, detail_number}
 use Rattle.jri_memory.specs.Frames.{HasOneSize, LacksSize}
 use Rattle.jri_memory.specs.declared.frame_size.FrameSize.{FrameSize}
 use Rattle.jri_memory.specs.declared.header.Header.{Header}
@@ -36,7 +36,7 @@ header_stays bytes whole m can of_bytes = record {
 }
 
 pub refusal_stays : (bytes whole : List ℕ) (f : Refusal) (number detail : ℕ) → CanBecome bytes whole → IsFinalFault bytes f → RefusalOf bytes f
-    → number ≡ number_of f → detail ≡ detail_of f → ReportsFault whole number detail
+    → number ≡ number_of f → detail ≡ detail_number f → ReportsFault whole number detail
 refusal_stays bytes whole f number detail can final of_bytes number_is detail_is = record {
   fault = f;
   is = fault_is_final bytes whole f can final of_bytes;

@@ -1,8 +1,8 @@
 -- What the calls that decode a file in memory return.
-use Rattle.std.specs.Prelude.{◌≡◌, ◌≢◌, ℕ, ◌+◌, ◌*◌, ◌<◌, ◌≤◌, ◌⊎◌, List, [], ◌∷◌, ◌++◌, length, drop, map, None}
+use Rattle.std.specs.Prelude.{◌≡◌, ◌≢◌, ℕ, ◌+◌, ◌*◌, ◌<◌, ◌≤◌, ◌⊎◌, List, [], ◌∷◌, ◌++◌, length, drop, map, None, unwrap_or}
 use Rattle.jr_segments.specs.declared.refusal.Refusal.{Refusal}
 use Rattle.jr_segments.specs.declared.refusal.Refusal.TheVariants as refusal
-use Rattle.jr_segments.specs.Refusal.{number_of}
+use Rattle.jr_segments.specs.Refusal.{detail_of, number_of}
 use Rattle.jr_head.specs.HeadValue.{HeadValue, kind_number}
 use Rattle.jr_head.specs.Heads.{HeadOf, RefusalOf}
 use Rattle.jr_head.specs.Geometry.{components_of, horizontal_max, horizontal_of, mcus_across, mcus_down, mcus_of, vertical_max, vertical_of}
@@ -22,27 +22,9 @@ use Rattle.jri_memory.specs.declared.decode.DecodeError.TheVariants.{Refused}
 use Rattle.jri_memory.specs.declared.header.Header.{Header}
 use Rattle.jri_memory.specs.declared.report.DecodeReport.{DecodeReport}
 
--- the detail of a refusal next to its number: an offset, or a marker's code
-abbrev pub detail_of : Refusal → ℕ
-detail_of refusal.NotJpeg = 0
-detail_of refusal.EndsEarly = 0
-detail_of (refusal.ExpectedMarker at) = at
-detail_of (refusal.UnexpectedMarker code) = code
-detail_of (refusal.NotBaseline code) = code
-detail_of (refusal.BadLength code) = code
-detail_of refusal.BadQuantTable = 0
-detail_of refusal.BadCodeTable = 0
-detail_of refusal.SecondFrame = 0
-detail_of refusal.BadPrecision = 0
-detail_of refusal.BadSize = 0
-detail_of refusal.TooManyPixels = 0
-detail_of refusal.BadComponents = 0
-detail_of refusal.BadSampling = 0
-detail_of refusal.BadScanHeader = 0
-detail_of refusal.NoFrame = 0
-detail_of refusal.MissingTable = 0
-detail_of refusal.TooLong = 0
-detail_of refusal.Memory = 0
+-- the detail of a refusal next to its number; 0 if it has none
+abbrev pub detail_number : Refusal → ℕ
+detail_number fault = unwrap_or (detail_of fault) 0
 
 -- some refusal has this number
 abbrev pub IsNumberOfSome : ℕ → Type 0
@@ -53,7 +35,7 @@ pub record ReportsFault (file : List ℕ) (number detail : ℕ) : Type 0 where
   pub fault : Refusal
   pub is : RefusalOf file fault
   pub number_is : number ≡ number_of fault
-  pub detail_is : detail ≡ detail_of fault
+  pub detail_is : detail ≡ detail_number fault
 
 -- the number of bytes of the pixels of an image
 abbrev pub picture_size : HeadValue → ℕ
@@ -202,4 +184,4 @@ pub record IsRefusal (undecoded : DecodeError) (r : DecodeReport) : Type 0 where
   pub is : undecoded ≡ Refused fault
   pub other : fault ≢ refusal.Memory
   pub number_is : r.refusal ≡ number_of fault
-  pub detail_is : r.detail ≡ detail_of fault
+  pub detail_is : r.detail ≡ detail_number fault

@@ -15,7 +15,7 @@ use Rattle.jr_arrival.specs.Parts.{FilePart, part_at}
 use Rattle.jr_arrival.specs.Shown.{AreLines, LeavesRowAt}
 use Rattle.jr_arrival.specs.declared.place.RowPlace.{RowPlace}
 use Rattle.jr_arrival.specs.Places.{IsPlaceOf, lines_above, lines_between, rows_to_give, rows_with_space}
-use Rattle.jri_memory.specs.Calls.{detail_of}
+use Rattle.jri_memory.specs.Calls.{detail_number}
 use Rattle.jri_memory.specs.declared.places.PlaceError.{PlaceError}
 use Rattle.jri_memory.specs.declared.places.PlaceError.TheVariants.{Refused, NoRows, BufferTooSmall, NotInWindow}
 use Rattle.jri_memory.specs.declared.rows_report.RowsReport.{RowsReport}
@@ -54,7 +54,7 @@ pub record ReportsPartialFault (bytes : List ℕ) (all : Bool) (r : RowsReport) 
   pub fault : Refusal
   pub is : IsPartialFault bytes all fault
   pub number_is : r.refusal ≡ number_of fault
-  pub detail_is : r.detail ≡ detail_of fault
+  pub detail_is : r.detail ≡ detail_number fault
 
 -- the image with this header has a row of MCUs at the position, and some are requested
 pub record HasRowAt (h : HeadValue) (p : RowPlace) (rows : ℕ) : Type 0 where
@@ -156,4 +156,4 @@ pub record IsRefusedPlace (unmoved : PlaceError) (r : RowsReport) : Type 0 where
   pub is : unmoved ≡ Refused fault
   pub other : fault ≢ Memory
   pub number_is : r.refusal ≡ number_of fault
-  pub detail_is : r.detail ≡ detail_of fault
+  pub detail_is : r.detail ≡ detail_number fault

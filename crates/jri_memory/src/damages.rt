@@ -13,7 +13,7 @@ ghost use Rattle.jr_head.specs.Intervals.{intervals_of};
 ghost use Rattle.jr_scan.specs.Mcus.{HasDecoding};
 ghost use Rattle.jr_scan.specs.ScanValue.{ScanValue, interval_of};
 ghost use Rattle.jr_segments.specs.declared.refusal.Refusal.TheVariants as refusal;
-ghost use Rattle.jri_memory.specs.Calls.{ReportsFault, detail_of};
+ghost use Rattle.jri_memory.specs.Calls.{ReportsFault, detail_number};
 ghost use Rattle.jri_memory.specs.Damages.{AreDamages, ListsInEach, IsDamageEntry, ReportsNoDamage};
 ghost use Rattle.jri_memory.specs.FinalSegments.{HasNoMarkerFrom, IsFileOf, IsFinalSegment, end_of};
 ghost use Rattle.jri_memory.specs.Rows.{IsPartialFault, are_all};
@@ -85,7 +85,7 @@ impl DamageReport {
     fn refused(refusal: Refusal) -> DamageReport
         ensures nothing { ReportsNoDamage result }
         ensures number { result.refusal ≡ number_of refusal }
-        ensures detail { result.detail ≡ detail_of refusal }
+        ensures detail { result.detail ≡ detail_number refusal }
     {
         DamageReport {
             refusal: u32::from(refusal.number()),

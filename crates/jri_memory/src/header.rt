@@ -5,7 +5,7 @@ ghost use Rattle.jr_head.specs.HeadValue.{kind_number};
 ghost use Rattle.jr_head.specs.Geometry.{components_of, horizontal_max, horizontal_of, mcus_across, mcus_down, mcus_of, vertical_max, vertical_of};
 ghost use Rattle.jr_segments.specs.Refusal.{number_of};
 ghost use Rattle.jr_scan.specs.ScanValue.{intervals_of};
-ghost use Rattle.jri_memory.specs.Calls.{ReportsNoHeader, ReportsNoSize, detail_of, of_three, picture_size};
+ghost use Rattle.jri_memory.specs.Calls.{ReportsNoHeader, ReportsNoSize, detail_number, of_three, picture_size};
 
 use crate::frame_size::FrameSize;
 use crate::report::detail;
@@ -120,7 +120,7 @@ impl Header {
         ensures no_header { ReportsNoHeader result }
         ensures no_size { ReportsNoSize result }
         ensures number { result.refusal ≡ number_of refusal }
-        ensures detail { result.detail ≡ detail_of refusal }
+        ensures detail { result.detail ≡ detail_number refusal }
     {
         Header {
             refusal: u32::from(refusal.number()),
@@ -135,7 +135,7 @@ impl Header {
         ensures size { IfSome size (λ s. (result.width ≡ s.width) × (result.height ≡ s.height) × (result.components ≡ s.components)) }
         ensures no_size { IfNone size (ReportsNoSize result) }
         ensures number { result.refusal ≡ number_of refusal }
-        ensures detail { result.detail ≡ detail_of refusal }
+        ensures detail { result.detail ≡ detail_number refusal }
     {
         match size {
             Some(size) => Header {

@@ -3,7 +3,7 @@
 ghost use Rattle.std.specs.Prelude.{◌≡◌, ◌≤◌, ◌^◌, ◌<◌, List, length, count_by, map};
 ghost use Rattle.jr_mend.specs.declared.choice.Choice.{Choice};
 ghost use Rattle.jr_segments.specs.Refusal.{number_of};
-ghost use Rattle.jri_memory.specs.Calls.{detail_of};
+ghost use Rattle.jri_memory.specs.Calls.{detail_number};
 ghost use Rattle.jri_memory.specs.Filling.{listed_over};
 ghost use Rattle.jri_memory.specs.Mends.{ReportsMend, ReportsNoMend, choice_entry, is_damaged_choice};
 
@@ -107,7 +107,7 @@ impl MendReport {
         ensures nothing { ReportsNoMend result }
         ensures copy { result.copy ≡ copy }
         ensures number { result.refusal ≡ number_of refusal }
-        ensures detail { result.detail ≡ detail_of refusal }
+        ensures detail { result.detail ≡ detail_number refusal }
     {
         MendReport {
             copy,

@@ -2,7 +2,7 @@
 
 ghost use Rattle.std.specs.Prelude.{◌≡◌, length};
 ghost use Rattle.jr_segments.specs.Refusal.{number_of};
-ghost use Rattle.jri_memory.specs.Calls.{ReportsScanEnd, ReportsNoPicture, ReportsNoRefusal, detail_of};
+ghost use Rattle.jri_memory.specs.Calls.{ReportsScanEnd, ReportsNoPicture, ReportsNoRefusal, detail_number};
 
 use jr_cut::ScanEnd;
 use jr_picture::Counts;
@@ -36,17 +36,11 @@ pub struct DecodeReport {
     pub detail: u64,
 }
 
-/// Returns a refusal's detail.
+/// Returns a refusal's detail; 0 if it has none.
 pub fn detail(refusal: Refusal) -> u64
-    ensures { result ≡ detail_of refusal }
+    ensures { result ≡ detail_number refusal }
 {
-    match refusal {
-        Refusal::ExpectedMarker(at) => at,
-        Refusal::UnexpectedMarker(code) | Refusal::NotBaseline(code) | Refusal::BadLength(code) => {
-            u64::from(code)
-        }
-        _ => 0,
-    }
+    refusal.detail().unwrap_or(0)
 }
 
 impl DecodeReport {
@@ -73,7 +67,7 @@ impl DecodeReport {
     pub(crate) fn refused(refusal: Refusal) -> DecodeReport
         ensures no_picture { ReportsNoPicture result }
         ensures number { result.refusal ≡ number_of refusal }
-        ensures detail { result.detail ≡ detail_of refusal }
+        ensures detail { result.detail ≡ detail_number refusal }
     {
         DecodeReport {
             refusal: u32::from(refusal.number()),

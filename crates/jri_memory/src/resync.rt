@@ -3,7 +3,7 @@
 ghost use Rattle.std.specs.Prelude.{◌≡◌, ◌≢◌, ◌<◌, ◌≤◌, ℕ, List, length, IfOk, IfErr};
 ghost use Rattle.jr_cut.specs.declared.breaks.Break.{Break};
 ghost use Rattle.jr_segments.specs.Refusal.{number_of};
-ghost use Rattle.jri_memory.specs.Calls.{ReportsFault, detail_of, over};
+ghost use Rattle.jri_memory.specs.Calls.{ReportsFault, detail_number, over};
 ghost use Rattle.jri_memory.specs.Filling.{listed_over};
 ghost use Rattle.jri_memory.specs.Resyncs.{IsResyncError, IsResyncOfFile, IsTooLongFile, LacksResyncSpace, ResyncsFile, ReportsNoResync, ReportsResync};
 
@@ -71,7 +71,7 @@ impl ResyncReport {
     fn refused(refusal: Refusal) -> ResyncReport
         ensures nothing { ReportsNoResync result }
         ensures number { result.refusal ≡ number_of refusal }
-        ensures detail { result.detail ≡ detail_of refusal }
+        ensures detail { result.detail ≡ detail_number refusal }
     {
         ResyncReport {
             refusal: u32::from(refusal.number()),

@@ -3,7 +3,7 @@
 ghost use Rattle.std.specs.Prelude.{◌≡◌, ◌+◌, ◌≤◌};
 ghost use Rattle.jr_segments.specs.Refusal.{number_of};
 ghost use Rattle.jr_arrival.specs.Places.{lines_above, lines_between};
-ghost use Rattle.jri_memory.specs.Calls.{detail_of};
+ghost use Rattle.jri_memory.specs.Calls.{detail_number};
 ghost use Rattle.jri_memory.specs.Rows.{ReportsNoRows, ReportsNothing};
 
 use crate::report::detail;
@@ -45,7 +45,7 @@ impl RowsReport {
     pub(crate) fn refused(refusal: Refusal) -> RowsReport
         ensures no_rows { ReportsNoRows result }
         ensures number { result.refusal ≡ number_of refusal }
-        ensures detail { result.detail ≡ detail_of refusal }
+        ensures detail { result.detail ≡ detail_number refusal }
     {
         RowsReport {
             refusal: u32::from(refusal.number()),
