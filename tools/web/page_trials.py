@@ -46,6 +46,7 @@ input.files = transfer.files;
 input.dispatchEvent(new Event('change'));
 """
 IS_READY = "return document.documentElement.dataset.ready"
+ARRIVES = "return document.getElementById('state').textContent.startsWith('arriving')"
 IS_CHECKED = "return document.getElementById('list-cancel').hidden && !document.getElementById('list').hidden"
 ROWS = "return [...document.querySelectorAll('#rows li')].filter((it) => !it.hidden).map((it) => [it.querySelector('b').textContent, it.querySelector('span').textContent])"
 CONNECT = """
@@ -284,7 +285,7 @@ def landscape(words):
 
 
 class Shots:
-    """Screenshots of the page in Chromium."""
+    """Screenshots of the page."""
 
     def __init__(self, browser, server, directory):
         self.browser, self.server, self.directory = browser, server, directory
@@ -308,10 +309,10 @@ class Shots:
         self.browser.wait(IS_READY, seconds=SECONDS)
         self.take(name)
 
-    def arriving(self, name):
+    def arriving(self, name, file, share):
+        """The page when this share of a file has come, in percent."""
         self.server.release.clear()
-        stop = len(self.server.files["damaged landscape.jpg"]) * 11 // 20
-        self.show("damaged landscape.jpg", "return /damaged/.test(document.getElementById('state').textContent)", stop=stop)
+        self.show(file, ARRIVES, stop=len(self.server.files[file]) * share // 100)
         self.take(name)
         self.server.release.set()
 
@@ -337,14 +338,26 @@ class Shots:
 
 
 def take_shots(browser, server, directory):
-    """Takes screenshots of the page, light and dark, on a desktop and on a phone."""
+    """Takes screenshots of a sound and a damaged file that arrive slowly, and where the browser can imitate them those of a
+    phone and of a preference for dark."""
     shots = Shots(browser, server, directory)
+    for kind, file in (("sound", "landscape.jpg"), ("damaged", "damaged landscape.jpg")):
+        for share in (30, 60):
+            shots.arriving(f"{browser.name}-{kind}-{share}", file, share)
+        shots.show(file)
+        shots.take(f"{browser.name}-{kind}-100")
+    if hasattr(browser, "prefer"):
+        take_kinds(browser, shots)
+
+
+def take_kinds(browser, shots):
+    """Takes screenshots of the page, light and dark, on a desktop and on a phone."""
     for scheme in ("light", "dark"):
         browser.prefer(scheme)
         for kind, width, height in (("desktop", 1280, 1000), ("phone", 390, 844)):
             browser.resize(width, height)
             shots.empty(f"empty-{kind}-{scheme}")
-            shots.arriving(f"arriving-{kind}-{scheme}")
+            shots.arriving(f"arriving-{kind}-{scheme}", "damaged landscape.jpg", 55)
             shots.show("damaged landscape.jpg")
             shots.take(f"damaged-{kind}-{scheme}")
             shots.listed(f"list-{kind}-{scheme}")
