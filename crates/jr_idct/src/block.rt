@@ -9,10 +9,12 @@ ghost use Rattle.jr_idct.specs.Transform.{product_at, sample, samples, zigzag_pl
 use crate::first_only::flat_block;
 use crate::low::low_samples;
 use crate::matrix::dequantised;
+use crate::nonzero::{are_flat, are_low};
 use crate::pair::pair_samples;
-use crate::small::{are_flat, are_low, are_small};
+use crate::small::{are_low_small, are_small};
 use crate::wide::wide_samples;
 use jr_base::{Coefficients, Quantisers};
+use std::simd::prelude::*;
 
 /// Returns the 64 samples of a block: dequantised, put in natural order, transformed and shifted (T.81, A.3.1, A.3.3,
 /// A.3.4 and A.3.6).
@@ -49,6 +51,19 @@ fn any_block(block: &Coefficients, quantisers: &Quantisers) -> [u8; 64]
     wide_samples(&products(block.natural(), quantisers.factors()))
 }
 
+/// Returns the samples of two such blocks: by one call, for which callers save no registers, and in vectors, since callers
+/// would fill arrays with zeros before each pair.
+#[inline(never)]
+#[cold]
+fn any_blocks(a: &Coefficients, b: &Coefficients, quantisers: &Quantisers) -> (u8x64, u8x64)
+    ensures first { result.0 ≡ samples a.now quantisers.now }
+    ensures second { result.1 ≡ samples b.now quantisers.now }
+{
+    let x = any_block(a, quantisers);
+    let y = any_block(b, quantisers);
+    (Simd::from_array(x), Simd::from_array(y))
+}
+
 /// Returns the samples of two blocks with small products, at index `8 row + column`.
 #[inline(always)]
 fn small_blocks(a: &Coefficients, b: &Coefficients, quantisers: &Quantisers) -> ([u8; 64], [u8; 64])
@@ -79,7 +94,7 @@ fn low_blocks(a: &Coefficients, b: &Coefficients, quantisers: &Quantisers) -> ([
 pub fn transform_one(block: &Coefficients, quantisers: &Quantisers) -> [u8; 64]
     ensures { result ≡ samples block.now quantisers.now }
 {
-    if are_flat(block, block) {
+    if are_low(block, block) && are_flat(block, block) {
         return flat_block(block, quantisers);
     }
     if are_small(block, block, quantisers) {
@@ -104,11 +119,12 @@ pub fn transform_two(
     let low = are_low(a, b);
     if low && are_flat(a, b) {
         (flat_block(a, quantisers), flat_block(b, quantisers))
-    } else if !are_small(a, b, quantisers) {
-        (any_block(a, quantisers), any_block(b, quantisers))
-    } else if low {
+    } else if low && are_low_small(a, b, quantisers) {
         low_blocks(a, b, quantisers)
-    } else {
+    } else if !low && are_small(a, b, quantisers) {
         small_blocks(a, b, quantisers)
+    } else {
+        let (x, y) = any_blocks(a, b, quantisers);
+        (x.to_array(), y.to_array())
     }
 }

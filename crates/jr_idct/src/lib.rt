@@ -13,6 +13,7 @@ mod lanes;
 mod laws;
 mod low;
 mod matrix;
+mod nonzero;
 mod number;
 mod pair;
 mod pass;

@@ -179,14 +179,23 @@ pub(crate) fn byte_rows(t: Rows) -> Bytes
 }
 
 /// Returns the samples of two blocks side by side, two rows of each in a vector. It is not inlined: in its callers the rows
-/// would be taken apart byte by byte.
+/// would be taken apart byte by byte. In eight arguments the rows stay in registers.
 #[inline(never)]
-fn sample_rows(x: Rows) -> Bytes
-    requires { (k p : ℕ) → k < 8 → p < 16 → IsWithin MAX_PRODUCT (lane (x.0 ∷ x.1 ∷ x.2 ∷ x.3 ∷ x.4 ∷ x.5 ∷ x.6 ∷ x.7 ∷ []) k p) }
-    ensures first { (v : ℕ → ℤ) → ((j k : ℕ) → j < 8 → k < 8 → lane (x.0 ∷ x.1 ∷ x.2 ∷ x.3 ∷ x.4 ∷ x.5 ∷ x.6 ∷ x.7 ∷ []) j k ≡ v (8 * j + k)) → (r c : ℕ) → r < 8 → c < 8 → slice_index (slice_index_or (result.0 ∷ result.1 ∷ result.2 ∷ result.3 ∷ []) ((8 * r + c) / 16) []) ((8 * r + c) % 16) ≡ sample_of v r c }
-    ensures second { (v : ℕ → ℤ) → ((j k : ℕ) → j < 8 → k < 8 → lane (x.0 ∷ x.1 ∷ x.2 ∷ x.3 ∷ x.4 ∷ x.5 ∷ x.6 ∷ x.7 ∷ []) j (8 + k) ≡ v (8 * j + k)) → (r c : ℕ) → r < 8 → c < 8 → slice_index (slice_index_or (result.0 ∷ result.1 ∷ result.2 ∷ result.3 ∷ []) ((8 * r + c) / 16) []) ((8 * r + c) % 16 + 16) ≡ sample_of v r c }
+fn sample_rows(
+    x0: i16x16,
+    x1: i16x16,
+    x2: i16x16,
+    x3: i16x16,
+    x4: i16x16,
+    x5: i16x16,
+    x6: i16x16,
+    x7: i16x16,
+) -> Bytes
+    requires { (k p : ℕ) → k < 8 → p < 16 → IsWithin MAX_PRODUCT (lane (x0 ∷ x1 ∷ x2 ∷ x3 ∷ x4 ∷ x5 ∷ x6 ∷ x7 ∷ []) k p) }
+    ensures first { (v : ℕ → ℤ) → ((j k : ℕ) → j < 8 → k < 8 → lane (x0 ∷ x1 ∷ x2 ∷ x3 ∷ x4 ∷ x5 ∷ x6 ∷ x7 ∷ []) j k ≡ v (8 * j + k)) → (r c : ℕ) → r < 8 → c < 8 → slice_index (slice_index_or (result.0 ∷ result.1 ∷ result.2 ∷ result.3 ∷ []) ((8 * r + c) / 16) []) ((8 * r + c) % 16) ≡ sample_of v r c }
+    ensures second { (v : ℕ → ℤ) → ((j k : ℕ) → j < 8 → k < 8 → lane (x0 ∷ x1 ∷ x2 ∷ x3 ∷ x4 ∷ x5 ∷ x6 ∷ x7 ∷ []) j (8 + k) ≡ v (8 * j + k)) → (r c : ℕ) → r < 8 → c < 8 → slice_index (slice_index_or (result.0 ∷ result.1 ∷ result.2 ∷ result.3 ∷ []) ((8 * r + c) / 16) []) ((8 * r + c) % 16 + 16) ≡ sample_of v r c }
 {
-    let t = values(x);
+    let t = values((x0, x1, x2, x3, x4, x5, x6, x7));
     byte_rows(t)
 }
 
@@ -205,7 +214,7 @@ pub(crate) fn pair_samples(
     let products_a = small_products(a, factors);
     let products_b = small_products(b, factors);
     let x = rows_of(&products_a, &products_b);
-    let rows = sample_rows(x);
+    let rows = sample_rows(x.0, x.1, x.2, x.3, x.4, x.5, x.6, x.7);
     let first = gathered(rows.0, rows.1, rows.2, rows.3, false);
     let second = gathered(rows.0, rows.1, rows.2, rows.3, true);
     (first, second)
