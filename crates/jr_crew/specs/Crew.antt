@@ -3,7 +3,7 @@ use Rattle.std.specs.Prelude.{◌≡◌, ℕ, ◌%◌, ◌<◌, List, length, sl
 use Rattle.jr_head.specs.Geometry.{mcus_down}
 use Rattle.jr_scan.specs.FirstIntervalsValue.{FirstIntervalsValue}
 use Rattle.jr_work.specs.Guessing.{OfPart}
-use Rattle.jr_crew.specs.RowBufferValue.{PaintedValue}
+use Rattle.jr_crew.specs.RowValues.{PaintedValue}
 use Rattle.jr_rows.specs.Cursors.{AreGuessesIn}
 use Rattle.jr_rows.specs.Rows.{AreRowsOf}
 use Rattle.jr_rows.specs.declared.interval_guesses.IntervalGuesses.{IntervalGuesses}

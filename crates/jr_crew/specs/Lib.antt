@@ -1,3 +1,3 @@
 pub mod RowBuffer
-pub mod RowBufferValue
+pub mod RowValues
 pub mod Crew

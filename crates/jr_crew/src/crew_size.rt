@@ -13,11 +13,11 @@ const FREE_BYTES: u64 = 32 << 20;
 /// Size in bytes of the memory that they may use more for each byte of data.
 const BYTES_PER_DATA_BYTE: u64 = 16;
 
+/// Size in bytes of a data unit's coefficients.
+const BLOCK_BYTES: u64 = 128;
+
 /// Size in bytes of a data unit's samples.
 const SAMPLE_BYTES: u64 = 64;
-
-/// Size in bytes of a data unit's coefficients and samples in a row buffer.
-const UNIT_BYTES: u64 = 128 + SAMPLE_BYTES;
 
 /// Returns the approximate size of the data of the intervals to decode, in bytes.
 fn data_bytes(part: &FirstIntervals<'_>) -> u64 {
@@ -29,12 +29,12 @@ fn data_bytes(part: &FirstIntervals<'_>) -> u64 {
     bytes.saturating_mul(u64::from(part.limit() / counted.max(1)))
 }
 
-/// Returns the size in bytes of the memory by which one worker decodes and paints: `buffers` row buffers with coefficients, samples
-/// and lines, and samples and lines of a row that it decodes at once.
+/// Returns the size in bytes of the memory by which one worker decodes and paints: `buffers` row buffers with
+/// coefficients and lines, and samples and lines of the row that it paints.
 fn bytes_of_worker(head: &Head, buffers: u32) -> u64 {
     let units = u64::from(shape_of(head).across).saturating_mul(head.order().len() as u64);
     let lines = bytes_of_row(head) as u64;
-    let buffer = units.saturating_mul(UNIT_BYTES).saturating_add(lines);
+    let buffer = units.saturating_mul(BLOCK_BYTES).saturating_add(lines);
     buffer
         .saturating_mul(u64::from(buffers))
         .saturating_add(units.saturating_mul(SAMPLE_BYTES))

@@ -3,32 +3,29 @@
 ghost use Rattle.std.specs.Prelude.{◌≡◌, Some};
 
 use jr_base::Memory;
-use jr_paint::line_space;
 use jr_rows::SampleRow;
 use jr_scan::FirstIntervals;
 use jr_work::OneScan;
 use std::alloc::Global;
 use std::marker::{Model, PhantomData};
 
-/// Memory for the samples of a row of MCUs of the scan, and for painting its lines. Each thread has its own.
+/// Memory for the samples of a row of MCUs of the scan, and for painting its lines. Each thread has its own, for rows
+/// that it reads at once and for rows that were read before.
 #[derive(Drop)]
 pub struct PaintSpace<S: OneScan> {
-    /// For a row that is already read, and that has its samples in its row buffer.
-    pub(crate) bytes: Vec<u8>,
-    /// For a row that is read, transformed and painted at once.
     pub(crate) work: SampleRow,
     of: PhantomData<S>,
 }
 
 impl<S: OneScan> Model for PaintSpace<S> {
-    ghost use Rattle.std.specs.Prelude.{ℕ, length};
-    ghost use Rattle.jr_crew.specs.RowBuffer.{HasLineSpace, HasSamples};
+    ghost use Rattle.jr_crew.specs.RowBuffer.{HasSamples};
+    ghost use Rattle.jr_rows.specs.RowsValue.{SampleRowValue};
 
-    ghost Value = { ℕ };
+    ghost Value = { SampleRowValue };
 
-    ghost view = { λ r. length r.bytes.items };
+    ghost view = { λ r. r.work };
 
-    ghost invariant = { λ r. HasLineSpace S.part (length r.bytes.items) × HasSamples S.part r.work };
+    ghost invariant = { λ r. HasSamples S.part r.work };
 }
 
 impl<S: OneScan> PaintSpace<S> {
@@ -37,14 +34,10 @@ impl<S: OneScan> PaintSpace<S> {
         requires { S.part ≡ Some part.now }
     {
         let head = part.scan().head();
-        let Ok(bytes) = vec![in alloc; 0; line_space(head)] else {
-            return Err(Memory);
-        };
         let Ok(work) = SampleRow::open(alloc, head) else {
             return Err(Memory);
         };
         Ok(PaintSpace {
-            bytes,
             work,
             of: PhantomData,
         })

@@ -7,9 +7,9 @@ ghost use Rattle.jr_rows.specs.Cursors.{AreGuessesIn};
 ghost use Rattle.jr_rows.specs.Rows.{AreRowsOf, CountsRow, HasSampleSpace, ShowsLines, line_count};
 
 use crate::paint_space::PaintSpace;
-use crate::row::Row;
-use jr_base::Memory;
-use jr_rows::{IntervalGuesses, Marked, Rows, SampleRow, bytes_of_row, lines_of, shape_of};
+use crate::row::{open_blocks, paint_decoded, paint_read};
+use jr_base::{Coefficients, Memory};
+use jr_rows::{IntervalGuesses, Marked, Rows, SampleRow, bytes_of_row};
 use jr_scan::FirstIntervals;
 use jr_work::OneScan;
 use std::alloc::Global;
@@ -35,33 +35,29 @@ fn decode_first(
     ensures lines { ShowsLines part.now.scan part.now.limit rows.old.row (take (line_count part.now.scan.head rows.old.row * line_size part.now.scan.head) pixels.new) }
     ensures counts { CountsRow part.now.scan part.now.limit rows.old.row result }
 {
-    let head = part.scan().head();
     let row = rows.row();
-    let (_y, count) = lines_of(head, row);
-    let size = count as usize * shape_of(head).line;
     let marked = rows.decode(part, guesses, work, &mut []);
-    work.paint_row(head, row, &mut pixels[..size]);
+    paint_decoded(work, part, row, pixels);
     marked
 }
 
-/// Memory for the lines of a row of MCUs of the scan, and for its blocks and samples, if a row has been read by it.
+/// Memory for the lines of a row of MCUs of the scan, and for its blocks, if a row has been read by it.
 #[derive(Drop)]
 pub struct RowBuffer<S: OneScan> {
-    work: Option<Row>,
+    blocks: Option<Vec<Coefficients>>,
     pixels: Vec<u8>,
     of: PhantomData<S>,
 }
 
 impl<S: OneScan> Model for RowBuffer<S> {
-    ghost use Rattle.std.specs.Prelude.{IfSome};
-    ghost use Rattle.jr_crew.specs.RowBufferValue.{RowBufferValue};
-    ghost use Rattle.jr_crew.specs.RowBuffer.{HasPixelSpace, HasWork};
+    ghost use Rattle.std.specs.Prelude.{ℕ, List, IfSome};
+    ghost use Rattle.jr_crew.specs.RowBuffer.{HasBlockSpace, HasPixelSpace};
 
-    ghost Value = { RowBufferValue };
+    ghost Value = { List ℕ };
 
-    ghost view = { λ b. record { work = b.work; pixels = b.pixels.items } };
+    ghost view = { λ b. b.pixels.items };
 
-    ghost invariant = { λ b. IfSome b.work (HasWork S.part) × HasPixelSpace S.part b.pixels.items };
+    ghost invariant = { λ b. IfSome b.blocks (λ v. HasBlockSpace S.part v.items) × HasPixelSpace S.part b.pixels.items };
 }
 
 impl<S: OneScan> RowBuffer<S> {
@@ -73,15 +69,15 @@ impl<S: OneScan> RowBuffer<S> {
             return Err(Memory);
         };
         Ok(RowBuffer {
-            work: None,
+            blocks: None,
             pixels,
             of: PhantomData,
         })
     }
 
-    /// Returns whether it has memory for a row's blocks and samples.
-    pub fn has_work(&self) -> bool {
-        self.work.is_some()
+    /// Returns whether it has memory for a row's blocks.
+    pub fn has_blocks(&self) -> bool {
+        self.blocks.is_some()
     }
 
     /// Decodes the next row of the scan, some MCUs at a time, and paints it.
@@ -105,7 +101,7 @@ impl<S: OneScan> RowBuffer<S> {
         Painted {
             row,
             marked,
-            work: self.work,
+            blocks: self.blocks,
             pixels,
             of: PhantomData,
         }
@@ -131,20 +127,20 @@ impl<S: OneScan> RowBuffer<S> {
     {
         let pixels = self.pixels;
         let of = PhantomData;
-        let Ok(mut work) = Row::open(alloc, part.scan().head(), self.work) else {
+        let Ok(mut blocks) = open_blocks(alloc, part.scan().head(), self.blocks) else {
             let buffer = RowBuffer {
-                work: None,
+                blocks: None,
                 pixels,
                 of,
             };
             return Err(buffer.decode(part, rows, guesses, space));
         };
         let row = rows.row();
-        let marked = rows.read(part, guesses, &mut work.blocks);
+        let marked = rows.read(part, guesses, &mut blocks);
         Ok(CodedRow {
             row,
             marked,
-            work,
+            blocks,
             pixels,
             of,
         })
@@ -156,21 +152,21 @@ impl<S: OneScan> RowBuffer<S> {
 pub struct CodedRow<S: OneScan> {
     row: u32,
     marked: Marked,
-    work: Row,
+    blocks: Vec<Coefficients>,
     /// The space for its lines.
     pixels: Vec<u8>,
     of: PhantomData<S>,
 }
 
 impl<S: OneScan> Model for CodedRow<S> {
-    ghost use Rattle.jr_crew.specs.RowBufferValue.{CodedRowValue};
-    ghost use Rattle.jr_crew.specs.RowBuffer.{HasPixelSpace, HasWork, IsRead};
+    ghost use Rattle.jr_crew.specs.RowValues.{CodedRowValue};
+    ghost use Rattle.jr_crew.specs.RowBuffer.{HasBlockSpace, HasPixelSpace, IsRead};
 
     ghost Value = { CodedRowValue };
 
-    ghost view = { λ c. record { row = c.row; marked = c.marked; work = c.work } };
+    ghost view = { λ c. record { row = c.row; marked = c.marked; blocks = c.blocks.items } };
 
-    ghost invariant = { λ c. HasWork S.part c.work × HasPixelSpace S.part c.pixels.items × IsRead S.part (record { row = c.row; marked = c.marked; work = c.work }) };
+    ghost invariant = { λ c. HasBlockSpace S.part c.blocks.items × HasPixelSpace S.part c.pixels.items × IsRead S.part (record { row = c.row; marked = c.marked; blocks = c.blocks.items }) };
 }
 
 impl<S: OneScan> CodedRow<S> {
@@ -179,12 +175,12 @@ impl<S: OneScan> CodedRow<S> {
         requires { S.part ≡ Some part.now }
         ensures { result.row ≡ self.row }
     {
-        let (mut work, mut pixels) = (self.work, self.pixels);
-        work.paint(part, self.row, &mut space.bytes, &mut pixels);
+        let (blocks, mut pixels) = (self.blocks, self.pixels);
+        paint_read(&mut space.work, part, self.row, &blocks, &mut pixels);
         Painted {
             row: self.row,
             marked: self.marked,
-            work: Some(work),
+            blocks: Some(blocks),
             pixels,
             of: PhantomData,
         }
@@ -196,7 +192,7 @@ impl<S: OneScan> CodedRow<S> {
 pub struct Painted<S: OneScan> {
     row: u32,
     marked: Marked,
-    work: Option<Row>,
+    blocks: Option<Vec<Coefficients>>,
     /// The lines, and the space that they leave.
     pixels: Vec<u8>,
     of: PhantomData<S>,
@@ -204,14 +200,14 @@ pub struct Painted<S: OneScan> {
 
 impl<S: OneScan> Model for Painted<S> {
     ghost use Rattle.std.specs.Prelude.{IfSome};
-    ghost use Rattle.jr_crew.specs.RowBufferValue.{PaintedValue};
-    ghost use Rattle.jr_crew.specs.RowBuffer.{HasPixelSpace, HasWork, IsPainted};
+    ghost use Rattle.jr_crew.specs.RowValues.{PaintedValue};
+    ghost use Rattle.jr_crew.specs.RowBuffer.{HasBlockSpace, HasPixelSpace, IsPainted};
 
     ghost Value = { PaintedValue };
 
     ghost view = { λ p. record { row = p.row; marked = p.marked; pixels = p.pixels.items } };
 
-    ghost invariant = { λ p. IfSome p.work (HasWork S.part) × HasPixelSpace S.part p.pixels.items × IsPainted S.part (record { row = p.row; marked = p.marked; pixels = p.pixels.items }) };
+    ghost invariant = { λ p. IfSome p.blocks (λ v. HasBlockSpace S.part v.items) × HasPixelSpace S.part p.pixels.items × IsPainted S.part (record { row = p.row; marked = p.marked; pixels = p.pixels.items }) };
 }
 
 impl<S: OneScan> Painted<S> {
@@ -234,7 +230,7 @@ impl<S: OneScan> Painted<S> {
     /// Returns the row buffer, to be used again.
     fn into_buffer(self) -> RowBuffer<S> {
         RowBuffer {
-            work: self.work,
+            blocks: self.blocks,
             pixels: self.pixels,
             of: PhantomData,
         }
@@ -266,7 +262,7 @@ impl<S: OneScan> Painted<S> {
         let mut lines = self.pixels;
         mem::swap(&mut lines, pixels);
         let buffer = RowBuffer {
-            work: self.work,
+            blocks: self.blocks,
             pixels: lines,
             of: PhantomData,
         };

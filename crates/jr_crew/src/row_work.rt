@@ -110,7 +110,7 @@ impl<S: OneScan> RowWork<S> {
 
     /// Keeps a row buffer, to be used again. It fits, since it came from here.
     pub(crate) fn give_back(&mut self, buffer: RowBuffer<S>) {
-        let kept = if buffer.has_work() {
+        let kept = if buffer.has_blocks() {
             self.free.push_back(buffer)
         } else {
             self.free.push_front(buffer)

@@ -165,9 +165,9 @@ fn write_as<R: Threads + Wait + Sync, W: Write, G: Gate + Sync, S: OneScan + Sen
 /// the lines of three rows of MCUs, and to decode and paint. Each other thread allocates as much as it starts; if that
 /// fails, it works with less or not at all. If speculative reads are made, a thread that has nothing else to do brings
 /// a buffer for one, three for each thread at most: the blocks of a row and a quarter of MCUs, or of 512 MCUs if a row
-/// may have fewer bits than a speculative read. A row that waits to be painted uses memory for its blocks and samples,
-/// which stays with its row buffer; if allocation fails, the row is painted before the next one is read. Once the last row
-/// has begun, threads that have nothing else to do free what no thread needs any more, and end.
+/// may have fewer bits than a speculative read. A row that waits to be painted uses memory for its blocks, which stays
+/// with its row buffer; if allocation fails, the row is painted before the next one is read. Once the last row has
+/// begun, threads that have nothing else to do free what no thread needs any more, and end.
 ///
 /// If a row has whole intervals, each worker decodes and paints its rows by itself. Otherwise one at a time has the
 /// reader. With three workers and more, if an interval has some 128 KB of data, the others read ahead speculatively. A

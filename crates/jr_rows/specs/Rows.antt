@@ -13,7 +13,7 @@ use Rattle.jr_rows.specs.Bands.{ShowsMcus, unit_shown}
 use Rattle.jr_rows.specs.Groups.{units_in}
 use Rattle.jr_rows.specs.RowLines.{HasLines, mcus_at_once}
 use Rattle.jr_rows.specs.Cursors.{IsCursorOf, mcus_to}
-use Rattle.jr_rows.specs.RowsValue.{RowValue, SampleRowValue}
+use Rattle.jr_rows.specs.RowsValue.{SampleRowValue}
 use Rattle.jr_rows.specs.declared.marked.Marked.{Marked}
 use Rattle.jr_rows.specs.declared.rows.Rows.{Rows}
 
@@ -85,11 +85,6 @@ CountsRow scan n row m = CountsMcus scan n (coded_before scan.head n row) (coded
 -- the marks of the intervals that end in all rows
 abbrev pub CountsRows : ScanValue → (n : ℕ) → Marked → Type 0
 CountsRows scan n m = CountsMcus scan n (coded_before scan.head n 0) (coded_before scan.head n (mcus_down scan.head)) m
-
--- the blocks and the samples of a row of MCUs fit
-pub record HasRowSpace (h : HeadValue) (r : RowValue) : Type 0 where
-  pub blocks : length r.blocks ≡ mcus_across h * blocks_of h
-  pub lines : HasLines h r.lines
 
 -- the samples of a row of MCUs, the blocks of those that are read at once, and the scratch space for painting fit
 pub record HasSampleSpace (h : HeadValue) (r : SampleRowValue) : Type 0 where

@@ -9,12 +9,7 @@ pub record RowsValue : Type 0 where
   pub limit : ℕ
   pub row : ℕ
 
--- the blocks and the samples of a row of MCUs, or of no one yet
-pub record RowValue : Type 0 where
-  pub blocks : List (List ℤ)
-  pub lines : RowLinesValue
-
--- the same of a row that one thread decodes and paints by itself, and the size of its scratch space for painting in bytes
+-- the blocks of a few MCUs, the samples of a row of MCUs, or of no one yet, and the size of the scratch space for painting in bytes
 pub record SampleRowValue : Type 0 where
   pub blocks : List (List ℤ)
   pub lines : RowLinesValue

@@ -26,8 +26,6 @@ pub use lines::paint_scan_lines;
 pub use mark_bytes::write_mark;
 pub use marked::Marked;
 pub use painter::RowPainter;
-pub use painting::paint_row;
-pub use row_lines::RowLines;
 pub use rows::Rows;
 pub use sample_row::SampleRow;
 pub use shape::{

@@ -13,7 +13,13 @@ use jr_head::Head;
 use jr_paint::paint_lines;
 
 /// Paints the lines of a row of MCUs with these samples; `space` is scratch space for those that are repeated first.
-pub fn paint_row(head: &Head, samples: &RowLines, row: u32, space: &mut [u8], pixels: &mut [u8])
+pub(crate) fn paint_row(
+    head: &Head,
+    samples: &RowLines,
+    row: u32,
+    space: &mut [u8],
+    pixels: &mut [u8],
+)
     requires lines { line_space head.now ≤ length space.old }
     requires row { row < mcus_down head.now }
     requires space { HasLines head.now samples.now }

@@ -1,24 +1,25 @@
-//! A row of MCUs that one thread decodes and paints by itself.
+//! A row of MCUs that one thread decodes or transforms, and paints.
 
 ghost use Rattle.std.specs.Prelude.{◌≡◌, ◌+◌, ◌*◌, ◌<◌, ◌≤◌, ℕ, [], length, slice_index_or, IfOk};
 ghost use Rattle.jr_head.specs.Geometry.{blocks_of, mcus_across, mcus_down};
 ghost use Rattle.jr_paint.specs.Lines.{line_size, next_lines_of};
 ghost use Rattle.jr_scan.specs.McuReader.{HasEnded};
 ghost use Rattle.jr_piece.specs.Units.{grey_unit};
-ghost use Rattle.jr_rows.specs.Bands.{samples_in};
+ghost use Rattle.jr_picture.specs.DecodedScan.{DecodedScan};
+ghost use Rattle.jr_rows.specs.Bands.{ShowsMcus, samples_in};
 ghost use Rattle.jr_rows.specs.Groups.{units_in};
-ghost use Rattle.jr_rows.specs.Rows.{HasSampleSpace, PaintsRowLines, line_count};
+ghost use Rattle.jr_rows.specs.Rows.{AreRead, DecodesFirst, HasSampleSpace, PaintsRowLines, line_count};
 ghost use Rattle.jr_rows.specs.WholeMcus.{DecodesMcus};
 
 use crate::band::Band;
 use crate::painting::paint_row;
 use crate::row_lines::RowLines;
-use crate::shape::mcus_at_once;
+use crate::shape::{coded_of_row, mcus_at_once};
 use crate::whole_mcus::{decode_whole, write_grey};
 use jr_base::{Coefficients, Memory};
 use jr_head::Head;
 use jr_paint::{line_space, paint_lines};
-use jr_scan::McuReader;
+use jr_scan::{McuReader, Scan};
 use std::alloc::Global;
 use std::marker::Model;
 
@@ -87,6 +88,22 @@ impl SampleRow {
         ensures grey { (k : ℕ) → k < result * blocks_of head.now → slice_index_or (units_in head.now self.new.lines.groups) (done * blocks_of head.now + k) [] ≡ grey_unit }
     {
         write_grey(head, done, mcus, &mut self.blocks, &mut self.lines)
+    }
+
+    /// Transforms the decoded MCUs of a row whose blocks are read; the others are blank.
+    pub fn transform(&mut self, scan: &Scan, limit: u32, row: u32, blocks: &[Coefficients])
+        requires row { row < mcus_down scan.now.head }
+        requires space { HasSampleSpace scan.now.head self.old }
+        requires long { length blocks.now ≡ mcus_across scan.now.head * blocks_of scan.now.head }
+        requires read { AreRead scan.now limit row blocks.now }
+        ensures space { HasSampleSpace scan.now.head self.new }
+        ensures units { (b : DecodedScan) → DecodesFirst scan.now limit b → ShowsMcus b (row * mcus_across scan.now.head) (units_in scan.now.head self.new.lines.groups) }
+    {
+        let head = scan.head();
+        // By its contract an MCU has a data unit.
+        let _some = head.order().len();
+        let coded = coded_of_row(scan, limit, row);
+        self.lines.decode(head, coded, blocks);
     }
 
     /// Paints lines of the image of which each row of MCUs has the samples of the row that is decoded.

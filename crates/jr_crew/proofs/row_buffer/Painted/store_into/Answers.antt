@@ -7,7 +7,7 @@ use Rattle.jr_scan.specs.FirstIntervalsValue.{FirstIntervalsValue}
 use Rattle.jr_paint.specs.Lines.{line_size}
 use Rattle.jr_rows.specs.Rows.{line_count}
 use Rattle.jr_crew.specs.RowBuffer.{HasPixelSpace, IsPainted}
-use Rattle.jr_crew.specs.RowBufferValue.{PaintedValue}
+use Rattle.jr_crew.specs.RowValues.{PaintedValue}
 use Rattle.jr_rows.proofs.Lent.{all_back, part_back}
 use Rattle.jr_crew.proofs.row_buffer.Painted.store_into.Goals as goal
 

@@ -1,7 +1,7 @@
 use Rattle.std.proofs.Common.{rules, arith, sym, subst, ap, eqb, ◌≡◌, ◌<◌, ◌%◌, ◌∙◌, ℕ, List, Option, Some, length, get_or}
 use Rattle.std.specs.Prelude.{IsTrue}
 use Rattle.std.proofs.lemmas.Option.{slice_get-get_or}
-use Rattle.jr_crew.specs.RowBufferValue.{PaintedValue}
+use Rattle.jr_crew.specs.RowValues.{PaintedValue}
 use Rattle.jr_crew.specs.Crew.{HasRow, HoldsRow}
 use Rattle.jr_crew.proofs.row_work.RowWork.has.Goals as goal
 

@@ -1,7 +1,7 @@
 use Rattle.std.proofs.Common.{rules, refl, sym, subst, ap, ◌∙◌, ◌≡◌, ◌%◌, ℕ, Option, Some, None, length, slice_get}
 use Rattle.std.specs.Option.{IsSome}
 use Rattle.std.proofs.lemmas.Option.{get_or_from_slice_get, same_Some}
-use Rattle.jr_crew.specs.RowBufferValue.{PaintedValue}
+use Rattle.jr_crew.specs.RowValues.{PaintedValue}
 use Rattle.jr_crew.specs.Crew.{HoldsRow}
 use Rattle.jr_crew.proofs.row_work.RowWork.take.Goals as goal
 
