@@ -13,7 +13,7 @@ use jr_base::Memory;
 use jr_picture::Gate;
 use jr_rows::{intervals_of_row, space_for};
 use jr_scan::FirstIntervals;
-use jr_work::tuning::ROW_BUFFERS_OF_WORKER;
+use jr_work::tuning::{ROW_BUFFERS_OF_WORKER, TASKS_BEFORE_ROW_BUFFER};
 use jr_work::{OneScan, SharedWork, Task, WorkQueue};
 use std::alloc::Global;
 use std::marker::Model;
@@ -198,16 +198,19 @@ impl<'a, S: OneScan> Crew<'a, S> {
         }
     }
 
-    /// Performs one task if one is ready.
+    /// Performs tasks while one is ready, at most `TASKS_BEFORE_ROW_BUFFER`.
     fn do_ready<R: Wait, G: Gate>(&self, rt: &R, gate: &G, space: &mut PaintSpace<S>) {
-        let task = self.shared.queue.lock(rt).task(&self.part);
-        if let Some(task) = task {
+        for _ in 0..TASKS_BEFORE_ROW_BUFFER {
+            let task = self.shared.queue.lock(rt).task(&self.part);
+            let Some(task) = task else {
+                return;
+            };
             self.run(rt, gate, task, space);
         }
     }
 
     /// Allocates what a helping thread works with, and row buffers if some are lacking. Before each
-    /// row buffer it performs two tasks, so that speculative reads begin early.
+    /// row buffer it performs tasks that are ready, so that speculative reads begin early.
     pub(crate) fn prepare<R: Wait, G: Gate>(
         &self,
         rt: &R,
@@ -217,7 +220,6 @@ impl<'a, S: OneScan> Crew<'a, S> {
             return Err(Memory);
         };
         for _ in 0..ROW_BUFFERS_OF_WORKER {
-            self.do_ready(rt, gate, &mut space);
             self.do_ready(rt, gate, &mut space);
             let is_lacking = self.shared.queue.lock(rt).work.lacks_buffer();
             if is_lacking && let Ok(buffer) = RowBuffer::open(self.alloc, &self.part) {

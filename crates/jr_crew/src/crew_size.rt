@@ -5,13 +5,7 @@ ghost use Rattle.std.specs.Prelude.{◌≤◌};
 use jr_head::Head;
 use jr_rows::{bytes_of_row, shape_of};
 use jr_scan::FirstIntervals;
-use jr_work::tuning::MAX_COUNTED;
-
-/// Size in bytes of the memory that workers may use for rows, however few data a scan has.
-const FREE_BYTES: u64 = 32 << 20;
-
-/// Size in bytes of the memory that they may use more for each byte of data.
-const BYTES_PER_DATA_BYTE: u64 = 16;
+use jr_work::tuning::{BYTES_PER_DATA_BYTE, FREE_BYTES, MAX_COUNTED};
 
 /// Size in bytes of a data unit's coefficients.
 const BLOCK_BYTES: u64 = 128;

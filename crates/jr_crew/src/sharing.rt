@@ -17,7 +17,7 @@ use jr_rows::{counts_of, intervals_of_row, shape_of, write_scan};
 use jr_scan::{FirstIntervals, Scan};
 use jr_work::tuning::{
     MAX_COUNTED, MIN_MCUS_OF_BUFFER, MIN_READERS, MIN_READS, READS_OF_ROW_WORKER,
-    ROW_BUFFERS_OF_WORKER,
+    ROW_BUFFERS_OF_WORKER, SPARE_PART_OF_BUFFER,
 };
 use jr_work::{BufferSize, GuessQueue, OneScan, WorkQueue, run_beside, windows_of};
 use std::alloc::Global;
@@ -66,7 +66,7 @@ fn mcus_of_guess(scan: &Scan) -> u32 {
     let _some = scan.intervals();
     let across = shape_of(scan.head()).across;
     let rows = scan.interval_ref(0).mcus() / across.max(1);
-    let most = across + across / 4;
+    let most = across + across / SPARE_PART_OF_BUFFER;
     if u64::from(rows) <= windows_of(scan, 0) {
         most
     } else {
@@ -158,21 +158,23 @@ fn write_as<R: Threads + Wait + Sync, W: Write, G: Gate + Sync, S: OneScan + Sen
 
 /// Decodes the first intervals of a scan, or all, with `workers` workers (1 to 64), and writes its image, a row of MCUs
 /// after the other. The calling thread is one of them, and writes. No more threads work than there are rows, and than
-/// 32 MB and 16 bytes for each byte of data suffice for. Each interval that is decoded is reported to the gate; no
-/// piece is made.
+/// `FREE_BYTES` and `BYTES_PER_DATA_BYTE` for each byte of data suffice for. Each interval that is decoded is reported to
+/// the gate; no piece is made.
 ///
 /// The calling thread allocates all memory that it needs before the first row is decoded, and none for the image: for
-/// the lines of three rows of MCUs, and to decode and paint. Each other thread allocates as much as it starts; if that
-/// fails, it works with less or not at all. If speculative reads are made, a thread that has nothing else to do brings
-/// a buffer for one, three for each thread at most: the blocks of a row and a quarter of MCUs, or of 512 MCUs if a row
-/// may have fewer bits than a speculative read. A row that waits to be painted uses memory for its blocks, which stays
-/// with its row buffer; if allocation fails, the row is painted before the next one is read. Once the last row has
-/// begun, threads that have nothing else to do free what no thread needs any more, and end.
+/// the lines of a row of MCUs and of `ROW_BUFFERS_OF_WORKER` more, and to decode and paint. Each other thread allocates
+/// as much as it starts; if that fails, it works with less or not at all. If speculative reads are made, a thread that
+/// has nothing else to do brings a buffer for one, `READS_OF_ROW_WORKER` for each thread at most: the blocks of a row's
+/// MCUs and of `SPARE_PART_OF_BUFFER`, or of `MIN_MCUS_OF_BUFFER` if a row may have fewer bits than a speculative read. A
+/// row that waits to be painted uses memory for its blocks, which stays with its row buffer; if allocation fails, the
+/// row is painted before the next one is read. Once the last row has begun, threads that have nothing else to do free
+/// what no thread needs any more, and end.
 ///
 /// If a row has whole intervals, each worker decodes and paints its rows by itself. Otherwise one at a time has the
-/// reader. With three workers and more, if an interval has some 128 KB of data, the others read ahead speculatively. A
-/// row that these reads cover is skipped; with a copy of the reader at its start the row waits for a free thread, and
-/// is decoded and painted some MCUs at a time. A row that none covers is read in turn, and painted by a free thread.
+/// reader. With `MIN_READERS` workers and more, if an interval has bits for `MIN_READS` speculative reads, the others
+/// read ahead speculatively. A row that these reads cover is skipped; with a copy of the reader at its start the row
+/// waits for a free thread, and is decoded and painted some MCUs at a time. A row that none covers is read in turn, and
+/// painted by a free thread.
 pub fn write_scan_by<R: Threads + Wait + Sync, W: Write, G: Gate + Sync>(
     rt: &R,
     alloc: Global,

@@ -9,7 +9,7 @@ use crate::guess_slot::GuessSlot;
 use crate::guess_task::GuessTask;
 use crate::one_scan::OneScan;
 use crate::scan_guess::{BufferSize, ScanGuess};
-use crate::tuning::MIN_BITS_OF_READ;
+use crate::tuning::{MIN_BITS_OF_READ, SPARE_PART_OF_STEP};
 use crate::window::{Window, bits_of};
 use jr_base::Memory;
 use jr_scan::{FirstIntervals, Guesses, Scan};
@@ -188,7 +188,7 @@ impl<S: OneScan> GuessQueue<S> {
     }
 
     /// Returns the bits of the next speculative read: after all other reads and the reader's next step, as long as the
-    /// last step, and up to half as long again if the interval ends there.
+    /// last step, and longer by up to `SPARE_PART_OF_STEP` if the interval ends there.
     fn next_window(&self, part: &FirstIntervals<'_>) -> Option<Window> {
         let (number, bit) = self
             .next
@@ -203,7 +203,7 @@ impl<S: OneScan> GuessQueue<S> {
         }
         let all = bits_of(part.scan(), number);
         let to = from.saturating_add(self.step_bits);
-        let is_last = to.saturating_add(self.step_bits / 2) >= all;
+        let is_last = to.saturating_add(self.step_bits / SPARE_PART_OF_STEP) >= all;
         Some(Window {
             number,
             from,
@@ -247,14 +247,17 @@ impl<S: OneScan> GuessQueue<S> {
         }
     }
 
-    /// Returns the speculative reads for the next step of a reader in interval `number`, if it is not much longer than
-    /// the last one; none if the reader is not there.
+    /// Returns the speculative reads for the next step of a reader in interval `number`, if it is longer than the last one
+    /// by at most `SPARE_PART_OF_STEP`; none if the reader is not there.
     pub fn for_next(&self, part: &FirstIntervals<'_>, number: u32) -> Guesses
         requires { S.part ≡ Some part.now }
         ensures { AreGuessesOf (interval_of part.now.scan number) result }
     {
         let (at, bit) = self.at;
-        let to = bit.saturating_add(self.step_bits.saturating_add(self.step_bits / 2));
+        let to = bit.saturating_add(
+            self.step_bits
+                .saturating_add(self.step_bits / SPARE_PART_OF_STEP),
+        );
         let mut guesses = Guesses::none();
         if at != number {
             return guesses;

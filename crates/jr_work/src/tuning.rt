@@ -35,12 +35,32 @@ pub const STEPS_OF_BUFFER: u32 = 2;
 /// Minimum number of MCUs of a buffer, if a row of MCUs has fewer bits than a speculative read.
 pub const MIN_MCUS_OF_BUFFER: u32 = 512;
 
+/// Part of a row's MCUs, one in this number, that a buffer has space for in addition: a speculative read has about the
+/// bits of a row, and more MCUs than one if these are short.
+pub const SPARE_PART_OF_BUFFER: u32 = 4;
+
+/// Part of the last step's bits, one in this number, by which the next step may be longer and still use all speculative
+/// reads of it, and by which the last read of an interval may be longer, so that no short one follows it.
+pub const SPARE_PART_OF_STEP: u64 = 2;
+
 /// Number of data units, some 20 KB of a photo, after which a check asks for speculative reads again.
 pub const UNITS_OF_CHECK_STEP: u32 = 1536;
 
 /// Number of row buffers for each worker, if there are as many rows: one that it works at, and one that waits to be
 /// painted or written.
 pub const ROW_BUFFERS_OF_WORKER: u32 = 2;
+
+/// Maximum number of tasks that a thread performs before it allocates each of its row buffers: speculative reads begin
+/// early, and the reader skips rows by them.
+pub const TASKS_BEFORE_ROW_BUFFER: u32 = 2;
+
+/// Size in bytes of the memory that workers may use for rows, however few data a scan has: that of 16 workers for an
+/// image of 4:2:0 some 7,900 pixels wide.
+pub const FREE_BYTES: u64 = 32 << 20;
+
+/// Size in bytes of the memory that workers may use for rows in addition, for each byte of data: a header may claim more
+/// pixels than the data can code.
+pub const BYTES_PER_DATA_BYTE: u64 = 16;
 
 /// Minimum number of strips of a long interval, up to rounding.
 pub const MIN_STRIPS: u32 = 64;
