@@ -126,12 +126,11 @@ impl<'a, S: OneScan> Crew<'a, S> {
         }
     }
 
-    /// Keeps a painted row.
+    /// Keeps a painted row, and wakes the calling thread if it is the one that is written next.
     fn store_painted<R: Wait>(&self, rt: &R, painted: Painted<S>) {
         let mut queue = self.shared.queue.lock(rt);
-        let is_next = queue.work.store_painted(painted);
-        if is_next && queue.is_awaited {
-            self.shared.for_caller.notify_one();
+        if queue.work.store_painted(painted) {
+            self.shared.wake_caller(&queue);
         }
     }
 

@@ -1,4 +1,4 @@
-//! Work on a scan that threads share under a lock.
+//! Work on a scan that threads share under a lock, and the wake-ups of the threads that wait for it.
 
 ghost use Rattle.std.specs.Prelude.{◌≡◌, Some};
 
@@ -32,6 +32,13 @@ impl<S: OneScan, W: Work<S>> SharedWork<S, W> {
         }
     }
 
+    /// Wakes the calling thread, if it waits.
+    pub fn wake_caller(&self, queue: &WorkQueue<S, W>) {
+        if queue.is_awaited {
+            self.for_caller.notify_one();
+        }
+    }
+
     /// Wakes a thread that waits for a task, if there is one: the calling thread only if no other waits. All, if no
     /// step is left to begin.
     pub fn wake<R: Wait>(&self, rt: &R, part: &FirstIntervals<'_>) {
@@ -41,9 +48,7 @@ impl<S: OneScan, W: Work<S>> SharedWork<S, W> {
             return;
         }
         if queue.waiting == 0 {
-            if queue.is_awaited {
-                self.for_caller.notify_one();
-            }
+            self.wake_caller(&queue);
         } else if queue.is_over() {
             self.has_task.notify_all();
         } else {
