@@ -2,7 +2,7 @@
 
 /// The kind of task that a thread can do next.
 #[derive(Clone, Copy, PartialEq, Eq)]
-pub(crate) enum Choice {
+pub(crate) enum NextTask {
     /// Reads the next step.
     Read,
     /// Skips the next step, which speculative reads cover.

@@ -10,7 +10,7 @@ use crate::guess_task::GuessTask;
 use crate::one_scan::OneScan;
 use crate::scan_guess::{BufferSize, ScanGuess};
 use crate::tuning::{MIN_BITS_OF_READ, SPARE_PART_OF_STEP};
-use crate::window::{Window, bits_of};
+use crate::window::{BitWindow, bits_of};
 use jr_base::Memory;
 use jr_scan::{FirstIntervals, Guesses, Scan};
 use std::alloc::Global;
@@ -189,7 +189,7 @@ impl<S: OneScan> GuessQueue<S> {
 
     /// Returns the bits of the next speculative read: after all other reads and the reader's next step, as long as the
     /// last step, and longer by up to `SPARE_PART_OF_STEP` if the interval ends there.
-    fn next_window(&self, part: &FirstIntervals<'_>) -> Option<Window> {
+    fn next_window(&self, part: &FirstIntervals<'_>) -> Option<BitWindow> {
         let (number, bit) = self
             .next
             .max((self.at.0, self.at.1.saturating_add(self.step_bits)));
@@ -204,7 +204,7 @@ impl<S: OneScan> GuessQueue<S> {
         let all = bits_of(part.scan(), number);
         let to = from.saturating_add(self.step_bits);
         let is_last = to.saturating_add(self.step_bits / SPARE_PART_OF_STEP) >= all;
-        Some(Window {
+        Some(BitWindow {
             number,
             from,
             to: if is_last { all } else { to },

@@ -5,14 +5,14 @@ ghost use Rattle.jr_work.specs.Guessing.{AreGuesses};
 
 use crate::one_scan::OneScan;
 use crate::scan_guess::ScanGuess;
-use crate::window::Window;
+use crate::window::BitWindow;
 use jr_scan::Guesses;
 use std::mem::replace;
 
 /// The buffer of a speculative read, and the bits that it covers.
 #[derive(Drop)]
 pub struct GuessSlot<S: OneScan> {
-    window: Window,
+    window: BitWindow,
     /// None while a thread makes it.
     guess: Option<ScanGuess<S>>,
 }
@@ -21,7 +21,7 @@ impl<S: OneScan> GuessSlot<S> {
     /// Returns a slot with this buffer.
     pub(crate) fn of(guess: ScanGuess<S>) -> GuessSlot<S> {
         GuessSlot {
-            window: Window::none(),
+            window: BitWindow::none(),
             guess: Some(guess),
         }
     }
@@ -60,7 +60,7 @@ impl<S: OneScan> GuessSlot<S> {
     }
 
     /// Takes the buffer for a speculative read of these bits.
-    pub(crate) fn take(&mut self, window: Window) -> Option<ScanGuess<S>> {
+    pub(crate) fn take(&mut self, window: BitWindow) -> Option<ScanGuess<S>> {
         self.window = window;
         self.guess.take()
     }

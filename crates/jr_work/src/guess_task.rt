@@ -4,14 +4,14 @@ ghost use Rattle.std.specs.Prelude.{◌≡◌, Some};
 
 use crate::one_scan::OneScan;
 use crate::scan_guess::ScanGuess;
-use crate::window::Window;
+use crate::window::BitWindow;
 use jr_scan::FirstIntervals;
 
 /// The buffer of a speculative read that a thread makes outside of the lock, its bits, and its index in the queue.
 #[derive(Drop)]
 pub struct GuessTask<S: OneScan> {
     pub(crate) place: usize,
-    pub(crate) window: Window,
+    pub(crate) window: BitWindow,
     pub(crate) guess: ScanGuess<S>,
 }
 

@@ -4,7 +4,7 @@ ghost use Rattle.std.specs.Prelude.{◌≡◌, Some};
 ghost use Rattle.jr_work.specs.Guessing.{AreGuesses};
 
 use crate::one_scan::OneScan;
-use crate::window::Window;
+use crate::window::BitWindow;
 use jr_base::Memory;
 use jr_scan::{FirstIntervals, Guess, Guesses};
 use std::alloc::Global;
@@ -85,7 +85,7 @@ impl<S: OneScan> ScanGuess<S> {
     }
 
     /// Makes the speculative read of these bits.
-    pub(crate) fn read(self, part: &FirstIntervals<'_>, window: Window) -> ScanGuess<S>
+    pub(crate) fn read(self, part: &FirstIntervals<'_>, window: BitWindow) -> ScanGuess<S>
         requires { S.part ≡ Some part.now }
     {
         let scan = part.scan();

@@ -6,17 +6,17 @@ use jr_scan::Scan;
 
 /// Some bits of an interval's data.
 #[derive(Clone, Copy)]
-pub(crate) struct Window {
+pub(crate) struct BitWindow {
     /// The interval's number.
     pub(crate) number: u32,
     pub(crate) from: u64,
     pub(crate) to: u64,
 }
 
-impl Window {
+impl BitWindow {
     /// Returns a window of no bits.
-    pub(crate) fn none() -> Window {
-        Window {
+    pub(crate) fn none() -> BitWindow {
+        BitWindow {
             number: 0,
             from: 0,
             to: 0,

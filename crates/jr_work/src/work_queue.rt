@@ -3,7 +3,7 @@
 ghost use Rattle.std.specs.Prelude.{◌≡◌, Some, false, true};
 ghost use Rattle.std.specs.VecDeque.{deque_len};
 
-use crate::choice::Choice;
+use crate::choice::NextTask;
 use crate::guess_queue::GuessQueue;
 use crate::one_scan::OneScan;
 use crate::task::{Assist, Task};
@@ -54,26 +54,26 @@ impl<S: OneScan, W: Work<S>> WorkQueue<S, W> {
     /// Chooses what a thread does next: it skips a step, or reads one, if it can, so that reading continues; otherwise
     /// it finishes one; and it makes a speculative read, or brings a buffer for one, if nothing else is to be done. A
     /// step for which a speculative read is being made waits for it, and for nothing else.
-    fn choice(&self, part: &FirstIntervals<'_>) -> Choice
-        ensures wait { result ≡ Choice.Wait → (deque_len self.now.unfinished ≡ 0) × (self.now.is_over ≡ false) }
-        ensures end { result ≡ Choice.End → (deque_len self.now.unfinished ≡ 0) × (self.now.is_over ≡ true) }
+    fn choice(&self, part: &FirstIntervals<'_>) -> NextTask
+        ensures wait { result ≡ NextTask.Wait → (deque_len self.now.unfinished ≡ 0) × (self.now.is_over ≡ false) }
+        ensures end { result ≡ NextTask.End → (deque_len self.now.unfinished ≡ 0) × (self.now.is_over ≡ true) }
     {
         let can_begin = self.reader.is_some() && self.work.has_space(self.unfinished.len());
         if can_begin && !self.is_over && !self.guesses.makes_next(part) {
             return if self.guesses.has_next(part) {
-                Choice::Skip
+                NextTask::Skip
             } else {
-                Choice::Read
+                NextTask::Read
             };
         }
         if !self.unfinished.is_empty() {
-            Choice::Finish
+            NextTask::Finish
         } else if self.is_over {
-            Choice::End
+            NextTask::End
         } else if self.guesses.can_guess(part) || self.guesses.wants_space(part) {
-            Choice::Speculate
+            NextTask::Speculate
         } else {
-            Choice::Wait
+            NextTask::Wait
         }
     }
 
@@ -84,7 +84,7 @@ impl<S: OneScan, W: Work<S>> WorkQueue<S, W> {
 
     /// Returns whether a thread has to wait for what others do.
     pub fn has_no_task(&self, part: &FirstIntervals<'_>) -> bool {
-        self.choice(part) == Choice::Wait
+        self.choice(part) == NextTask::Wait
     }
 
     /// Begins the next step.
@@ -130,22 +130,22 @@ impl<S: OneScan, W: Work<S>> WorkQueue<S, W> {
     {
         let choice = self.choice(part);
         match choice {
-            Choice::Read | Choice::Skip => {
-                let skips = choice == Choice::Skip;
+            NextTask::Read | NextTask::Skip => {
+                let skips = choice == NextTask::Skip;
                 let Some(step) = self.begin(part, skips) else {
                     return None;
                 };
                 Some(Task::Begin(step, skips))
             }
-            Choice::Finish => {
+            NextTask::Finish => {
                 let Some(step) = self.unfinished.pop_front() else {
                     return None;
                 };
                 Some(Task::Finish(step))
             }
-            Choice::Speculate => self.speculate(part),
-            Choice::End => self.spare(),
-            Choice::Wait => None,
+            NextTask::Speculate => self.speculate(part),
+            NextTask::End => self.spare(),
+            NextTask::Wait => None,
         }
     }
 
