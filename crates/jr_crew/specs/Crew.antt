@@ -2,20 +2,20 @@
 use Rattle.std.specs.Prelude.{◌≡◌, ℕ, ◌%◌, ◌<◌, List, length, slice_get, Option, Some, None}
 use Rattle.jr_head.specs.Geometry.{mcus_down}
 use Rattle.jr_scan.specs.FirstIntervalsValue.{FirstIntervalsValue}
-use Rattle.jr_work.specs.Guessing.{OfPart}
+use Rattle.jr_work.specs.Speculating.{OfPart}
 use Rattle.jr_crew.specs.RowValues.{PaintedValue}
-use Rattle.jr_rows.specs.Cursors.{AreGuessesIn}
+use Rattle.jr_rows.specs.Cursors.{AreSpeculationsIn}
 use Rattle.jr_rows.specs.Rows.{AreRowsOf}
-use Rattle.jr_rows.specs.declared.interval_guesses.IntervalGuesses.{IntervalGuesses}
+use Rattle.jr_rows.specs.declared.interval_speculations.IntervalSpeculations.{IntervalSpeculations}
 use Rattle.jr_rows.specs.declared.rows.Rows.{Rows}
 
 -- these are rows of the part, and speculative reads of its scan, and there is a next row
-pub record HasNextOf (part : FirstIntervalsValue) (r : Rows) (g : IntervalGuesses) : Type 0 where
+pub record HasNextOf (part : FirstIntervalsValue) (r : Rows) (g : IntervalSpeculations) : Type 0 where
   pub rows : AreRowsOf part r
   pub row : r.row < mcus_down part.scan.head
-  pub guesses : AreGuessesIn part.scan g
+  pub speculations : AreSpeculationsIn part.scan g
 
-abbrev pub HaveNext : Option FirstIntervalsValue → Rows → IntervalGuesses → Type 0
+abbrev pub HaveNext : Option FirstIntervalsValue → Rows → IntervalSpeculations → Type 0
 HaveNext known r g = OfPart known (λ part. HasNextOf part r g)
 
 -- a slot holds this row

@@ -3,7 +3,7 @@ use Rattle.std.specs.Prelude.{◌≡◌, ℕ, ◌*◌, ◌<◌, ◌≤◌, List,
 use Rattle.jr_head.specs.Geometry.{blocks_of, mcus_across, mcus_down, vertical_max}
 use Rattle.jr_scan.specs.FirstIntervalsValue.{FirstIntervalsValue}
 use Rattle.jr_paint.specs.Lines.{line_size}
-use Rattle.jr_work.specs.Guessing.{OfPart}
+use Rattle.jr_work.specs.Speculating.{OfPart}
 use Rattle.jr_crew.specs.RowValues.{CodedRowValue, PaintedValue}
 use Rattle.jr_rows.specs.Rows.{AreRead, CountsRow, HasSampleSpace, ShowsLines, line_count}
 use Rattle.jr_rows.specs.RowsValue.{SampleRowValue}

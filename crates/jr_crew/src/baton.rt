@@ -1,15 +1,15 @@
 //! The right to read the scan, which one thread holds.
 
 ghost use Rattle.std.specs.Prelude.{◌≡◌, Some};
-ghost use Rattle.jr_scan.specs.Guesses.{AreGuessesOf};
+ghost use Rattle.jr_scan.specs.Speculations.{AreSpeculationsOf};
 ghost use Rattle.jr_scan.specs.ScanValue.{interval_of};
 ghost use Rattle.jr_rows.specs.Rows.{AreRowsOf};
 
 use crate::paint_space::PaintSpace;
 use crate::row_buffer::{CodedRow, Painted, RowBuffer};
 use jr_picture::Gate;
-use jr_rows::{IntervalGuesses, Rows, announce, intervals_of_row, shape_of};
-use jr_scan::{FirstIntervals, Guesses};
+use jr_rows::{IntervalSpeculations, Rows, announce, intervals_of_row, shape_of};
+use jr_scan::{FirstIntervals, Speculations};
 use jr_work::OneScan;
 use std::alloc::Global;
 use std::marker::{Model, PhantomData};
@@ -18,7 +18,7 @@ use std::marker::{Model, PhantomData};
 #[derive(Drop)]
 pub(crate) struct Baton<S: OneScan> {
     rows: Rows,
-    guesses: IntervalGuesses,
+    speculations: IntervalSpeculations,
     of: PhantomData<S>,
 }
 
@@ -30,7 +30,7 @@ impl<S: OneScan> Model for Baton<S> {
 
     ghost view = { λ b. b.rows.row };
 
-    ghost invariant = { λ b. HaveNext S.part b.rows b.guesses };
+    ghost invariant = { λ b. HaveNext S.part b.rows b.speculations };
 }
 
 /// Returns these rows, if one is left.
@@ -44,7 +44,7 @@ fn baton_over<S: OneScan>(part: &FirstIntervals<'_>, rows: Rows) -> Option<Baton
     }
     Some(Baton {
         rows,
-        guesses: IntervalGuesses::none(),
+        speculations: IntervalSpeculations::none(),
         of: PhantomData,
     })
 }
@@ -81,18 +81,18 @@ impl<S: OneScan> Baton<S> {
     }
 
     /// Returns the same rows, with these speculative reads.
-    pub(crate) fn with_guesses(
+    pub(crate) fn with_speculations(
         self,
         part: &FirstIntervals<'_>,
         number: u32,
-        guesses: Guesses,
+        speculations: Speculations,
     ) -> Baton<S>
         requires part { S.part ≡ Some part.now }
-        requires guesses { AreGuessesOf (interval_of part.now.scan number) guesses }
+        requires speculations { AreSpeculationsOf (interval_of part.now.scan number) speculations }
     {
         Baton {
             rows: self.rows,
-            guesses: IntervalGuesses::of(number, guesses),
+            speculations: IntervalSpeculations::of(number, speculations),
             of: PhantomData,
         }
     }
@@ -108,7 +108,7 @@ impl<S: OneScan> Baton<S> {
     {
         let mut rows = self.rows;
         announce(part.scan(), part.limit(), rows.row(), gate);
-        rows.skip(part, Some(&self.guesses));
+        rows.skip(part, Some(&self.speculations));
         let after = baton_over(part, rows);
         (self, after)
     }
@@ -123,7 +123,7 @@ impl<S: OneScan> Baton<S> {
         requires { S.part ≡ Some part.now }
     {
         let mut rows = self.rows;
-        let painted = buffer.decode(part, &mut rows, Some(&self.guesses), space);
+        let painted = buffer.decode(part, &mut rows, Some(&self.speculations), space);
         drop(rows);
         painted
     }
@@ -147,7 +147,7 @@ impl<S: OneScan> Baton<S> {
         requires { S.part ≡ Some part.now }
     {
         let mut rows = self.rows;
-        let read = buffer.read(alloc, part, &mut rows, Some(&self.guesses), space);
+        let read = buffer.read(alloc, part, &mut rows, Some(&self.speculations), space);
         (read, baton_over(part, rows))
     }
 }

@@ -3,13 +3,13 @@
 ghost use Rattle.std.specs.Prelude.{◌≡◌, ◌+◌, ◌-◌, ◌*◌, ◌<◌, ◌≤◌, Some, length, take, drop, IfErr, IfOk, IfSome};
 ghost use Rattle.jr_head.specs.Geometry.{mcus_down, vertical_max};
 ghost use Rattle.jr_paint.specs.Lines.{line_size};
-ghost use Rattle.jr_rows.specs.Cursors.{AreGuessesIn};
+ghost use Rattle.jr_rows.specs.Cursors.{AreSpeculationsIn};
 ghost use Rattle.jr_rows.specs.Rows.{AreRowsOf, CountsRow, HasSampleSpace, ShowsLines, line_count};
 
 use crate::paint_space::PaintSpace;
 use crate::row::{open_blocks, paint_decoded, paint_read};
 use jr_base::{Coefficients, Memory};
-use jr_rows::{IntervalGuesses, Marked, Rows, SampleRow, bytes_of_row};
+use jr_rows::{IntervalSpeculations, Marked, Rows, SampleRow, bytes_of_row};
 use jr_scan::FirstIntervals;
 use jr_work::OneScan;
 use std::alloc::Global;
@@ -21,11 +21,11 @@ fn decode_first(
     work: &mut SampleRow,
     part: &FirstIntervals<'_>,
     rows: &mut Rows,
-    guesses: Option<&IntervalGuesses>,
+    speculations: Option<&IntervalSpeculations>,
     pixels: &mut [u8],
 ) -> Marked
     requires rows { AreRowsOf part.now rows.old }
-    requires same { IfSome guesses (λ g. AreGuessesIn part.now.scan g.now) }
+    requires same { IfSome speculations (λ g. AreSpeculationsIn part.now.scan g.now) }
     requires row { rows.old.row < mcus_down part.now.scan.head }
     requires space { HasSampleSpace part.now.scan.head work.old }
     requires pixels { 8 * vertical_max part.now.scan.head * line_size part.now.scan.head ≤ length pixels.old }
@@ -36,7 +36,7 @@ fn decode_first(
     ensures counts { CountsRow part.now.scan part.now.limit rows.old.row result }
 {
     let row = rows.row();
-    let marked = rows.decode(part, guesses, work, &mut []);
+    let marked = rows.decode(part, speculations, work, &mut []);
     paint_decoded(work, part, row, pixels);
     marked
 }
@@ -85,19 +85,19 @@ impl<S: OneScan> RowBuffer<S> {
         self,
         part: &FirstIntervals<'_>,
         rows: &mut Rows,
-        guesses: Option<&IntervalGuesses>,
+        speculations: Option<&IntervalSpeculations>,
         space: &mut PaintSpace<S>,
     ) -> Painted<S>
         requires part { S.part ≡ Some part.now }
         requires rows { AreRowsOf part.now rows.old }
-        requires same { IfSome guesses (λ g. AreGuessesIn part.now.scan g.now) }
+        requires same { IfSome speculations (λ g. AreSpeculationsIn part.now.scan g.now) }
         requires row { rows.old.row < mcus_down part.now.scan.head }
         ensures row { result.row ≡ rows.old.row }
         ensures rows { AreRowsOf part.now rows.new }
     {
         let row = rows.row();
         let mut pixels = self.pixels;
-        let marked = decode_first(&mut space.work, part, rows, guesses, &mut pixels);
+        let marked = decode_first(&mut space.work, part, rows, speculations, &mut pixels);
         Painted {
             row,
             marked,
@@ -114,12 +114,12 @@ impl<S: OneScan> RowBuffer<S> {
         alloc: Global,
         part: &FirstIntervals<'_>,
         rows: &mut Rows,
-        guesses: Option<&IntervalGuesses>,
+        speculations: Option<&IntervalSpeculations>,
         space: &mut PaintSpace<S>,
     ) -> Result<CodedRow<S>, Painted<S>>
         requires part { S.part ≡ Some part.now }
         requires rows { AreRowsOf part.now rows.old }
-        requires same { IfSome guesses (λ g. AreGuessesIn part.now.scan g.now) }
+        requires same { IfSome speculations (λ g. AreSpeculationsIn part.now.scan g.now) }
         requires row { rows.old.row < mcus_down part.now.scan.head }
         ensures row { IfOk result (λ c. c.row ≡ rows.old.row) }
         ensures painted { IfErr result (λ p. p.row ≡ rows.old.row) }
@@ -133,10 +133,10 @@ impl<S: OneScan> RowBuffer<S> {
                 pixels,
                 of,
             };
-            return Err(buffer.decode(part, rows, guesses, space));
+            return Err(buffer.decode(part, rows, speculations, space));
         };
         let row = rows.row();
-        let marked = rows.read(part, guesses, &mut blocks);
+        let marked = rows.read(part, speculations, &mut blocks);
         Ok(CodedRow {
             row,
             marked,

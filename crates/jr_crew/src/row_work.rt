@@ -7,7 +7,7 @@ use crate::baton::Baton;
 use crate::row_buffer::{CodedRow, Painted, RowBuffer};
 use jr_base::Memory;
 use jr_scan::FirstIntervals;
-use jr_work::{GuessQueue, OneScan, Work};
+use jr_work::{OneScan, SpeculationQueue, Work};
 use std::alloc::Global;
 use std::collections::VecDeque;
 use std::mem::replace;
@@ -141,7 +141,7 @@ impl<S: OneScan> Work<S> for RowWork<S> {
         &mut self,
         part: &FirstIntervals<'_>,
         baton: Baton<S>,
-        guesses: &GuessQueue<S>,
+        speculations: &SpeculationQueue<S>,
         skips: bool,
     ) -> Option<(BegunRow<S>, Option<Baton<S>>)> {
         let free = if skips {
@@ -154,8 +154,8 @@ impl<S: OneScan> Work<S> for RowWork<S> {
             return None;
         };
         let after = baton.after(part);
-        let number = guesses.number();
-        let baton = baton.with_guesses(part, number, guesses.for_next(part, number));
+        let number = speculations.number();
+        let baton = baton.with_speculations(part, number, speculations.for_next(part, number));
         Some((BegunRow { baton, buffer }, after))
     }
 

@@ -19,7 +19,7 @@ use jr_work::tuning::{
     MAX_COUNTED, MIN_MCUS_OF_BUFFER, MIN_READERS, MIN_READS, READS_OF_ROW_WORKER,
     ROW_BUFFERS_OF_WORKER, SPARE_PART_OF_BUFFER,
 };
-use jr_work::{BufferSize, GuessQueue, OneScan, WorkQueue, run_beside, windows_of};
+use jr_work::{BufferSize, OneScan, SpeculationQueue, WorkQueue, run_beside, windows_of};
 use std::alloc::Global;
 use std::io::Write;
 use std::marker::Brand;
@@ -43,7 +43,7 @@ fn open_slots<S: OneScan>(alloc: Global, count: u32) -> Result<Vec<Option<Painte
 /// Returns the maximum number of speculative reads that are kept for `count` row buffers: none if rows are whole intervals,
 /// which are read apart, or if there are few threads or few data, and no more than the data of the longest interval
 /// have bits for.
-fn guesses_of(part: &FirstIntervals<'_>, count: u32) -> u32 {
+fn speculations_of(part: &FirstIntervals<'_>, count: u32) -> u32 {
     let scan = part.scan();
     if intervals_of_row(scan.head()).is_some() || count < MIN_READERS * ROW_BUFFERS_OF_WORKER {
         return 0;
@@ -61,7 +61,7 @@ fn guesses_of(part: &FirstIntervals<'_>, count: u32) -> u32 {
 
 /// Returns the number of MCUs of a buffer for speculative reads: more than a row has, since one has about the bits of a
 /// row, or a minimum if that is more.
-fn mcus_of_guess(scan: &Scan) -> u32 {
+fn mcus_of_speculation(scan: &Scan) -> u32 {
     // By its contract a scan has an interval.
     let _some = scan.intervals();
     let across = shape_of(scan.head()).across;
@@ -74,18 +74,18 @@ fn mcus_of_guess(scan: &Scan) -> u32 {
     }
 }
 
-/// Opens a queue of at most `guesses` speculative reads. A step of the reader is a row of MCUs.
-fn open_guesses<S: OneScan>(
+/// Opens a queue of at most `speculations` speculative reads. A step of the reader is a row of MCUs.
+fn open_speculations<S: OneScan>(
     alloc: Global,
     part: &FirstIntervals<'_>,
-    guesses: u32,
-) -> Result<GuessQueue<S>, Memory> {
+    speculations: u32,
+) -> Result<SpeculationQueue<S>, Memory> {
     let across = shape_of(part.scan().head()).across;
     let size = BufferSize {
-        mcus: mcus_of_guess(part.scan()),
+        mcus: mcus_of_speculation(part.scan()),
         keeps_blocks: true,
     };
-    GuessQueue::open(alloc, part, 0, part.limit(), guesses, across, size)
+    SpeculationQueue::open(alloc, part, 0, part.limit(), speculations, across, size)
 }
 
 /// Opens a queue of `count` row buffers, of which the calling thread brings `own`.
@@ -98,13 +98,13 @@ fn open_queue<S: OneScan>(
     let Ok(painted) = open_slots(alloc, count) else {
         return Err(Memory);
     };
-    let Ok(guesses) = open_guesses(alloc, part, guesses_of(part, count)) else {
+    let Ok(speculations) = open_speculations(alloc, part, speculations_of(part, count)) else {
         return Err(Memory);
     };
     let Ok(work) = RowWork::open(alloc, count, count.saturating_sub(own), painted) else {
         return Err(Memory);
     };
-    let mut queue = WorkQueue::of(alloc, guesses, work);
+    let mut queue = WorkQueue::of(alloc, speculations, work);
     if queue.reserve(count as usize).is_err() {
         drop(queue);
         return Err(Memory);

@@ -10,7 +10,7 @@ use jr_scan::{FirstIntervals, Scan};
 use jr_work::tuning::{
     MAX_COUNTED, MIN_READS_OF_CHECK, READS_OF_CHECKER, STEPS_OF_BUFFER, WAITING_READS_OF_CHECK,
 };
-use jr_work::{Beside, BufferSize, GuessQueue, Help, OneScan, run_beside, windows_of};
+use jr_work::{Beside, BufferSize, Help, OneScan, SpeculationQueue, run_beside, windows_of};
 use std::alloc::Global;
 use std::marker::Brand;
 use std::sync::Wait;
@@ -51,12 +51,12 @@ impl<'s, 'a, R: Wait, S: OneScan> Beside for ScanReading<'s, 'a, R, S> {
 
 /// The work of the other threads: speculative reads.
 #[derive(Drop)]
-struct Guessing<'s, 'a, R: Wait, S: OneScan> {
+struct Speculating<'s, 'a, R: Wait, S: OneScan> {
     scan: &'s SharedScan<'a, S>,
     rt: &'s R,
 }
 
-impl<'s, 'a, R: Wait, S: OneScan> Help for Guessing<'s, 'a, R, S> {
+impl<'s, 'a, R: Wait, S: OneScan> Help for Speculating<'s, 'a, R, S> {
     fn help(&self) {
         self.scan.work(self.rt);
     }
@@ -79,7 +79,7 @@ fn check_as<R: Threads + Wait + Sync, S: OneScan + Send>(
         mcus: step.saturating_mul(STEPS_OF_BUFFER),
         keeps_blocks: false,
     };
-    let guesses: Result<GuessQueue<S>, _> = GuessQueue::open(
+    let speculations: Result<SpeculationQueue<S>, _> = SpeculationQueue::open(
         alloc,
         &part,
         0,
@@ -88,11 +88,11 @@ fn check_as<R: Threads + Wait + Sync, S: OneScan + Send>(
         step,
         size,
     );
-    match guesses {
-        Ok(guesses) => {
-            let shared = SharedScan::of(alloc, part, guesses);
-            let guessing = Guessing { scan: &shared, rt };
-            run_beside(rt, helpers, &guessing, ScanReading { scan: &shared, rt })
+    match speculations {
+        Ok(speculations) => {
+            let shared = SharedScan::of(alloc, part, speculations);
+            let speculating = Speculating { scan: &shared, rt };
+            run_beside(rt, helpers, &speculating, ScanReading { scan: &shared, rt })
         }
         Err(_) => check_scan(scan),
     }

@@ -32,8 +32,8 @@ fn skip_all_by<R: Wait, S: OneScan>(scan: &SharedScan<'_, S>, rt: &R, i: u32) ->
         let Some(place) = cursor.place else {
             return cursor;
         };
-        let guesses = scan.guesses(rt, i, place.bit);
-        let whole = cursor.take(interval.fork(), Some(&guesses), step, false, &mut []);
+        let speculations = scan.speculations(rt, i, place.bit);
+        let whole = cursor.take(interval.fork(), Some(&speculations), step, false, &mut []);
         if whole < step {
             return cursor;
         }

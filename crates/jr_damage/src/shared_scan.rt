@@ -1,12 +1,12 @@
 //! A scan that one thread reads while others read ahead speculatively.
 
 ghost use Rattle.std.specs.Prelude.{◌≡◌, Some};
-ghost use Rattle.jr_scan.specs.Guesses.{AreGuessesOf};
+ghost use Rattle.jr_scan.specs.Speculations.{AreSpeculationsOf};
 ghost use Rattle.jr_scan.specs.ScanValue.{interval_of};
 
-use jr_scan::{FirstIntervals, Guesses, Scan};
+use jr_scan::{FirstIntervals, Scan, Speculations};
 use jr_work::tuning::MAX_TASKS;
-use jr_work::{Assist, GuessQueue, OneScan, SharedWork, Task, Work, WorkQueue};
+use jr_work::{Assist, OneScan, SharedWork, SpeculationQueue, Task, Work, WorkQueue};
 use std::alloc::Global;
 use std::marker::Model;
 use std::sync::Wait;
@@ -36,7 +36,7 @@ impl<S: OneScan> Work<S> for Checking {
         &mut self,
         _part: &FirstIntervals<'_>,
         _reader: (),
-        _guesses: &GuessQueue<S>,
+        _speculations: &SpeculationQueue<S>,
         _skips: bool,
     ) -> Option<((), Option<()>)> {
         None
@@ -72,7 +72,7 @@ impl<'a, S: OneScan> SharedScan<'a, S> {
     pub(crate) fn of(
         alloc: Global,
         part: FirstIntervals<'a>,
-        guesses: GuessQueue<S>,
+        speculations: SpeculationQueue<S>,
     ) -> SharedScan<'a, S>
         requires { S.part ≡ Some part }
         ensures { result ≡ part.entry.scan }
@@ -80,7 +80,7 @@ impl<'a, S: OneScan> SharedScan<'a, S> {
         SharedScan {
             alloc,
             part,
-            shared: SharedWork::of(WorkQueue::of(alloc, guesses, Checking)),
+            shared: SharedWork::of(WorkQueue::of(alloc, speculations, Checking)),
         }
     }
 
@@ -114,7 +114,11 @@ impl<'a, S: OneScan> SharedScan<'a, S> {
     /// Notes that the reader is at this bit of an interval.
     fn reach<R: Wait>(&self, rt: &R, number: u32, bit: u64) {
         let part = &self.part;
-        self.shared.queue.lock(rt).guesses.reach(part, number, bit);
+        self.shared
+            .queue
+            .lock(rt)
+            .speculations
+            .reach(part, number, bit);
         self.shared.wake(rt, part);
     }
 
@@ -123,8 +127,8 @@ impl<'a, S: OneScan> SharedScan<'a, S> {
     fn task_meanwhile<R: Wait>(&self, rt: &R) -> Option<Assist<S, Checking>> {
         let part = &self.part;
         let mut queue = self.shared.queue.lock(rt);
-        if queue.guesses.makes_next(part)
-            && let Some(task) = queue.guesses.take(part)
+        if queue.speculations.makes_next(part)
+            && let Some(task) = queue.speculations.take(part)
         {
             return Some(Assist::Speculate(task));
         }
@@ -132,15 +136,15 @@ impl<'a, S: OneScan> SharedScan<'a, S> {
         let mut queue = self
             .shared
             .for_caller
-            .wait_while(rt, queue, |queue| queue.guesses.makes_next(part));
+            .wait_while(rt, queue, |queue| queue.speculations.makes_next(part));
         queue.is_awaited = false;
         None
     }
 
     /// Waits until no thread makes a speculative read by which a reader at this bit of an interval may continue, and
     /// returns those that are made.
-    pub(crate) fn guesses<R: Wait>(&self, rt: &R, number: u32, bit: u64) -> Guesses
-        ensures { AreGuessesOf (interval_of self.now number) result }
+    pub(crate) fn speculations<R: Wait>(&self, rt: &R, number: u32, bit: u64) -> Speculations
+        ensures { AreSpeculationsOf (interval_of self.now number) result }
     {
         self.reach(rt, number, bit);
         for _ in 0..MAX_TASKS {
@@ -150,7 +154,7 @@ impl<'a, S: OneScan> SharedScan<'a, S> {
             self.assist(rt, assist);
         }
         let queue = self.shared.queue.lock(rt);
-        queue.guesses.for_next(&self.part, number)
+        queue.speculations.for_next(&self.part, number)
     }
 
     /// Notes that all is read.

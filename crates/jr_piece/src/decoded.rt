@@ -1,13 +1,13 @@
 //! The samples of an interval's longest decodable prefix.
 
 ghost use Rattle.std.specs.Prelude.{◌≡◌, ℤ, List, [], IfOk, OnOk};
-ghost use Rattle.jr_scan.specs.Guesses.{AreGuessesOf};
+ghost use Rattle.jr_scan.specs.Speculations.{AreSpeculationsOf};
 ghost use Rattle.jr_scan.specs.McuReader.{HasRead, HasEnded};
 ghost use Rattle.jr_piece.specs.Outcome.{AreSamples, IsOutcome};
 
 use crate::transforming::transform_blocks;
 use jr_base::{Coefficients, Memory};
-use jr_scan::{Guesses, Interval, McuReader};
+use jr_scan::{Interval, McuReader, Speculations};
 use std::alloc::Global;
 use std::array;
 
@@ -28,12 +28,12 @@ pub(crate) struct Decoded {
 pub(crate) fn read_samples(
     alloc: Global,
     reader: &mut McuReader<'_>,
-    guesses: &Guesses,
+    speculations: &Speculations,
     mcus: usize,
 ) -> Result<Vec<[u8; 64]>, Memory>
     requires none { HasRead reader.old [] }
     requires new { reader.old.mcu ≡ 0 }
-    requires same { AreGuessesOf reader.old.run.interval guesses.now }
+    requires same { AreSpeculationsOf reader.old.run.interval speculations.now }
     ensures run { OnOk result (reader.new.run ≡ reader.old.run) }
     ensures read { IfOk result (λ v. (zs : List (List ℤ)) × HasRead reader.new zs × AreSamples reader.new.run.interval.head zs v.items) }
     ensures ended { OnOk result (HasEnded reader.new) }
@@ -45,7 +45,7 @@ pub(crate) fn read_samples(
     let empty = [[0; 64]; BLOCKS];
     'mcus: loop {
         let first = reader.mcus();
-        let count = reader.read_by(guesses, &mut blocks) as usize * per_mcu;
+        let count = reader.read_by(speculations, &mut blocks) as usize * per_mcu;
         if count == 0 {
             return Ok(samples);
         }
@@ -62,7 +62,7 @@ pub(crate) fn decode(alloc: Global, interval: &Interval) -> Result<Decoded, Memo
     let samples = read_samples(
         alloc,
         &mut reader,
-        &Guesses::none(),
+        &Speculations::none(),
         interval.most_mcus() as usize,
     )?;
     Ok(Decoded {

@@ -2,13 +2,13 @@
 
 ghost use Rattle.std.specs.Prelude.{◌≡◌, IfOk};
 ghost use Rattle.std.specs.Arc.{arc_value};
-ghost use Rattle.jr_scan.specs.Guesses.{AreGuessesOf};
+ghost use Rattle.jr_scan.specs.Speculations.{AreSpeculationsOf};
 ghost use Rattle.jr_piece.specs.Strips.{IsPlaced, IsStrip};
 
 use crate::decoded::read_samples;
 use crate::strip::Strip;
 use jr_base::Memory;
-use jr_scan::{Guesses, Interval, McuReader, Place};
+use jr_scan::{Interval, McuReader, Place, Speculations};
 use std::alloc::Global;
 use std::marker::Model;
 use std::sync::Arc;
@@ -56,12 +56,12 @@ impl PlacedStrip {
         ensures mcus { IfOk result (λ s. s.mcus ≡ self.now.mcus) }
         ensures strip { IfOk result IsStrip }
     {
-        self.decode_by(alloc, &Guesses::none())
+        self.decode_by(alloc, &Speculations::none())
     }
 
     /// Decodes the strip, and takes over what the speculative reads have of its MCUs.
-    pub fn decode_by(&self, alloc: Global, guesses: &Guesses) -> Result<Strip, Memory>
-        requires { AreGuessesOf self.now.interval guesses.now }
+    pub fn decode_by(&self, alloc: Global, speculations: &Speculations) -> Result<Strip, Memory>
+        requires { AreSpeculationsOf self.now.interval speculations.now }
         ensures interval { IfOk result (λ s. s.interval ≡ self.now.interval) }
         ensures first { IfOk result (λ s. s.first ≡ self.now.first) }
         ensures mcus { IfOk result (λ s. s.mcus ≡ self.now.mcus) }
@@ -71,7 +71,7 @@ impl PlacedStrip {
         // By its contract an interval's header is valid.
         let _valid = coded.head();
         let mut reader = McuReader::at(coded.as_ref(), self.from, self.mcus);
-        let samples = read_samples(alloc, &mut reader, guesses, self.mcus as usize)?;
+        let samples = read_samples(alloc, &mut reader, speculations, self.mcus as usize)?;
         let interval = Arc::try_clone(&self.interval)?;
         Ok(Strip::of(interval, self.first, self.mcus, samples))
     }

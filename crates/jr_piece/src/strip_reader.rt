@@ -3,7 +3,7 @@
 ghost use Rattle.std.specs.Prelude.{◌≡◌, ◌≤◌, ◌<◌, ◌+◌, ℕ, ℤ, List, Option, None, Some, false, IsTrue, IfOk, IfErr, IfSome, IfNone, OnOk, OnSome};
 ghost use Rattle.std.specs.Arc.{arc_value};
 ghost use Rattle.jr_scan.specs.declared.place.RunEnd.TheVariants.{AllRead};
-ghost use Rattle.jr_scan.specs.Guesses.{AreGuessesOf};
+ghost use Rattle.jr_scan.specs.Speculations.{AreSpeculationsOf};
 ghost use Rattle.jr_scan.specs.Mcus.{Decodes, Front, HasNoDecoding, HasLongestFront};
 ghost use Rattle.jr_scan.specs.Run.{start_of_interval, IsRun, run_from};
 ghost use Rattle.jr_scan.specs.Cursors.{IsPlaceAfter, TakesMcus};
@@ -11,7 +11,7 @@ ghost use Rattle.jr_scan.specs.Cursors.{IsPlaceAfter, TakesMcus};
 use crate::placed_strip::PlacedStrip;
 use crate::strip::CodedStrip;
 use jr_base::{Coefficients, Memory};
-use jr_scan::{Cursor, Guesses, Interval, Place};
+use jr_scan::{Cursor, Interval, Place, Speculations};
 use std::alloc::Global;
 use std::marker::Model;
 use std::sync::Arc;
@@ -150,8 +150,12 @@ impl StripReader {
     /// Skips the next whole MCUs, as many as are asked for or as follow, those that the speculative reads have without
     /// reading them, and keeps none of their blocks. `None` if no further one follows; then, and on `Err`, the reader is
     /// unchanged.
-    pub fn skip_by(&mut self, guesses: &Guesses, most: u32) -> Result<Option<PlacedStrip>, Memory>
-        requires { AreGuessesOf self.old.interval guesses.now }
+    pub fn skip_by(
+        &mut self,
+        speculations: &Speculations,
+        most: u32,
+    ) -> Result<Option<PlacedStrip>, Memory>
+        requires { AreSpeculationsOf self.old.interval speculations.now }
         ensures interval { self.new.interval ≡ self.old.interval }
         ensures of { IfOk result (λ o. IfSome o (λ s. s.interval ≡ self.old.interval)) }
         ensures first { IfOk result (λ o. IfSome o (λ s. s.first ≡ self.old.first)) }
@@ -171,7 +175,7 @@ impl StripReader {
         let interval = Arc::try_clone(&self.interval)?;
         let coded: &Interval = &interval;
         let mut past = self.cursor;
-        let mcus = past.take(coded.as_ref(), Some(guesses), most, false, &mut []);
+        let mcus = past.take(coded.as_ref(), Some(speculations), most, false, &mut []);
         if mcus == 0 {
             return Ok(None);
         }

@@ -3,11 +3,11 @@
 ghost use Rattle.std.specs.Prelude.{◌≡◌, ◌+◌, ◌*◌, ◌<◌, ◌≤◌, length, IfSome};
 ghost use Rattle.jr_head.specs.Geometry.{blocks_of, mcus_of};
 ghost use Rattle.jr_scan.specs.ScanValue.{interval_of, intervals_of, mcus_in};
-ghost use Rattle.jr_rows.specs.Cursors.{AreGuessesIn, IsCursorOf, mcus_to};
+ghost use Rattle.jr_rows.specs.Cursors.{AreSpeculationsIn, IsCursorOf, mcus_to};
 ghost use Rattle.jr_rows.specs.MarkBytes.{HasMarkSpace, StoresMarks, StoresMcus};
 ghost use Rattle.jr_rows.specs.Rows.{CountsMarks, CountsMcus, ReturnsMcus, intervals_before, mcus_before};
 
-use crate::interval_guesses::{IntervalGuesses, of_interval};
+use crate::interval_speculations::{IntervalSpeculations, of_interval};
 use crate::mark_bytes::write_mark;
 use crate::marked::Marked;
 use crate::shape::units_to;
@@ -64,13 +64,13 @@ fn mark_ended(
 pub(crate) fn read_mcus(
     cursor: &mut Cursor,
     part: &FirstIntervals<'_>,
-    guesses: Option<&IntervalGuesses>,
+    speculations: Option<&IntervalSpeculations>,
     mcus: u32,
     blocks: &mut [Coefficients],
     marks: &mut [u8],
 ) -> Marked
     requires lies { IsCursorOf part.now.scan cursor.old }
-    requires same { IfSome guesses (λ g. AreGuessesIn part.now.scan g.now) }
+    requires same { IfSome speculations (λ g. AreSpeculationsIn part.now.scan g.now) }
     requires few { mcus_to part.now.scan.head cursor.old + mcus ≤ mcus_before part.now.scan.head part.now.limit }
     requires space { length blocks.old ≡ mcus * blocks_of part.now.scan.head }
     requires places { HasMarkSpace part.now.scan marks.old }
@@ -90,7 +90,7 @@ pub(crate) fn read_mcus(
         let some = ready(cursor, scan).min(mcus - done);
         let from = units_to(done, mcus, per_mcu);
         let end = units_to(done + some, mcus, per_mcu);
-        let own = of_interval(guesses, cursor.number);
+        let own = of_interval(speculations, cursor.number);
         let interval = scan.interval_ref(cursor.number);
         cursor.read(interval.fork(), own, some, &mut blocks[from..end]);
         let more = mark_ended(cursor, part, &interval, marks);
@@ -104,11 +104,11 @@ pub(crate) fn read_mcus(
 pub(crate) fn skip_mcus(
     cursor: &mut Cursor,
     scan: &Scan,
-    guesses: Option<&IntervalGuesses>,
+    speculations: Option<&IntervalSpeculations>,
     mcus: u32,
 )
     requires lies { IsCursorOf scan.now cursor.old }
-    requires same { IfSome guesses (λ g. AreGuessesIn scan.now g.now) }
+    requires same { IfSome speculations (λ g. AreSpeculationsIn scan.now g.now) }
     requires few { mcus_to scan.now.head cursor.old + mcus ≤ mcus_of scan.now.head }
     ensures lies { IsCursorOf scan.now cursor.new }
     ensures moved { mcus_to scan.now.head cursor.new ≡ mcus_to scan.now.head cursor.old + mcus }
@@ -116,7 +116,7 @@ pub(crate) fn skip_mcus(
     let mut left = mcus;
     'mcus: while left > 0 {
         let some = ready(cursor, scan).min(left);
-        let own = of_interval(guesses, cursor.number);
+        let own = of_interval(speculations, cursor.number);
         let interval = scan.interval_ref(cursor.number);
         cursor.skip(interval, own, some);
         left -= some;

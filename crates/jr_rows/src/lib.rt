@@ -5,7 +5,7 @@
 mod announcing;
 mod band;
 mod blank;
-mod interval_guesses;
+mod interval_speculations;
 mod intervals;
 mod lines;
 mod mark_bytes;
@@ -21,7 +21,7 @@ mod whole_mcus;
 mod writing;
 
 pub use announcing::announce;
-pub use interval_guesses::IntervalGuesses;
+pub use interval_speculations::IntervalSpeculations;
 pub use lines::paint_scan_lines;
 pub use mark_bytes::write_mark;
 pub use marked::Marked;

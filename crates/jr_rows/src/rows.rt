@@ -4,12 +4,12 @@ ghost use Rattle.std.specs.Prelude.{◌≡◌, ◌+◌, ◌*◌, ◌<◌, length
 ghost use Rattle.jr_head.specs.Geometry.{blocks_of, mcus_across, mcus_down};
 ghost use Rattle.jr_picture.specs.DecodedScan.{DecodedScan};
 ghost use Rattle.jr_rows.specs.Bands.{ShowsMcus};
-ghost use Rattle.jr_rows.specs.Cursors.{AreGuessesIn};
+ghost use Rattle.jr_rows.specs.Cursors.{AreSpeculationsIn};
 ghost use Rattle.jr_rows.specs.Groups.{units_in};
 ghost use Rattle.jr_rows.specs.MarkBytes.{HasMarkSpace, StoresRow};
 ghost use Rattle.jr_rows.specs.Rows.{AreRead, AreRowsOf, CountsRow, DecodesFirst, HasSampleSpace};
 
-use crate::interval_guesses::IntervalGuesses;
+use crate::interval_speculations::IntervalSpeculations;
 use crate::intervals::{read_mcus, skip_mcus};
 use crate::marked::Marked;
 use crate::sample_row::SampleRow;
@@ -94,9 +94,9 @@ impl Rows {
     }
 
     /// Skips the next row.
-    pub fn skip(&mut self, part: &FirstIntervals<'_>, guesses: Option<&IntervalGuesses>)
+    pub fn skip(&mut self, part: &FirstIntervals<'_>, speculations: Option<&IntervalSpeculations>)
         requires rows { AreRowsOf part.now self.old }
-        requires same { IfSome guesses (λ g. AreGuessesIn part.now.scan g.now) }
+        requires same { IfSome speculations (λ g. AreSpeculationsIn part.now.scan g.now) }
         requires row { self.old.row < mcus_down part.now.scan.head }
         ensures rows { AreRowsOf part.now self.new }
         ensures row { self.new.row ≡ self.old.row + 1 }
@@ -105,7 +105,7 @@ impl Rows {
         // By their contracts an image has an MCU, and few enough rows that their numbers fit.
         let _counts = (scan.head().mcus(), shape_of(scan.head()));
         let coded = coded_of_row(scan, part.limit(), self.row);
-        skip_mcus(&mut self.cursor, scan, guesses, coded);
+        skip_mcus(&mut self.cursor, scan, speculations, coded);
         self.row += 1;
     }
 
@@ -114,11 +114,11 @@ impl Rows {
     pub fn read(
         &mut self,
         part: &FirstIntervals<'_>,
-        guesses: Option<&IntervalGuesses>,
+        speculations: Option<&IntervalSpeculations>,
         blocks: &mut [Coefficients],
     ) -> Marked
         requires rows { AreRowsOf part.now self.old }
-        requires same { IfSome guesses (λ g. AreGuessesIn part.now.scan g.now) }
+        requires same { IfSome speculations (λ g. AreSpeculationsIn part.now.scan g.now) }
         requires row { self.old.row < mcus_down part.now.scan.head }
         requires space { length blocks.old ≡ mcus_across part.now.scan.head * blocks_of part.now.scan.head }
         ensures rows { AreRowsOf part.now self.new }
@@ -130,7 +130,7 @@ impl Rows {
         let coded = coded_of_row(part.scan(), part.limit(), self.row);
         let end = units_to(coded, shape_of(head).across, head.order().len());
         let blocks = &mut blocks[..end];
-        let marked = read_mcus(&mut self.cursor, part, guesses, coded, blocks, &mut []);
+        let marked = read_mcus(&mut self.cursor, part, speculations, coded, blocks, &mut []);
         self.row += 1;
         marked
     }
@@ -140,12 +140,12 @@ impl Rows {
     pub fn decode(
         &mut self,
         part: &FirstIntervals<'_>,
-        guesses: Option<&IntervalGuesses>,
+        speculations: Option<&IntervalSpeculations>,
         work: &mut SampleRow,
         marks: &mut [u8],
     ) -> Marked
         requires rows { AreRowsOf part.now self.old }
-        requires same { IfSome guesses (λ g. AreGuessesIn part.now.scan g.now) }
+        requires same { IfSome speculations (λ g. AreSpeculationsIn part.now.scan g.now) }
         requires row { self.old.row < mcus_down part.now.scan.head }
         requires space { HasSampleSpace part.now.scan.head work.old }
         requires places { HasMarkSpace part.now.scan marks.old }
@@ -168,7 +168,7 @@ impl Rows {
         'parts: while done < coded {
             let some = at_once.min(coded - done);
             let near = &mut blocks[..units_to(some, at_once, per_mcu)];
-            let more = read_mcus(&mut self.cursor, part, guesses, some, near, marks);
+            let more = read_mcus(&mut self.cursor, part, speculations, some, near, marks);
             transform_blocks(head, done, near, lines);
             marked = marked.with(more);
             done += some;

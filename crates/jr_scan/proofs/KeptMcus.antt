@@ -9,7 +9,7 @@ use Rattle.std.proofs.Math.Nat.{mul-le-mul_right}
 use Rattle.std.proofs.Math.Seq.{drop-append_seam, get_or-append_seam}
 use Rattle.jr_code.specs.Bits.{bits}
 use Rattle.jr_head.specs.Geometry.{order_of, IsValid}
-use Rattle.jr_scan.specs.declared.guessed.Guessed.{Guessed}
+use Rattle.jr_scan.specs.declared.speculated.Speculated.{Speculated}
 use Rattle.jr_scan.specs.declared.place.Place.{Place}
 use Rattle.jr_scan.specs.declared.place.RunEnd.TheVariants.{AllRead}
 use Rattle.jr_scan.specs.IntervalValue.{IntervalValue}
@@ -19,20 +19,20 @@ use Rattle.jr_mcu.specs.Mcus.{component, block_of, prediction, no_predictions, p
 use Rattle.jr_scan.specs.Run.{left_at, run_from, IsRun, place_with}
 use Rattle.jr_mcu.proofs.McuRange.{firsts_in_mcu_range, predicted_in_mcu_range}
 use Rattle.jr_mcu.specs.Shift.{of_component, AreGreater, IsShifted, AreShifted, HaveFirstInRange, IsInMcuRange, IsSmall}
-use Rattle.jr_scan.specs.Guess.{unpredicted, IsGuessed, GuessValue, KeepsBlocks, blocks_at, IsMcuOf, IsGuessOf, TakesNext, AreLastBits}
+use Rattle.jr_scan.specs.Speculation.{unpredicted, IsSpeculated, SpeculationValue, KeepsBlocks, blocks_at, IsMcuOf, IsSpeculationOf, TakesNext, AreLastBits}
 use Rattle.jr_scan.proofs.InRange.{run_in_range}
 use Rattle.jr_scan.proofs.Runs.{component_low, three_places}
 use Rattle.jr_scan.proofs.Shifts.{predicted_shifted, run_shifted}
 use Rattle.jr_scan.proofs.McuReaders.{left_after, left_is, one_mcu}
 
-abbrev pub guess_of : ℕ → List Guessed → List (List ℤ) → GuessValue
-guess_of n mcus blocks = record { number = n; mcus = mcus; blocks = blocks }
+abbrev pub speculation_of : ℕ → List Speculated → List (List ℤ) → SpeculationValue
+speculation_of n mcus blocks = record { number = n; mcus = mcus; blocks = blocks }
 
-abbrev pub with_blocks : GuessValue → List (List ℤ) → GuessValue
+abbrev pub with_blocks : SpeculationValue → List (List ℤ) → SpeculationValue
 with_blocks g blocks = record { number = g.number; mcus = g.mcus; blocks = blocks }
 
 -- without an MCU it is a speculative read of any interval of its number
-pub none_yet : (i : IntervalValue) (n : ℕ) (blocks : List (List ℤ)) → n ≡ i.number → IsGuessOf i (guess_of n [] blocks)
+pub none_yet : (i : IntervalValue) (n : ℕ) (blocks : List (List ℤ)) → n ≡ i.number → IsSpeculationOf i (speculation_of n [] blocks)
 none_yet i n blocks is = record { number = is; space = λ keeps. omega arith; each = λ k d lt. absurd (omega (arith, lt)) }
 
 -- the blocks of an MCU are the same if those up to its end are
@@ -45,8 +45,8 @@ same_at k m per xs ys lt same =
     sym (drop-take (k * per) per ys) ∙ ap (drop (k * per)) e ∙ drop-take (k * per) per xs
 
 -- blocks that are written after the MCUs change none of these
-pub kept_before : (i : IntervalValue) (g : GuessValue) (new : List (List ℤ)) (m per : ℕ) → IsGuessOf i g → m ≡ length g.mcus → per ≡ length (order_of i.head) → length new ≡ length g.blocks → take (m * per) new ≡ take (m * per) g.blocks
-    → IsGuessOf i (with_blocks g new)
+pub kept_before : (i : IntervalValue) (g : SpeculationValue) (new : List (List ℤ)) (m per : ℕ) → IsSpeculationOf i g → m ≡ length g.mcus → per ≡ length (order_of i.head) → length new ≡ length g.blocks → take (m * per) new ≡ take (m * per) g.blocks
+    → IsSpeculationOf i (with_blocks g new)
 kept_before i g new m per is count size long same = record {
   number = is.number;
   space = λ keeps. omega (arith, is.space (omega (arith, keeps, long)), long);
@@ -68,7 +68,7 @@ kept_here m per xs ys zs space long is =
     sym (drop-take (m * per) per ys) ∙ ap (drop (m * per)) is ∙ ap (λ (n : ℕ). drop n (take (m * per) xs ++ zs)) (sym first) ∙ drop-append_seam (take (m * per) xs) zs
 
 -- one more MCU is appended
-pub kept_more : (i : IntervalValue) (g : GuessValue) (mcu : Guessed) (ps : List ℤ) (old new : List Bool) → IsGuessOf i g → (t : TakesNext i g ps old new) → IsGuessed i mcu t.zs → IsGuessOf i (guess_of g.number (g.mcus ++ mcu ∷ []) g.blocks)
+pub kept_more : (i : IntervalValue) (g : SpeculationValue) (mcu : Speculated) (ps : List ℤ) (old new : List Bool) → IsSpeculationOf i g → (t : TakesNext i g ps old new) → IsSpeculated i mcu t.zs → IsSpeculationOf i (speculation_of g.number (g.mcus ++ mcu ∷ []) g.blocks)
 kept_more i g mcu ps old new is t next =
     let m = length g.mcus in
     let more : length (g.mcus ++ mcu ∷ []) ≡ m + 1 = length-append g.mcus (mcu ∷ []) in
@@ -79,13 +79,13 @@ kept_more i g mcu ps old new is t next =
         | inl l ↦
             let e : get_or g.mcus k d ≡ get_or (g.mcus ++ mcu ∷ []) k d = sym (get_or_append_left g.mcus (mcu ∷ []) d k l) in
             let was = is.each k d l in
-            record { zs = was.zs; is = subst (λ (x : Guessed). IsGuessed i x was.zs) e was.is; kept = was.kept }
+            record { zs = was.zs; is = subst (λ (x : Speculated). IsSpeculated i x was.zs) e was.is; kept = was.kept }
         | inr r ↦
             let at : m ≡ k = omega (arith, lt, more, r) in
             let e : mcu ≡ get_or (g.mcus ++ mcu ∷ []) m d = sym (get_or-append_seam g.mcus mcu [] d) in
             record {
               zs = t.zs;
-              is = subst (λ (n : ℕ). IsGuessed i (get_or (g.mcus ++ mcu ∷ []) n d) t.zs) at (subst (λ (x : Guessed). IsGuessed i x t.zs) e next);
+              is = subst (λ (n : ℕ). IsSpeculated i (get_or (g.mcus ++ mcu ∷ []) n d) t.zs) at (subst (λ (x : Speculated). IsSpeculated i x t.zs) e next);
               kept = λ keeps. subst (λ (n : ℕ). blocks_at i g n ≡ t.zs) at (t.kept keeps);
             }
       ];
@@ -102,9 +102,9 @@ pub last_after : (i : IntervalValue) (zs : List (List ℤ)) (old new : List Bool
 last_after i zs old new is t = left_after i (unpredicted (8 * length i.bytes - length old)) (8 * length i.bytes - length new) zs new (omega arith) (taken_last i zs old new is t) refl
 
 -- an MCU that is read is one of a speculative read
-pub guessed : (i : IntervalValue) (mcu : Guessed) (zs : List (List ℤ)) (old new : List Bool) → AreLastBits i old → mcu.from ≡ 8 * length i.bytes - length old → mcu.to.bit ≡ 8 * length i.bytes - length new
-    → length (order_of i.head) ≤ 10 → TakesMcu i.head no_predictions zs old new → mcu.to.predictions ≡ predicted i.head no_predictions zs → IsGuessed i mcu zs
-guessed i mcu zs old new is from to few t last = record {
+pub speculated : (i : IntervalValue) (mcu : Speculated) (zs : List (List ℤ)) (old new : List Bool) → AreLastBits i old → mcu.from ≡ 8 * length i.bytes - length old → mcu.to.bit ≡ 8 * length i.bytes - length new
+    → length (order_of i.head) ≤ 10 → TakesMcu i.head no_predictions zs old new → mcu.to.predictions ≡ predicted i.head no_predictions zs → IsSpeculated i mcu zs
+speculated i mcu zs old new is from to few t last = record {
   within = omega (arith, to);
   run = subst (λ (n : ℕ). IsRun (run_from i (unpredicted n) 1) zs mcu.to AllRead) (sym from) (one_mcu i (unpredicted (8 * length i.bytes - length old)) mcu.to zs new (omega arith) (taken_last i zs old new is t) to last);
   firsts = firsts_in_mcu_range i.head zs t.taken few t.mcu;
@@ -116,11 +116,11 @@ last_from i from left within is =
     let e : from ≡ 8 * length i.bytes - length left = omega (arith, ap length is, left_is i (unpredicted from), within) in
     is ∙ ap (λ (k : ℕ). drop k (bits i.bytes)) e
 
-pub either : (P : List Guessed → Type 0) (b : Bool) (xs ys : List Guessed) → P xs → P ys → P (cond b xs ys)
+pub either : (P : List Speculated → Type 0) (b : Bool) (xs ys : List Speculated) → P xs → P ys → P (cond b xs ys)
 either P true xs ys p q = p
 either P false xs ys p q = q
 
-pub after_in_range : (i : IntervalValue) (mcu : Guessed) (zs : List (List ℤ)) → IsGuessed i mcu zs → All IsInMcuRange mcu.to.predictions
+pub after_in_range : (i : IntervalValue) (mcu : Speculated) (zs : List (List ℤ)) → IsSpeculated i mcu zs → All IsInMcuRange mcu.to.predictions
 after_in_range i mcu zs is = subst (All IsInMcuRange) (sym is.run.predictions) (predicted_in_mcu_range i.head zs is.firsts)
 
 -- the predictions are greater than zeros by themselves
@@ -148,7 +148,7 @@ same_three a b p q same =
     ∙ sym (three_places b q)
 
 -- a reader at the bit where an MCU of a speculative read starts takes it over
-pub taken_over : (i : IntervalValue) (mcu : Guessed) (p to : Place) (zs ys : List (List ℤ)) → IsValid i.head → IsGuessed i mcu zs → mcu.from ≡ p.bit → length p.predictions ≡ 3 → All IsSmall p.predictions
+pub taken_over : (i : IntervalValue) (mcu : Speculated) (p to : Place) (zs ys : List (List ℤ)) → IsValid i.head → IsSpeculated i mcu zs → mcu.from ≡ p.bit → length p.predictions ≡ 3 → All IsSmall p.predictions
     → to.bit ≡ mcu.to.bit → length to.predictions ≡ 3 → AreGreater p.predictions mcu.to.predictions to.predictions → AreShifted i.head p.predictions zs ys
     → IsRun (run_from i p 1) ys to AllRead
 taken_over i mcu p to zs ys valid is from three small bit three' sums s =
@@ -163,7 +163,7 @@ taken_over i mcu p to zs ys valid is from three small bit three' sums s =
     subst (λ (ps : List ℤ). IsRun (run_from i p 1) ys (record { bit = to.bit; predictions = ps }) AllRead) last run2
 
 -- the blocks reach to the end of MCU k
-pub mcu_within : (i : IntervalValue) (g : GuessValue) (k per : ℕ) → KeepsBlocks g → IsGuessOf i g → k < length g.mcus → per ≡ length (order_of i.head) → k * per + per ≤ length g.blocks
+pub mcu_within : (i : IntervalValue) (g : SpeculationValue) (k per : ℕ) → KeepsBlocks g → IsSpeculationOf i g → k < length g.mcus → per ≡ length (order_of i.head) → k * per + per ≤ length g.blocks
 mcu_within i g k per keeps is lt size =
     let le : suc k * per ≤ length g.mcus * per = mul-le-mul_right {m = suc k} {n = length g.mcus} per (omega (arith, lt)) in
     let next : suc k * per ≡ k * per + per = omega arith in
@@ -171,19 +171,19 @@ mcu_within i g k per keeps is lt size =
     omega (arith, le, next, all, is.space keeps)
 
 -- the blocks of MCU k, as a borrowed slice
-pub lent : (i : IntervalValue) (g : GuessValue) (xs : List (List ℤ)) (k per : ℕ) → per ≡ length (order_of i.head) → xs ≡ g.blocks → take (k * per + per - k * per) (drop (k * per) xs) ≡ blocks_at i g k
+pub lent : (i : IntervalValue) (g : SpeculationValue) (xs : List (List ℤ)) (k per : ℕ) → per ≡ length (order_of i.head) → xs ≡ g.blocks → take (k * per + per - k * per) (drop (k * per) xs) ≡ blocks_at i g k
 lent i g xs k per size same =
     let n : k * per + per - k * per ≡ per = omega arith in
     ap (λ (j : ℕ). take j (drop (k * per) xs)) n ∙ ap (λ (j : ℕ). take j (drop (k * j) xs)) size ∙ ap (λ (bs : List (List ℤ)). take (length (order_of i.head)) (drop (k * length (order_of i.head)) bs)) same
 
-any_mcu : Guessed
+any_mcu : Speculated
 any_mcu = record { from = 0; to = record { bit = 0; predictions = [] } }
 
-pub some_guessed : (i : IntervalValue) (g : GuessValue) (k : ℕ) → KeepsBlocks g → IsGuessOf i g → k < length g.mcus → (mcu : Guessed) × IsGuessed i mcu (blocks_at i g k)
-some_guessed i g k keeps is lt = let e = is.each k any_mcu lt in (get_or g.mcus k any_mcu, subst (IsGuessed i (get_or g.mcus k any_mcu)) (sym (e.kept keeps)) e.is)
+pub some_speculated : (i : IntervalValue) (g : SpeculationValue) (k : ℕ) → KeepsBlocks g → IsSpeculationOf i g → k < length g.mcus → (mcu : Speculated) × IsSpeculated i mcu (blocks_at i g k)
+some_speculated i g k keeps is lt = let e = is.each k any_mcu lt in (get_or g.mcus k any_mcu, subst (IsSpeculated i (get_or g.mcus k any_mcu)) (sym (e.kept keeps)) e.is)
 
 -- a block has a DC coefficient
-pub some_first : (i : IntervalValue) (mcu : Guessed) (zs : List (List ℤ)) → IsGuessed i mcu zs → (n : ℕ) → n < length zs → 0 < length (get_or zs n [])
+pub some_first : (i : IntervalValue) (mcu : Speculated) (zs : List (List ℤ)) → IsSpeculated i mcu zs → (n : ℕ) → n < length zs → 0 < length (get_or zs n [])
 some_first i mcu zs is n lt = omega (arith, (run_in_range _ _ _ _ is.run n [] lt).count)
 
 -- shifted blocks

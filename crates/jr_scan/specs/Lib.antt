@@ -8,5 +8,5 @@ pub mod ImageEnd
 pub mod Run
 pub mod McuReader
 pub mod Cursors
-pub mod Guess
-pub mod Guesses
+pub mod Speculation
+pub mod Speculations

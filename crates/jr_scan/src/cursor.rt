@@ -4,15 +4,15 @@ ghost use Rattle.std.specs.Prelude.{◌≡◌, ◌+◌, ◌*◌, ◌<◌, ◌≤
 ghost use Rattle.jr_head.specs.Geometry.{IsValid, order_of};
 ghost use Rattle.jr_scan.specs.declared.place.Place.{Place};
 ghost use Rattle.jr_scan.specs.Cursors.{AreBlocksFrom, IsPlaceAfter, TakesMcus, interval_start, zero_block};
-ghost use Rattle.jr_scan.specs.Guesses.{AreGuessesOf};
+ghost use Rattle.jr_scan.specs.Speculations.{AreSpeculationsOf};
 ghost use Rattle.jr_scan.specs.McuReader.{HasEnded, HasRead, per_mcu};
 ghost use Rattle.jr_scan.specs.Mcus.{ReportsSound};
 ghost use Rattle.jr_scan.specs.Run.{CanReadFrom};
 
-use crate::guesses::Guesses;
 use crate::interval_ref::IntervalRef;
 use crate::mcu_reader::McuReader;
 use crate::place::Place;
+use crate::speculations::Speculations;
 use jr_base::Coefficients;
 use jr_mcu::{Kept, Skipped};
 
@@ -42,7 +42,7 @@ pub fn zero_from(blocks: &mut [Coefficients], first: usize)
 /// `blocks`. Returns their number.
 fn take_all(
     reader: &mut McuReader<'_>,
-    guesses: Option<&Guesses>,
+    speculations: Option<&Speculations>,
     mcus: u32,
     keeps: bool,
     blocks: &mut [Coefficients],
@@ -51,16 +51,16 @@ fn take_all(
     requires new { HasRead reader.old [] }
     requires all { reader.old.mcu + mcus ≡ reader.old.run.mcus }
     requires space { keeps ≡ true → mcus * per_mcu reader.old ≤ length blocks.old }
-    requires same { IfSome guesses (λ g. AreGuessesOf reader.old.run.interval g.now) }
+    requires same { IfSome speculations (λ g. AreSpeculationsOf reader.old.run.interval g.now) }
     ensures run { reader.new.run ≡ reader.old.run }
     ensures mcu { reader.new.mcu ≡ reader.old.mcu + result }
     ensures few { result ≤ mcus }
     ensures taken { (zs : List (List ℤ)) × HasRead reader.new zs × (keeps ≡ true → take (result * per_mcu reader.old) blocks.new ≡ zs) }
     ensures ended { result < mcus → HasEnded reader.new }
 {
-    match guesses {
-        Some(guesses) if keeps => reader.read_by(guesses, blocks),
-        Some(guesses) => reader.skip_by(guesses, mcus),
+    match speculations {
+        Some(speculations) if keeps => reader.read_by(speculations, blocks),
+        Some(speculations) => reader.skip_by(speculations, mcus),
         None if keeps => reader.take_mcus::<Kept>(mcus, blocks),
         None => reader.take_mcus::<Skipped>(mcus, blocks),
     }
@@ -96,14 +96,14 @@ impl Cursor {
     pub fn take(
         &mut self,
         interval: IntervalRef<'_>,
-        guesses: Option<&Guesses>,
+        speculations: Option<&Speculations>,
         most: u32,
         keeps: bool,
         blocks: &mut [Coefficients],
     ) -> u32
         requires at { IsPlaceAfter interval self.old.mcu self.old.place }
         requires space { keeps ≡ true → most * length (order_of interval.head) ≤ length blocks.old }
-        requires same { IfSome guesses (λ g. AreGuessesOf interval g.now) }
+        requires same { IfSome speculations (λ g. AreSpeculationsOf interval g.now) }
         ensures number { self.new.number ≡ self.old.number }
         ensures mcu { self.new.mcu ≡ self.old.mcu + result }
         ensures few { result ≤ most }
@@ -120,7 +120,7 @@ impl Cursor {
         };
         let mcus = most.min(interval.mcus() - self.mcu);
         let mut reader = McuReader::at(interval, from, mcus);
-        let whole = take_all(&mut reader, guesses, mcus, keeps, blocks);
+        let whole = take_all(&mut reader, speculations, mcus, keeps, blocks);
         self.mcu += whole;
         self.place = place_after(&reader, whole, mcus);
         whole
@@ -131,14 +131,14 @@ impl Cursor {
     pub fn read(
         &mut self,
         interval: IntervalRef<'_>,
-        guesses: Option<&Guesses>,
+        speculations: Option<&Speculations>,
         mcus: u32,
         blocks: &mut [Coefficients],
     )
         requires at { IsPlaceAfter interval self.old.mcu self.old.place }
         requires few { self.old.mcu + mcus ≤ interval.mcus }
         requires space { length blocks.old ≡ mcus * length (order_of interval.head) }
-        requires same { IfSome guesses (λ g. AreGuessesOf interval g.now) }
+        requires same { IfSome speculations (λ g. AreSpeculationsOf interval g.now) }
         ensures at { IsPlaceAfter interval.entry self.new.mcu self.new.place }
         ensures number { self.new.number ≡ self.old.number }
         ensures mcu { self.new.mcu ≡ self.old.mcu + mcus }
@@ -151,8 +151,8 @@ impl Cursor {
             return;
         };
         let mut reader = McuReader::at(interval, from, mcus);
-        let whole = match guesses {
-            Some(guesses) => reader.read_by(guesses, blocks),
+        let whole = match speculations {
+            Some(speculations) => reader.read_by(speculations, blocks),
             None => reader.take_mcus::<Kept>(mcus, blocks),
         };
         self.place = place_after(&reader, whole, mcus);
@@ -160,15 +160,20 @@ impl Cursor {
     }
 
     /// Skips the next MCUs of the interval.
-    pub fn skip(&mut self, interval: IntervalRef<'_>, guesses: Option<&Guesses>, mcus: u32)
+    pub fn skip(
+        &mut self,
+        interval: IntervalRef<'_>,
+        speculations: Option<&Speculations>,
+        mcus: u32,
+    )
         requires at { IsPlaceAfter interval self.old.mcu self.old.place }
         requires few { self.old.mcu + mcus ≤ interval.mcus }
-        requires same { IfSome guesses (λ g. AreGuessesOf interval g.now) }
+        requires same { IfSome speculations (λ g. AreSpeculationsOf interval g.now) }
         ensures at { IsPlaceAfter interval.entry self.new.mcu self.new.place }
         ensures number { self.new.number ≡ self.old.number }
         ensures mcu { self.new.mcu ≡ self.old.mcu + mcus }
     {
-        let whole = self.take(interval, guesses, mcus, false, &mut []);
+        let whole = self.take(interval, speculations, mcus, false, &mut []);
         self.mcu += mcus - whole;
     }
 

@@ -4,31 +4,31 @@ ghost use Rattle.std.specs.Prelude.{◌≡◌, ◌<◌, ◌≤◌, ◌+◌, ◌*
 ghost use Rattle.std.specs.List.{All};
 ghost use Rattle.jr_head.specs.Geometry.{order_of};
 ghost use Rattle.jr_mcu.specs.Block.{IsInDcRange, IsInRange};
-ghost use Rattle.jr_scan.specs.Guess.{IsGuessOf};
-ghost use Rattle.jr_scan.specs.Guesses.{AreGuessesOf};
+ghost use Rattle.jr_scan.specs.Speculation.{IsSpeculationOf};
+ghost use Rattle.jr_scan.specs.Speculations.{AreSpeculationsOf};
 ghost use Rattle.jr_scan.specs.Run.{IsRun, run_from};
 ghost use Rattle.jr_scan.specs.McuReader.{HasRead, HasEnded, per_mcu};
 ghost use Rattle.jr_scan.specs.declared.place.RunEnd.TheVariants.{AllRead};
 ghost use Rattle.jr_scan.specs.declared.mcu_reader.TheConstants.{MAX_UNITS};
 
-use crate::guess::Guess;
-use crate::guesses::Guesses;
 use crate::interval_ref::IntervalRef;
 use crate::mcu_reader::McuReader;
 use crate::place::Place;
+use crate::speculation::Speculation;
+use crate::speculations::Speculations;
 use jr_base::Coefficients;
 
 /// Takes over from a speculative read the MCUs that continue from a position, starting at its MCU `at`, at most `most`.
 /// Moves past them and returns their number.
 fn store_mcus(
-    guess: &Guess,
+    speculation: &Speculation,
     interval: &IntervalRef<'_>,
     at: usize,
     most: u32,
     place: &mut Place,
     blocks: &mut [Coefficients],
 ) -> u32
-    requires of { IsGuessOf interval.now guess.now }
+    requires of { IsSpeculationOf interval.now speculation.now }
     requires space { most * length (order_of interval.now.head) ≤ length blocks.old }
     requires within { place.old.bit ≤ 8 * length interval.now.bytes }
     requires in_range { All IsInDcRange place.old.predictions }
@@ -42,7 +42,7 @@ fn store_mcus(
         let start = k as usize * per_mcu;
         let end = start + per_mcu;
         let mcu = at.saturating_add(k as usize);
-        let Some(to) = guess.store(interval, mcu, place, &mut blocks[start..end]) else {
+        let Some(to) = speculation.store(interval, mcu, place, &mut blocks[start..end]) else {
             return k;
         };
         *place = to;
@@ -52,13 +52,13 @@ fn store_mcus(
 
 /// Does what `store_mcus` does, without the blocks.
 fn pass_mcus(
-    guess: &Guess,
+    speculation: &Speculation,
     interval: &IntervalRef<'_>,
     at: usize,
     most: u32,
     place: &mut Place,
 ) -> u32
-    requires of { IsGuessOf interval.now guess.now }
+    requires of { IsSpeculationOf interval.now speculation.now }
     requires within { place.old.bit ≤ 8 * length interval.now.bytes }
     requires in_range { All IsInDcRange place.old.predictions }
     ensures most { result ≤ most }
@@ -67,7 +67,7 @@ fn pass_mcus(
     ensures in_range { All IsInDcRange place.new.predictions }
 {
     for k in 0..most {
-        let Some(to) = guess.pass(interval, at.saturating_add(k as usize), place) else {
+        let Some(to) = speculation.pass(interval, at.saturating_add(k as usize), place) else {
             return k;
         };
         *place = to;
@@ -78,8 +78,13 @@ fn pass_mcus(
 impl<'a> McuReader<'a> {
     /// Takes over the MCUs of a speculative read starting at its MCU `at`, as `read` reads them; none if that one
     /// starts at another bit. Their number says nothing of what follows.
-    pub fn read_guessed(&mut self, guess: &Guess, at: usize, blocks: &mut [Coefficients]) -> u32
-        requires same { IsGuessOf self.old.run.interval guess.now }
+    pub fn read_speculated(
+        &mut self,
+        speculation: &Speculation,
+        at: usize,
+        blocks: &mut [Coefficients],
+    ) -> u32
+        requires same { IsSpeculationOf self.old.run.interval speculation.now }
         ensures run { self.new.run ≡ self.old.run }
         ensures mcus { self.new.mcu ≡ self.old.mcu + result }
         ensures few { self.new.mcu ≤ self.new.run.mcus }
@@ -93,7 +98,7 @@ impl<'a> McuReader<'a> {
         let space = blocks.len() / interval.head().order().len();
         let most = space.min(self.left() as usize) as u32;
         let mut place = self.place();
-        let taken = store_mcus(guess, interval, at, most, &mut place, blocks);
+        let taken = store_mcus(speculation, interval, at, most, &mut place, blocks);
         if taken > 0 {
             self.advance_to(taken, &place);
         }
@@ -102,8 +107,8 @@ impl<'a> McuReader<'a> {
 
     /// Skips the MCUs of a speculative read starting at its MCU `at`, at most `mcus`, as `skip` does; none if that one
     /// starts at another bit. Their number says nothing of what follows.
-    pub fn skip_guessed(&mut self, guess: &Guess, at: usize, mcus: u32) -> u32
-        requires same { IsGuessOf self.old.run.interval guess.now }
+    pub fn skip_speculated(&mut self, speculation: &Speculation, at: usize, mcus: u32) -> u32
+        requires same { IsSpeculationOf self.old.run.interval speculation.now }
         ensures run { self.new.run ≡ self.old.run }
         ensures mcus { self.new.mcu ≡ self.old.mcu + result }
         ensures few { self.new.mcu ≤ self.new.run.mcus }
@@ -114,7 +119,7 @@ impl<'a> McuReader<'a> {
     {
         let most = mcus.min(self.left());
         let mut place = self.place();
-        let taken = pass_mcus(guess, self.interval(), at, most, &mut place);
+        let taken = pass_mcus(speculation, self.interval(), at, most, &mut place);
         if taken > 0 {
             self.advance_to(taken, &place);
         }
@@ -122,8 +127,8 @@ impl<'a> McuReader<'a> {
     }
 
     /// Reads as `read` does, and takes over what the speculative reads have of it.
-    pub fn read_by(&mut self, guesses: &Guesses, blocks: &mut [Coefficients]) -> u32
-        requires same { AreGuessesOf self.old.run.interval guesses.now }
+    pub fn read_by(&mut self, speculations: &Speculations, blocks: &mut [Coefficients]) -> u32
+        requires same { AreSpeculationsOf self.old.run.interval speculations.now }
         ensures run { self.new.run ≡ self.old.run }
         ensures mcus { self.new.mcu ≡ self.old.mcu + result }
         ensures few { self.new.mcu ≤ self.new.run.mcus }
@@ -134,7 +139,7 @@ impl<'a> McuReader<'a> {
         ensures none { MAX_UNITS ≤ length blocks.new → result ≡ 0 → HasEnded self.new }
         ensures stays { HasEnded self.old → self.new ≡ self.old }
     {
-        if guesses.is_none() {
+        if speculations.is_none() {
             return self.read(blocks);
         }
         let per_mcu = self.interval().head().order().len();
@@ -143,7 +148,7 @@ impl<'a> McuReader<'a> {
         let mut done = 0;
         while done < most {
             let start = done as usize * per_mcu;
-            let some = self.read_some(guesses, &mut blocks[start..]);
+            let some = self.read_some(speculations, &mut blocks[start..]);
             if some == 0 {
                 return done;
             }
@@ -153,8 +158,8 @@ impl<'a> McuReader<'a> {
     }
 
     /// Takes over what one of the speculative reads has starting here, or reads the next MCU.
-    fn read_some(&mut self, guesses: &Guesses, blocks: &mut [Coefficients]) -> u32
-        requires same { AreGuessesOf self.old.run.interval guesses.now }
+    fn read_some(&mut self, speculations: &Speculations, blocks: &mut [Coefficients]) -> u32
+        requires same { AreSpeculationsOf self.old.run.interval speculations.now }
         requires space { per_mcu self.old ≤ length blocks.old }
         ensures run { self.new.run ≡ self.old.run }
         ensures mcus { self.new.mcu ≡ self.old.mcu + result }
@@ -165,8 +170,8 @@ impl<'a> McuReader<'a> {
         ensures ended { result ≡ 0 → HasEnded self.new }
         ensures stays { HasEnded self.old → self.new ≡ self.old }
     {
-        if let Some((guess, at)) = guesses.find(self.place().bit) {
-            let taken = self.read_guessed(guess, at, blocks);
+        if let Some((speculation, at)) = speculations.find(self.place().bit) {
+            let taken = self.read_speculated(speculation, at, blocks);
             if taken > 0 {
                 return taken;
             }
@@ -176,8 +181,8 @@ impl<'a> McuReader<'a> {
     }
 
     /// Skips MCUs as `skip` does, those that the speculative reads have without reading them.
-    pub fn skip_by(&mut self, guesses: &Guesses, mcus: u32) -> u32
-        requires same { AreGuessesOf self.old.run.interval guesses.now }
+    pub fn skip_by(&mut self, speculations: &Speculations, mcus: u32) -> u32
+        requires same { AreSpeculationsOf self.old.run.interval speculations.now }
         ensures run { self.new.run ≡ self.old.run }
         ensures mcus { self.new.mcu ≡ self.old.mcu + result }
         ensures few { self.new.mcu ≤ self.new.run.mcus }
@@ -186,13 +191,13 @@ impl<'a> McuReader<'a> {
         ensures ended { result < mcus → HasEnded self.new }
         ensures stays { HasEnded self.old → self.new ≡ self.old }
     {
-        if guesses.is_none() {
+        if speculations.is_none() {
             return self.skip(mcus);
         }
         let most = mcus.min(self.left());
         let mut done = 0;
         while done < most {
-            let some = self.skip_some(guesses, most - done);
+            let some = self.skip_some(speculations, most - done);
             if some == 0 {
                 return done;
             }
@@ -202,8 +207,8 @@ impl<'a> McuReader<'a> {
     }
 
     /// Skips what one of the speculative reads has starting here, or the next MCU.
-    fn skip_some(&mut self, guesses: &Guesses, mcus: u32) -> u32
-        requires same { AreGuessesOf self.old.run.interval guesses.now }
+    fn skip_some(&mut self, speculations: &Speculations, mcus: u32) -> u32
+        requires same { AreSpeculationsOf self.old.run.interval speculations.now }
         requires some { 0 < mcus }
         ensures run { self.new.run ≡ self.old.run }
         ensures mcus { self.new.mcu ≡ self.old.mcu + result }
@@ -213,8 +218,8 @@ impl<'a> McuReader<'a> {
         ensures ended { result ≡ 0 → HasEnded self.new }
         ensures stays { HasEnded self.old → self.new ≡ self.old }
     {
-        if let Some((guess, at)) = guesses.find(self.place().bit) {
-            let taken = self.skip_guessed(guess, at, mcus);
+        if let Some((speculation, at)) = speculations.find(self.place().bit) {
+            let taken = self.skip_speculated(speculation, at, mcus);
             if taken > 0 {
                 return taken;
             }

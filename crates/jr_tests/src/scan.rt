@@ -1,4 +1,4 @@
 //! Scans: their restart intervals and the blocks of each, compared with a plain reader, and speculative reads.
 
 mod by_definition;
-mod guesses;
+mod speculations;

@@ -4,11 +4,11 @@ use Rattle.std.specs.Option.{IfSome}
 use Rattle.std.specs.declared.sync.Arc.{Arc}
 use Rattle.std.specs.declared.alloc.Global.{Global}
 use Rattle.std.specs.Arc.{arc_value}
-use Rattle.jr_scan.specs.Guesses.{AreGuessesOf}
+use Rattle.jr_scan.specs.Speculations.{AreSpeculationsOf}
 use Rattle.jr_scan.specs.IntervalValue.{IntervalValue}
 use Rattle.jr_scan.specs.ScanValue.{HasInterval}
 use Rattle.jr_scan.specs.FirstIntervalsValue.{FirstIntervalsValue}
-use Rattle.jr_work.specs.Guessing.{OfPart}
+use Rattle.jr_work.specs.Speculating.{OfPart}
 use Rattle.jr_piece.specs.StripValue.{StripValue}
 use Rattle.jr_piece.specs.Strips.{ReportsEnd}
 use Rattle.jr_wall.specs.declared.reading.End.{End}
@@ -34,14 +34,14 @@ pub record IsEndOf (known : Option FirstIntervalsValue) (e : End) : Type 0 where
 
 abbrev pub interval_of_strip : WaitingStrip → IntervalValue
 interval_of_strip (Coded s) = s.interval
-interval_of_strip (Placed s guesses) = s.interval
+interval_of_strip (Placed s speculations) = s.interval
 
 -- the speculative reads with which a strip is read are of its interval
-abbrev pub HasItsGuesses : WaitingStrip → Type 0
-HasItsGuesses (Coded s) = Unit {0}
-HasItsGuesses (Placed s guesses) = AreGuessesOf s.interval guesses
+abbrev pub HasItsSpeculations : WaitingStrip → Type 0
+HasItsSpeculations (Coded s) = Unit {0}
+HasItsSpeculations (Placed s speculations) = AreSpeculationsOf s.interval speculations
 
 -- what follows is of an interval of the scan
 abbrev pub IsNextOf : Option FirstIntervalsValue → Next → Type 0
-IsNextOf known (Strip s) = IsOneOf known (interval_of_strip s) × HasItsGuesses s
+IsNextOf known (Strip s) = IsOneOf known (interval_of_strip s) × HasItsSpeculations s
 IsNextOf known (Ended e) = IsEndOf known e

@@ -13,7 +13,7 @@ use jr_base::limits::MAX_WORKERS;
 use jr_piece::{Piece, Strip};
 use jr_scan::{FirstIntervals, Interval};
 use jr_work::tuning::{MAX_TASKS, MIN_READERS, MIN_READS, READS_OF_STRIP_WORKER, STEPS_OF_BUFFER};
-use jr_work::{BufferSize, GuessQueue, OneScan, SharedWork, Task, WorkQueue, windows_of};
+use jr_work::{BufferSize, OneScan, SharedWork, SpeculationQueue, Task, WorkQueue, windows_of};
 use std::alloc::Global;
 use std::marker::Model;
 use std::sync::{Arc, Wait};
@@ -42,18 +42,18 @@ impl<S: OneScan> Model for Job<S> {
 
 /// Opens a queue of speculative reads of interval i of a scan, which is read in steps of `step` MCUs, by `workers`
 /// workers, which bring the buffers. It makes none if they are not worth their work, or if allocation fails.
-fn open_guesses<S: OneScan>(
+fn open_speculations<S: OneScan>(
     alloc: Global,
     part: &FirstIntervals<'_>,
     i: u32,
     step: u32,
     workers: usize,
-) -> GuessQueue<S>
+) -> SpeculationQueue<S>
     requires { i < length part.now.scan.intervals }
 {
     let windows = windows_of(part.scan(), i);
     if workers < MIN_READERS as usize || windows < MIN_READS {
-        return GuessQueue::none(alloc);
+        return SpeculationQueue::none(alloc);
     }
     let most = workers.min(MAX_WORKERS as usize) as u32 * READS_OF_STRIP_WORKER;
     let count = windows.min(u64::from(most)) as u32;
@@ -62,9 +62,9 @@ fn open_guesses<S: OneScan>(
         keeps_blocks: true,
     };
     let limit = i.saturating_add(1);
-    match GuessQueue::open(alloc, part, i, limit, count, step, size) {
+    match SpeculationQueue::open(alloc, part, i, limit, count, step, size) {
         Ok(queue) => queue,
-        Err(_) => GuessQueue::none(alloc),
+        Err(_) => SpeculationQueue::none(alloc),
     }
 }
 
@@ -89,10 +89,10 @@ impl<S: OneScan> Job<S> {
             return Err(Memory);
         };
         let reading = IntervalReading::of(read);
-        let guesses = open_guesses(alloc, part, i, strip_mcus(&interval), workers);
+        let speculations = open_speculations(alloc, part, i, strip_mcus(&interval), workers);
         let gathered = Gathered::of(alloc, kept);
         let work = StripWork::of(alloc, gathered, workers.saturating_sub(1).max(1));
-        let mut queue = WorkQueue::of(alloc, guesses, work);
+        let mut queue = WorkQueue::of(alloc, speculations, work);
         queue.store(part, None, Some(reading));
         Ok(Job {
             interval,

@@ -3,13 +3,13 @@
 ghost use Rattle.std.specs.Prelude.{◌≡◌, ◌<◌, IfOk, IfSome, IfNone};
 ghost use Rattle.std.specs.Arc.{arc_value};
 ghost use Rattle.jr_scan.specs.Mcus.{HasLongestFront};
-ghost use Rattle.jr_scan.specs.Guesses.{AreGuessesOf};
-ghost use Rattle.jr_wall.specs.Sharing.{IsOneOf, IsNextOf, interval_of_strip, HasItsGuesses};
+ghost use Rattle.jr_scan.specs.Speculations.{AreSpeculationsOf};
+ghost use Rattle.jr_wall.specs.Sharing.{IsOneOf, IsNextOf, interval_of_strip, HasItsSpeculations};
 
 use crate::waiting_strip::WaitingStrip;
 use jr_base::{Coefficients, Memory};
 use jr_piece::StripReader;
-use jr_scan::{Guesses, Interval};
+use jr_scan::{Interval, Speculations};
 use jr_work::OneScan;
 use jr_work::tuning::{MAX_UNITS_OF_STRIP, MIN_MCUS_OF_STRIP, MIN_STRIPS};
 use std::alloc::Global;
@@ -48,21 +48,21 @@ pub(crate) enum Next {
 fn next_strip(
     alloc: Global,
     reader: &mut StripReader,
-    guesses: &Guesses,
+    speculations: &Speculations,
     each: u32,
 ) -> Result<Option<WaitingStrip>, Memory>
-    requires { AreGuessesOf reader.old.interval guesses.now }
+    requires { AreSpeculationsOf reader.old.interval speculations.now }
     ensures interval { reader.new.interval ≡ reader.old.interval }
-    ensures guesses { IfOk result (λ o. IfSome o HasItsGuesses) }
+    ensures speculations { IfOk result (λ o. IfSome o HasItsSpeculations) }
     ensures of { IfOk result (λ o. IfSome o (λ s. interval_of_strip s ≡ reader.old.interval)) }
     ensures none { IfOk result (λ o. IfNone o (0 < each → HasLongestFront reader.old.interval reader.old.first)) }
     ensures same { IfOk result (λ o. IfNone o (reader.new ≡ reader.old)) }
 {
-    if !guesses.is_none() {
-        let Some(strip) = reader.skip_by(guesses, each)? else {
+    if !speculations.is_none() {
+        let Some(strip) = reader.skip_by(speculations, each)? else {
             return Ok(None);
         };
-        return Ok(Some(WaitingStrip::Placed(strip, guesses.fork())));
+        return Ok(Some(WaitingStrip::Placed(strip, speculations.fork())));
     }
     let Some(strip) = reader.next(alloc, each)? else {
         return Ok(None);
@@ -76,13 +76,13 @@ pub(crate) struct IntervalReading<S: OneScan> {
     reader: StripReader,
     each: u32,
     /// The reads by which the next strip is skipped; if there are none, it is read.
-    guesses: Guesses,
+    speculations: Speculations,
     of: PhantomData<S>,
 }
 
 impl<S: OneScan> Model for IntervalReading<S> {
     ghost use Rattle.std.specs.Prelude.{◌<◌};
-    ghost use Rattle.jr_scan.specs.Guesses.{AreGuessesOf};
+    ghost use Rattle.jr_scan.specs.Speculations.{AreSpeculationsOf};
     ghost use Rattle.jr_scan.specs.IntervalValue.{IntervalValue};
     ghost use Rattle.jr_wall.specs.Sharing.{IsOneOf};
 
@@ -90,7 +90,7 @@ impl<S: OneScan> Model for IntervalReading<S> {
 
     ghost view = { λ r. r.reader.interval };
 
-    ghost invariant = { λ r. IsOneOf S.part r.reader.interval × (0 < r.each) × AreGuessesOf r.reader.interval r.guesses };
+    ghost invariant = { λ r. IsOneOf S.part r.reader.interval × (0 < r.each) × AreSpeculationsOf r.reader.interval r.speculations };
 }
 
 impl<S: OneScan> IntervalReading<S> {
@@ -103,7 +103,7 @@ impl<S: OneScan> IntervalReading<S> {
         IntervalReading {
             reader: StripReader::over(interval),
             each,
-            guesses: Guesses::none(),
+            speculations: Speculations::none(),
             of: PhantomData,
         }
     }
@@ -128,11 +128,11 @@ impl<S: OneScan> IntervalReading<S> {
     }
 
     /// Sets the speculative reads by which the next strip is skipped, if any.
-    pub(crate) fn guide(&mut self, guesses: Guesses)
-        requires { AreGuessesOf self.old guesses }
+    pub(crate) fn guide(&mut self, speculations: Speculations)
+        requires { AreSpeculationsOf self.old speculations }
         ensures { self.new ≡ self.old }
     {
-        drop(replace(&mut self.guesses, guesses));
+        drop(replace(&mut self.speculations, speculations));
     }
 
     /// Reads the next strip, or skips it.
@@ -140,7 +140,7 @@ impl<S: OneScan> IntervalReading<S> {
         ensures { IfOk result (IsNextOf S.part) }
     {
         let reader = &mut self.reader;
-        if let Some(strip) = next_strip(alloc, reader, &self.guesses, self.each)? {
+        if let Some(strip) = next_strip(alloc, reader, &self.speculations, self.each)? {
             return Ok(Next::Strip(strip));
         }
         Ok(Next::End(End {

@@ -2,15 +2,15 @@
 
 ghost use Rattle.std.specs.Prelude.{◌≡◌, IfOk, Some};
 ghost use Rattle.std.specs.Arc.{arc_value};
-ghost use Rattle.jr_wall.specs.Sharing.{IsOneOf, interval_of_strip, HasItsGuesses};
+ghost use Rattle.jr_wall.specs.Sharing.{IsOneOf, interval_of_strip, HasItsSpeculations};
 
 use crate::gathered::Gathered;
 use crate::reading::IntervalReading;
 use crate::waiting_strip::WaitingStrip;
 use jr_base::{Coefficients, Memory};
 use jr_piece::Strip;
-use jr_scan::{FirstIntervals, Guesses};
-use jr_work::{GuessQueue, OneScan, Work};
+use jr_scan::{FirstIntervals, Speculations};
+use jr_work::{OneScan, SpeculationQueue, Work};
 use std::alloc::Global;
 use std::marker::{Model, PhantomData};
 use std::sync::Arc;
@@ -24,19 +24,19 @@ pub(crate) struct ScanStrip<S: OneScan> {
 
 impl<S: OneScan> Model for ScanStrip<S> {
     ghost use Rattle.jr_scan.specs.IntervalValue.{IntervalValue};
-    ghost use Rattle.jr_wall.specs.Sharing.{IsOneOf, interval_of_strip, HasItsGuesses};
+    ghost use Rattle.jr_wall.specs.Sharing.{IsOneOf, interval_of_strip, HasItsSpeculations};
 
     ghost Value = { IntervalValue };
 
     ghost view = { λ c. interval_of_strip c.strip };
 
-    ghost invariant = { λ c. IsOneOf S.part (interval_of_strip c.strip) × HasItsGuesses c.strip };
+    ghost invariant = { λ c. IsOneOf S.part (interval_of_strip c.strip) × HasItsSpeculations c.strip };
 }
 
 impl<S: OneScan> ScanStrip<S> {
     pub(crate) fn of(strip: WaitingStrip) -> ScanStrip<S>
         requires own { IsOneOf S.part (interval_of_strip strip) }
-        requires guesses { HasItsGuesses strip }
+        requires speculations { HasItsSpeculations strip }
         ensures { result ≡ interval_of_strip strip }
     {
         ScanStrip {
@@ -116,14 +116,14 @@ impl<S: OneScan> Work<S> for StripWork<S> {
         &mut self,
         part: &FirstIntervals<'_>,
         mut reader: IntervalReading<S>,
-        guesses: &GuessQueue<S>,
+        speculations: &SpeculationQueue<S>,
         skips: bool,
     ) -> Option<(IntervalReading<S>, Option<IntervalReading<S>>)> {
         if skips {
-            let guesses = guesses.for_next(part, reader.number());
-            reader.guide(guesses);
+            let speculations = speculations.for_next(part, reader.number());
+            reader.guide(speculations);
         } else {
-            reader.guide(Guesses::none());
+            reader.guide(Speculations::none());
             if let Some(blocks) = self.spare.pop() {
                 reader.lend(blocks);
             }

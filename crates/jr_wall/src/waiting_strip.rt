@@ -1,11 +1,11 @@
 //! A strip of a shared interval that waits for a free worker.
 
 ghost use Rattle.std.specs.Prelude.{◌≡◌, IfOk};
-ghost use Rattle.jr_wall.specs.Sharing.{interval_of_strip, HasItsGuesses};
+ghost use Rattle.jr_wall.specs.Sharing.{interval_of_strip, HasItsSpeculations};
 
 use jr_base::{Coefficients, Memory};
 use jr_piece::{CodedStrip, PlacedStrip, Strip};
-use jr_scan::Guesses;
+use jr_scan::Speculations;
 use std::alloc::Global;
 
 /// A strip that waits: its blocks are read, or it is skipped, and then its position is known and speculative reads have
@@ -13,18 +13,18 @@ use std::alloc::Global;
 #[derive(Drop)]
 pub(crate) enum WaitingStrip {
     Coded(CodedStrip),
-    Placed(PlacedStrip, Guesses),
+    Placed(PlacedStrip, Speculations),
 }
 
 impl WaitingStrip {
     /// Returns the strip's samples.
     pub(crate) fn decode(&self, alloc: Global) -> Result<Strip, Memory>
-        requires { HasItsGuesses self.now }
+        requires { HasItsSpeculations self.now }
         ensures { IfOk result (λ s. s.interval ≡ interval_of_strip self.now) }
     {
         match self {
             WaitingStrip::Coded(strip) => strip.decode(alloc),
-            WaitingStrip::Placed(strip, guesses) => strip.decode_by(alloc, guesses),
+            WaitingStrip::Placed(strip, speculations) => strip.decode_by(alloc, speculations),
         }
     }
 

@@ -1,1 +1,1 @@
-pub mod Guessing
+pub mod Speculating

@@ -4,12 +4,12 @@
 
 mod beside;
 mod choice;
-mod guess_queue;
-mod guess_slot;
-mod guess_task;
 mod one_scan;
-mod scan_guess;
+mod scan_speculation;
 mod shared_work;
+mod speculation_queue;
+mod speculation_slot;
+mod speculation_task;
 mod task;
 pub mod tuning;
 mod window;
@@ -17,10 +17,10 @@ mod work;
 mod work_queue;
 
 pub use beside::{Beside, Help, run_beside};
-pub use guess_queue::{GuessQueue, windows_of};
 pub use one_scan::OneScan;
-pub use scan_guess::BufferSize;
+pub use scan_speculation::BufferSize;
 pub use shared_work::SharedWork;
+pub use speculation_queue::{SpeculationQueue, windows_of};
 pub use task::{Assist, Task};
 pub use work::Work;
 pub use work_queue::WorkQueue;

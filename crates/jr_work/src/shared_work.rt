@@ -3,7 +3,7 @@
 ghost use Rattle.std.specs.Prelude.{◌≡◌, Some};
 
 use crate::one_scan::OneScan;
-use crate::scan_guess::ScanGuess;
+use crate::scan_speculation::ScanSpeculation;
 use crate::task::{Assist, Task};
 use crate::work::Work;
 use crate::work_queue::WorkQueue;
@@ -82,11 +82,11 @@ impl<S: OneScan, W: Work<S>> SharedWork<S, W> {
         match assist {
             Assist::Speculate(task) => {
                 let made = task.make(part);
-                self.queue.lock(rt).guesses.store(made);
+                self.queue.lock(rt).speculations.store(made);
             }
             Assist::Bring(size) => {
-                if let Ok(space) = ScanGuess::open(alloc, part, size) {
-                    self.queue.lock(rt).guesses.bring(space);
+                if let Ok(space) = ScanSpeculation::open(alloc, part, size) {
+                    self.queue.lock(rt).speculations.bring(space);
                 }
             }
             Assist::FreeRead(slot) => drop(slot),

@@ -1,9 +1,9 @@
 //! What a thread does next.
 
-use crate::guess_slot::GuessSlot;
-use crate::guess_task::GuessTask;
 use crate::one_scan::OneScan;
-use crate::scan_guess::BufferSize;
+use crate::scan_speculation::BufferSize;
+use crate::speculation_slot::SpeculationSlot;
+use crate::speculation_task::SpeculationTask;
 use crate::work::Work;
 
 /// The next task of a thread.
@@ -21,11 +21,11 @@ pub enum Task<S: OneScan, W: Work<S>> {
 #[derive(Drop)]
 pub enum Assist<S: OneScan, W: Work<S>> {
     /// Makes a speculative read.
-    Speculate(GuessTask<S>),
+    Speculate(SpeculationTask<S>),
     /// Brings a buffer for a speculative read.
     Bring(BufferSize),
     /// Frees the buffer of a speculative read.
-    FreeRead(GuessSlot<S>),
+    FreeRead(SpeculationSlot<S>),
     /// Frees other memory.
     Free(W::Spare),
 }

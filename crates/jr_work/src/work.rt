@@ -2,8 +2,8 @@
 
 ghost use Rattle.std.specs.Prelude.{◌≡◌, Some};
 
-use crate::guess_queue::GuessQueue;
 use crate::one_scan::OneScan;
+use crate::speculation_queue::SpeculationQueue;
 use jr_scan::FirstIntervals;
 
 /// Work on a scan that threads share: one at a time reads it, a step after the other, and any of them finishes a step
@@ -31,7 +31,7 @@ pub trait Work<S: OneScan>: Drop {
         &mut self,
         part: &FirstIntervals<'_>,
         reader: Self::Reader,
-        guesses: &GuessQueue<S>,
+        speculations: &SpeculationQueue<S>,
         skips: bool,
     ) -> Option<(Self::Begun, Option<Self::Reader>)>
         requires { S.part ≡ Some part.now };

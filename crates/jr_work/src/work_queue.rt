@@ -4,8 +4,8 @@ ghost use Rattle.std.specs.Prelude.{◌≡◌, Some, false, true};
 ghost use Rattle.std.specs.VecDeque.{deque_len};
 
 use crate::choice::NextTask;
-use crate::guess_queue::GuessQueue;
 use crate::one_scan::OneScan;
+use crate::speculation_queue::SpeculationQueue;
 use crate::task::{Assist, Task};
 use crate::work::Work;
 use jr_base::Memory;
@@ -24,7 +24,7 @@ pub struct WorkQueue<S: OneScan, W: Work<S>> {
     is_over: bool,
     /// In their order.
     unfinished: VecDeque<W::Unfinished>,
-    pub guesses: GuessQueue<S>,
+    pub speculations: SpeculationQueue<S>,
     /// Number of threads that wait for a task.
     pub(crate) waiting: u32,
     /// Whether the calling thread waits for what the others do.
@@ -34,12 +34,12 @@ pub struct WorkQueue<S: OneScan, W: Work<S>> {
 
 impl<S: OneScan, W: Work<S>> WorkQueue<S, W> {
     /// Returns a queue in which no step can begin yet.
-    pub fn of(alloc: Global, guesses: GuessQueue<S>, work: W) -> WorkQueue<S, W> {
+    pub fn of(alloc: Global, speculations: SpeculationQueue<S>, work: W) -> WorkQueue<S, W> {
         WorkQueue {
             reader: None,
             is_over: false,
             unfinished: VecDeque::new(alloc),
-            guesses,
+            speculations,
             waiting: 0,
             is_awaited: false,
             work,
@@ -59,8 +59,8 @@ impl<S: OneScan, W: Work<S>> WorkQueue<S, W> {
         ensures end { result ≡ NextTask.End → (deque_len self.now.unfinished ≡ 0) × (self.now.is_over ≡ true) }
     {
         let can_begin = self.reader.is_some() && self.work.has_space(self.unfinished.len());
-        if can_begin && !self.is_over && !self.guesses.makes_next(part) {
-            return if self.guesses.has_next(part) {
+        if can_begin && !self.is_over && !self.speculations.makes_next(part) {
+            return if self.speculations.has_next(part) {
                 NextTask::Skip
             } else {
                 NextTask::Read
@@ -70,7 +70,7 @@ impl<S: OneScan, W: Work<S>> WorkQueue<S, W> {
             NextTask::Finish
         } else if self.is_over {
             NextTask::End
-        } else if self.guesses.can_guess(part) || self.guesses.wants_space(part) {
+        } else if self.speculations.can_speculate(part) || self.speculations.wants_space(part) {
             NextTask::Speculate
         } else {
             NextTask::Wait
@@ -94,7 +94,7 @@ impl<S: OneScan, W: Work<S>> WorkQueue<S, W> {
         let Some(reader) = self.reader.take() else {
             return None;
         };
-        let begun = self.work.begin(part, reader, &self.guesses, skips);
+        let begun = self.work.begin(part, reader, &self.speculations, skips);
         let Some((step, reader)) = begun else {
             return None;
         };
@@ -104,10 +104,10 @@ impl<S: OneScan, W: Work<S>> WorkQueue<S, W> {
 
     /// Takes the next speculative read, or the size of a buffer that the thread is to bring.
     fn speculate(&mut self, part: &FirstIntervals<'_>) -> Option<Task<S, W>> {
-        if let Some(guess) = self.guesses.take(part) {
-            return Some(Task::Assist(Assist::Speculate(guess)));
+        if let Some(speculation) = self.speculations.take(part) {
+            return Some(Task::Assist(Assist::Speculate(speculation)));
         }
-        let Some(size) = self.guesses.lacks_space() else {
+        let Some(size) = self.speculations.lacks_space() else {
             return None;
         };
         Some(Task::Assist(Assist::Bring(size)))
@@ -115,7 +115,7 @@ impl<S: OneScan, W: Work<S>> WorkQueue<S, W> {
 
     /// Takes memory that no thread needs any more: buffers of speculative reads first, since they are larger.
     fn spare(&mut self) -> Option<Task<S, W>> {
-        if let Some(slot) = self.guesses.spare() {
+        if let Some(slot) = self.speculations.spare() {
             return Some(Task::Assist(Assist::FreeRead(slot)));
         }
         let Some(spare) = self.work.spare() else {
@@ -173,7 +173,7 @@ impl<S: OneScan, W: Work<S>> WorkQueue<S, W> {
             return;
         }
         let (number, bit) = self.work.position(part, &reader);
-        self.guesses.reach(part, number, bit);
+        self.speculations.reach(part, number, bit);
         drop(replace(&mut self.reader, Some(reader)));
     }
 

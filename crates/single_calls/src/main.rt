@@ -4,7 +4,7 @@
 //! standard error is before each call and one after it, so that a library that is loaded before this program can refuse
 //! memory in one call alone, as `tools/refuse-memory` does.
 //!
-//! `single_calls --guesses FILE ..` reads each file by speculative reads, and reports how many come into step, and how
+//! `single_calls --speculations FILE ..` reads each file by speculative reads, and reports how many come into step, and how
 //! many MCUs are taken over, for `tools/compare-workers`.
 //!
 //! `single_calls --arriving BYTES < photo.jpg > photo.ppm` writes the image while the file arrives in parts of at most
@@ -13,16 +13,16 @@
 #![tactic(auto)]
 
 mod caller;
-mod guesses;
 mod intervals;
 mod keeping;
 mod partial_file;
+mod speculations;
 mod strips;
 mod writing;
 
 use caller::{Caller, scan_of};
-use guesses::{guess_counts, report_guesses};
 use jr_scan::Scan;
+use speculations::{report_speculations, speculation_counts};
 use std::io::Write;
 use std::process::ExitCode;
 use std::sync::{Arc, Wait};
@@ -79,7 +79,7 @@ fn report_of_file<R: Threads + Wait + Sync, W: Write>(
 /// What is done with the arguments after one that names it.
 #[derive(Clone, Copy)]
 enum Task {
-    Guesses,
+    Speculations,
     Calls,
     PartialFile,
 }
@@ -87,7 +87,7 @@ enum Task {
 /// Returns the task that an argument names, if it names one.
 fn task_of(word: &str) -> Option<Task> {
     match word {
-        "--guesses" => Some(Task::Guesses),
+        "--speculations" => Some(Task::Speculations),
         "--calls" => Some(Task::Calls),
         "--arriving" => Some(Task::PartialFile),
         _ => None,
@@ -101,10 +101,10 @@ fn scan_at(rt: &HostRuntime, name: &str) -> Option<Arc<Scan>> {
 }
 
 /// Reports the use of speculative reads of a file. `None` if there is no such file, or allocation fails.
-fn report_guesses_of(rt: &HostRuntime, name: &str) -> Option<()> {
+fn report_speculations_of(rt: &HostRuntime, name: &str) -> Option<()> {
     let scan = scan_at(rt, name)?;
-    let counts = guess_counts(rt.alloc(), &scan)?;
-    report_guesses(&mut rt.stdout(), &counts);
+    let counts = speculation_counts(rt.alloc(), &scan)?;
+    report_speculations(&mut rt.stdout(), &counts);
     Some(())
 }
 
@@ -126,7 +126,7 @@ fn report_calls_on<R: Threads + Wait + Sync>(
 /// Does a task with an argument, and returns the exit status.
 fn run<R: Threads + Wait + Sync>(rt: &HostRuntime, threads: &R, task: Task, word: &str) -> u8 {
     let done = match task {
-        Task::Guesses => report_guesses_of(rt, word),
+        Task::Speculations => report_speculations_of(rt, word),
         Task::Calls => report_calls_on(rt, threads, word),
         Task::PartialFile => return partial_file::show_input(rt, word),
     };

@@ -10,4 +10,4 @@ invariant_of-result g c =
     let part = c.args.part.now in
     let down = c.shape_of.ensures.down ∙ ap mcus_down (c.head.ensures.value ∙ ap (λ (s : ScanValue). s.head) c.scan.ensures) in
     let row : c.args.rows.row < mcus_down part.scan.head = search (rules, arith, down, c.row.ensures) in
-    subst (λ (k : Option FirstIntervalsValue). HaveNext k c.args.rows c.none.result) (sym c.requires.part) (record { rows = c.requires.rows; row = row; guesses = c.none.ensures part.scan })
+    subst (λ (k : Option FirstIntervalsValue). HaveNext k c.args.rows c.none.result) (sym c.requires.part) (record { rows = c.requires.rows; row = row; speculations = c.none.ensures part.scan })

@@ -8,7 +8,7 @@ use Rattle.jr_head.specs.HeadValue.{HeadValue}
 use Rattle.jr_head.specs.Geometry.{blocks_of, mcus_of, order_of, quantiser_of}
 use Rattle.jr_idct.specs.Transform.{samples}
 use Rattle.jr_mcu.specs.Mcus.{component}
-use Rattle.jr_scan.specs.Guesses.{AreGuessesOf}
+use Rattle.jr_scan.specs.Speculations.{AreSpeculationsOf}
 use Rattle.jr_scan.specs.IntervalValue.{IntervalValue}
 use Rattle.jr_scan.specs.ScanValue.{ScanValue, interval_of, intervals_of}
 use Rattle.jr_scan.specs.Mcus.{units_before}
@@ -67,7 +67,7 @@ read-requires-clause-same c =
     let t = c.args.part.now.scan in
     let r = c.ready.new.cursor in
     let interval : c.fork.result ≡ interval_of t r.number = c.fork.ensures ∙ c.interval_ref-interval.ensures ∙ ap (λ (s : ScanValue). interval_of s r.number) c.scan-scan.ensures in
-    subst (λ (i : IntervalValue). IfSome c.of_interval-own.result (λ g. AreGuessesOf i g.now)) (sym interval) (c.of_interval-own.ensures t c.requires.same)
+    subst (λ (i : IntervalValue). IfSome c.of_interval-own.result (λ g. AreSpeculationsOf i g.now)) (sym interval) (c.of_interval-own.ensures t c.requires.same)
 
 pub mark_ended-more-requires-clause-decoded : goal.mark_ended-more-requires-clause-decoded
 mark_ended-more-requires-clause-decoded c =

@@ -1,6 +1,6 @@
 use Rattle.std.proofs.Common.{arith, sym, subst, min, ◌≡◌, ℕ, ◌+◌, ◌-◌, ◌<◌, ◌≤◌}
 use Rattle.std.specs.Option.{IfSome}
-use Rattle.jr_scan.specs.Guesses.{AreGuessesOf}
+use Rattle.jr_scan.specs.Speculations.{AreSpeculationsOf}
 use Rattle.jr_scan.specs.IntervalValue.{IntervalValue}
 use Rattle.jr_scan.specs.Cursors.{IsPlaceAfter}
 use Rattle.jr_rows.specs.Cursors.{mcus_to}
@@ -8,7 +8,7 @@ use Rattle.jr_rows.proofs.intervals.skip_mcus.Goals as goal
 
 pub skip-requires-clause-same : goal.skip-requires-clause-same
 skip-requires-clause-same c =
-    subst (λ (i : IntervalValue). IfSome c.of_interval-own.result (λ g. AreGuessesOf i g.now)) (sym c.interval_ref-interval.ensures) (c.of_interval-own.ensures c.args.scan.now c.requires.same)
+    subst (λ (i : IntervalValue). IfSome c.of_interval-own.result (λ g. AreSpeculationsOf i g.now)) (sym c.interval_ref-interval.ensures) (c.of_interval-own.ensures c.args.scan.now c.requires.same)
 
 -- the MCUs that an interval has left, at most those that are still to be skipped
 some_of : (some left rest : ℕ) → some ≡ min left rest → some ≤ rest

@@ -4,7 +4,7 @@ use Rattle.jr_head.specs.Geometry.{mcus_of}
 use Rattle.jr_rows.proofs.IntervalPlaces.{first_few}
 use Rattle.std.specs.Option.{IfSome}
 use Rattle.jr_scan.specs.ScanValue.{ScanValue}
-use Rattle.jr_rows.specs.Cursors.{AreGuessesIn, IsCursorOf, mcus_to}
+use Rattle.jr_rows.specs.Cursors.{AreSpeculationsIn, IsCursorOf, mcus_to}
 use Rattle.jr_rows.specs.Rows.{coded_before}
 use Rattle.jr_rows.proofs.rows.Rows.skip.Goals as goal
 
@@ -19,7 +19,7 @@ pub skip_mcus-requires-clause-lies : goal.skip_mcus-requires-clause-lies
 skip_mcus-requires-clause-lies c = subst (λ (s : ScanValue). IsCursorOf s c.args.self.now.cursor) (sym c.scan-scan.ensures) c.requires.rows.lies
 
 pub skip_mcus-requires-clause-same : goal.skip_mcus-requires-clause-same
-skip_mcus-requires-clause-same c = subst (λ (s : ScanValue). IfSome c.args.guesses (λ g. AreGuessesIn s g.now)) (sym c.scan-scan.ensures) c.requires.same
+skip_mcus-requires-clause-same c = subst (λ (s : ScanValue). IfSome c.args.speculations (λ g. AreSpeculationsIn s g.now)) (sym c.scan-scan.ensures) c.requires.same
 
 pub returns-clause-rows : goal.returns-clause-rows
 returns-clause-rows c =

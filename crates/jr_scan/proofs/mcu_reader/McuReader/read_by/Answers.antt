@@ -9,7 +9,7 @@ use Rattle.jr_head.specs.Geometry.{order_of}
 use Rattle.jr_head.specs.HeadValue.{HeadValue}
 use Rattle.jr_mcu.specs.Block.{IsInRange}
 use Rattle.jr_scan.specs.IntervalValue.{IntervalValue}
-use Rattle.jr_scan.specs.Guesses.{AreGuessesOf}
+use Rattle.jr_scan.specs.Speculations.{AreSpeculationsOf}
 use Rattle.jr_scan.specs.McuReader.{McuReaderValue, HasRead, per_mcu}
 use Rattle.jr_scan.specs.Run.{RunOf}
 use Rattle.jr_scan.proofs.TakingOver.{HaveRead, read_both, stays_both}
@@ -148,7 +148,7 @@ slice_bounds-read_some-count c =
     omega (arith, c.loop-done.invariant.fits, ap (λ (n : ℕ). c.loop-done.done * n) size)
 
 pub read_some-some-requires-clause-same : goal.read_some-some-requires-clause-same
-read_some-some-requires-clause-same c = subst (λ (o : RunOf). AreGuessesOf o.interval c.args.guesses.now) (sym c.loop-done.invariant.run) c.requires.same
+read_some-some-requires-clause-same c = subst (λ (o : RunOf). AreSpeculationsOf o.interval c.args.speculations.now) (sym c.loop-done.invariant.run) c.requires.same
 
 pub read_some-some-requires-clause-space : goal.read_some-some-requires-clause-space
 read_some-some-requires-clause-space c =

@@ -11,7 +11,7 @@ use Rattle.jr_scan.proofs.mcu_reader.McuReader.read_some.Goals as goal
 pub returns-clause-read : goal.returns-clause-read
 returns-clause-read c =
     let same : c.match-find.self ≡ c.args.self.now = elim c.match-find.branch [
-      | in-Some+else-taken-gt0 w ↦ w.self-is ∙ w.read_guessed-taken.ensures.none (omega (arith, w.if-taken-gt0.false))
+      | in-Some+else-taken-gt0 w ↦ w.self-is ∙ w.read_speculated-taken.ensures.none (omega (arith, w.if-taken-gt0.false))
       | in_default w ↦ w.self-is
     ] in
     let bs = c.read.new.blocks in
@@ -24,7 +24,7 @@ returns-clause-read c =
 pub returns-clause-in_range : goal.returns-clause-in_range
 returns-clause-in_range c =
     let same : c.match-find.self ≡ c.args.self.now = elim c.match-find.branch [
-      | in-Some+else-taken-gt0 w ↦ w.self-is ∙ w.read_guessed-taken.ensures.none (omega (arith, w.if-taken-gt0.false))
+      | in-Some+else-taken-gt0 w ↦ w.self-is ∙ w.read_speculated-taken.ensures.none (omega (arith, w.if-taken-gt0.false))
       | in_default w ↦ w.self-is
     ] in
     let bs = c.read.new.blocks in
@@ -37,7 +37,7 @@ returns-clause-in_range c =
 pub returns-clause-stays : goal.returns-clause-stays
 returns-clause-stays c =
     let same : c.match-find.self ≡ c.args.self.now = elim c.match-find.branch [
-      | in-Some+else-taken-gt0 w ↦ w.self-is ∙ w.read_guessed-taken.ensures.none (omega (arith, w.if-taken-gt0.false))
+      | in-Some+else-taken-gt0 w ↦ w.self-is ∙ w.read_speculated-taken.ensures.none (omega (arith, w.if-taken-gt0.false))
       | in_default w ↦ w.self-is
     ] in
     subst (λ (r : McuReaderValue). HasEnded r → c.read.new.self ≡ r) same c.read.ensures.stays
@@ -45,7 +45,7 @@ returns-clause-stays c =
 pub returns-clause-run : goal.returns-clause-run
 returns-clause-run c =
     let same : c.match-find.self ≡ c.args.self.now = elim c.match-find.branch [
-      | in-Some+else-taken-gt0 w ↦ w.self-is ∙ w.read_guessed-taken.ensures.none (omega (arith, w.if-taken-gt0.false))
+      | in-Some+else-taken-gt0 w ↦ w.self-is ∙ w.read_speculated-taken.ensures.none (omega (arith, w.if-taken-gt0.false))
       | in_default w ↦ w.self-is
     ] in
     c.read.ensures.run ∙ ap (λ (r : McuReaderValue). r.run) same
@@ -53,7 +53,7 @@ returns-clause-run c =
 pub returns-clause-mcus : goal.returns-clause-mcus
 returns-clause-mcus c =
     let same : c.match-find.self ≡ c.args.self.now = elim c.match-find.branch [
-      | in-Some+else-taken-gt0 w ↦ w.self-is ∙ w.read_guessed-taken.ensures.none (omega (arith, w.if-taken-gt0.false))
+      | in-Some+else-taken-gt0 w ↦ w.self-is ∙ w.read_speculated-taken.ensures.none (omega (arith, w.if-taken-gt0.false))
       | in_default w ↦ w.self-is
     ] in
     c.read.ensures.mcus ∙ ap (λ (r : McuReaderValue). r.mcu + c.read.result) same

@@ -8,7 +8,7 @@ use Rattle.jr_scan.proofs.mcu_reader.McuReader.skip_some.Goals as goal
 -- the reader that skips is the given one, since a speculative read of which nothing is used changes nothing
 same : (c : goal.After-skip) → c.match-find.self ≡ c.args.self.now
 same c = elim c.match-find.branch [
-  | in-Some+else-taken-gt0 w ↦ w.self-is ∙ w.skip_guessed-taken.ensures.none (omega (arith, w.if-taken-gt0.false))
+  | in-Some+else-taken-gt0 w ↦ w.self-is ∙ w.skip_speculated-taken.ensures.none (omega (arith, w.if-taken-gt0.false))
   | in_default w ↦ w.self-is
 ]
 

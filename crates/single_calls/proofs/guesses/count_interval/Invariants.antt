@@ -1,7 +1,0 @@
-use Rattle.std.proofs.Common.{◌≡◌}
-use Rattle.jr_scan.specs.ScanValue.{interval_of}
-use Rattle.jr_scan.specs.Guess.{IsGuessOf}
-use Rattle.single_calls.proofs.guesses.count_interval.Given as goal
-
-abbrev pub invariant-loop-k : goal.invariant-loop-k
-invariant-loop-k l = (l.reader.run.interval ≡ interval_of l.scan l.number) × IsGuessOf (interval_of l.scan l.number) l.guess
