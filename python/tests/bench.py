@@ -4,6 +4,7 @@ are CPU times of one thread, minima of interleaved runs."""
 import concurrent.futures
 import ctypes
 import ctypes.util
+import functools
 import io
 import sys
 import time
@@ -29,20 +30,25 @@ def by_opencv(data):
     return cv2.imdecode(numpy.frombuffer(data, numpy.uint8), cv2.IMREAD_COLOR)
 
 
-def by_turbojpeg(data):
-    """Decodes as PyTurboJPEG does."""
+@functools.cache
+def turbojpeg():
+    """Returns the library and a decoder of it."""
     name = ctypes.util.find_library("turbojpeg")
     if not name:
         raise ImportError
     library = ctypes.CDLL(name)
     library.tjInitDecompress.restype = ctypes.c_void_p
-    handle = ctypes.c_void_p(library.tjInitDecompress())
+    return library, ctypes.c_void_p(library.tjInitDecompress())
+
+
+def by_turbojpeg(data):
+    """Decodes as PyTurboJPEG does."""
+    library, handle = turbojpeg()
     size = ctypes.c_ulong(len(data))
     width, height = ctypes.c_int(), ctypes.c_int()
     library.tjDecompressHeader(handle, data, size, ctypes.byref(width), ctypes.byref(height))
     pixels = numpy.empty((height.value, width.value, 3), numpy.uint8)
-    library.tjDecompress2(handle, data, size, pixels.ctypes.data_as(ctypes.c_void_p), width, 0, height, 0, 2048)
-    library.tjDestroy(handle)
+    library.tjDecompress2(handle, data, size, pixels.ctypes.data_as(ctypes.c_void_p), width, 0, height, 0, 0)
     return pixels
 
 
