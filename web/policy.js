@@ -9,6 +9,6 @@ export function forbidConnections(allowed = []) {
   const meta = document.createElement('meta');
   const sources = allowed.length > 0 ? allowed.join(' ') : "'none'";
   meta.httpEquiv = 'Content-Security-Policy';
-  meta.content = `connect-src ${sources}; img-src 'none'; font-src 'none'; media-src 'none'; frame-src 'none'; form-action 'none'`;
+  meta.content = `connect-src ${sources}; img-src blob:; font-src 'none'; media-src 'none'; frame-src 'none'; form-action 'none'`;
   document.head.append(meta);
 }

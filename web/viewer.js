@@ -42,6 +42,7 @@ export class Viewer {
       this.#picture.mode = target.value;
     };
     byId('resync').onclick = () => this.#resynchronise();
+    byId('other-image').onerror = () => this.#offerOther(null);
   }
 
   /**
@@ -52,9 +53,10 @@ export class Viewer {
     this.cancel();
     const engine = new Engine(this.#module);
     this.#engine = engine;
+    const reader = source instanceof ReadableStream ? source.getReader() : null;
     this.#begin({ name, total, note, download, parts: [], source });
     try {
-      const given = source instanceof ReadableStream ? source.pipeThrough(this.#keep()) : source;
+      const given = reader === null ? source : this.#keep(reader);
       for await (const event of engine.run({ kind: 'show', source: given, limits: limits() })) {
         // What an earlier file left in the queue is of no use.
         if (this.#engine !== engine) return;
@@ -63,7 +65,11 @@ export class Viewer {
     } catch (error) {
       if (this.#engine === engine) this.#end(error.name === 'AbortError' ? 'cancelled' : 'failed', error.message);
     } finally {
-      if (this.#engine === engine) this.#settle();
+      if (this.#engine === engine) {
+        this.#settle();
+        await this.#showOther(reader);
+      }
+      reader?.cancel().catch(() => {});
       engine.stop();
     }
   }
@@ -92,15 +98,38 @@ export class Viewer {
     if (this.#runs.length > 0) this.#choose((this.#current + by + this.#runs.length) % this.#runs.length);
   }
 
-  /** Keeps a stream's bytes, so that the file can be resynchronised. */
-  #keep() {
+  /** Returns a stream of what a reader returns, and keeps it, so that the file can be resynchronised. */
+  #keep(reader) {
     const { parts } = this.#shown;
-    return new TransformStream({
-      transform(chunk, controller) {
-        parts.push(new Blob([chunk]));
-        controller.enqueue(chunk);
+    return new ReadableStream({
+      async pull(controller) {
+        const { done, value } = await reader.read();
+        if (done) return controller.close();
+        parts.push(new Blob([value]));
+        controller.enqueue(value);
       },
     });
+  }
+
+  /** Shows a file that jri does not support by the browser's own decoder, once the rest of it has been read. */
+  async #showOther(reader) {
+    const shown = this.#shown;
+    if (shown.state !== 'unsupported') return;
+    try {
+      for (let part = await reader?.read(); part && !part.done; part = await reader.read()) shown.parts.push(new Blob([part.value]));
+    } catch {
+      // What has come of it is shown.
+    }
+    if (this.#shown === shown) this.#offerOther(reader === null ? shown.source : new Blob(shown.parts, { type: 'image/jpeg' }));
+  }
+
+  /** Has the browser decode a file, or none. */
+  #offerOther(file) {
+    const image = byId('other-image');
+    if (image.src) URL.revokeObjectURL(image.src);
+    byId('other').hidden = file === null;
+    if (file === null) image.removeAttribute('src');
+    else image.src = URL.createObjectURL(file);
   }
 
   #begin(shown) {
@@ -118,6 +147,7 @@ export class Viewer {
     byId('scaled').hidden = true;
     byId('resync').hidden = true;
     byId('damage').hidden = true;
+    this.#offerOther(null);
     this.#offer(shown.download);
     this.#state('arriving', '');
     byId('progress').classList.remove('is-done');
@@ -179,6 +209,7 @@ export class Viewer {
   /** Shows how it ended, and says it. */
   #end(state, text, explanation = '') {
     const { note, name, header } = this.#shown;
+    this.#shown.state = state;
     const isKind = state === 'sound' || state === 'damaged';
     this.#state(state, isKind ? state : '');
     if (explanation !== '') byId('facts').textContent = explanation;

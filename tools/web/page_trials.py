@@ -46,6 +46,7 @@ input.files = transfer.files;
 input.dispatchEvent(new Event('change'));
 """
 IS_READY = "return document.documentElement.dataset.ready"
+IS_SHOWN_OTHERWISE = "return !document.getElementById('other').hidden && document.getElementById('other-image').complete"
 ARRIVES = "return document.getElementById('state').textContent.startsWith('arriving')"
 IS_CHECKED = "return document.getElementById('list-cancel').hidden && !document.getElementById('list').hidden"
 ROWS = "return [...document.querySelectorAll('#rows li')].filter((it) => !it.hidden).map((it) => [it.querySelector('b').textContent, it.querySelector('span').textContent])"
@@ -131,6 +132,8 @@ def show_files(browser, server, findings, library):
     browser.wait(IS_SHOWN, seconds=SECONDS)
     text = "progressive.jpg: unsupported 5: progressive JPEG (SOF2) is not supported"
     compare(findings, "refused", browser.run(READ), {"state": "unsupported", "report": text})
+    browser.wait(IS_SHOWN_OTHERWISE, seconds=SECONDS)
+    findings.see("refused", browser.run("return document.getElementById('other-image').naturalWidth") == 320, "the browser's own image")
 
 
 def await_rest(browser):
