@@ -15,6 +15,7 @@ import trial_files
 ROOT = os.path.join(os.path.dirname(os.path.abspath(__file__)), "..", "..")
 JRI_VIEW = os.path.join(ROOT, "tools", "desktop", "jri-view")
 SECONDS = 300
+LARGE = 300_000_000
 # The canvas, as the check value of its pixels; what is tinted; and the words.
 READ = """
 const crc = (bytes) => {
@@ -45,7 +46,17 @@ const input = document.getElementById('files');
 input.files = transfer.files;
 input.dispatchEvent(new Event('change'));
 """
+# Gives a file to the page, with this number of bytes after it.
+CHOOSE_LARGE = """
+const transfer = new DataTransfer();
+const [text, count] = arguments;
+transfer.items.add(new File([Uint8Array.from(atob(text), (it) => it.charCodeAt(0)), new Uint8Array(count)], 'large.jpg', { type: 'image/jpeg' }));
+const input = document.getElementById('files');
+input.files = transfer.files;
+input.dispatchEvent(new Event('change'));
+"""
 IS_READY = "return document.documentElement.dataset.ready"
+REPORT = "return ['state', 'report'].map((name) => document.getElementById(name).textContent)"
 IS_SHOWN_OTHERWISE = "return !document.getElementById('other').hidden && document.getElementById('other-image').complete"
 ARRIVES = "return document.getElementById('state').textContent.startsWith('arriving')"
 IS_CHECKED = "return document.getElementById('list-cancel').hidden && !document.getElementById('list').hidden"
@@ -134,6 +145,21 @@ def show_files(browser, server, findings, library):
     compare(findings, "refused", browser.run(READ), {"state": "unsupported", "report": text})
     browser.wait(IS_SHOWN_OTHERWISE, seconds=SECONDS)
     findings.see("refused", browser.run("return document.getElementById('other-image').naturalWidth") == 320, "the browser's own image")
+
+
+def show_hard_files(browser, server, findings):
+    """A server that stops half-way, and a file of 300 MB."""
+    name, data = next(iter(page_files().items()))
+    browser.open(address_of(server, name, cut=len(data) // 2))
+    browser.wait(IS_SHOWN, seconds=SECONDS)
+    state, report = browser.run(REPORT)
+    findings.see("cut off", state == "cannot be read", report)
+    browser.open(server.address("page/index.html"))
+    browser.wait(IS_READY, seconds=SECONDS)
+    browser.run(CHOOSE_LARGE, base64.b64encode(data).decode(), LARGE)
+    browser.wait(IS_SHOWN, seconds=SECONDS)
+    state, report = browser.run(REPORT)
+    findings.see("large", state == "sound" and f"{LARGE} bytes after the end" in report, report)
 
 
 def await_rest(browser):
@@ -266,6 +292,7 @@ def follow_growth(browser, findings, library):
 def run(browser, server, findings, library):
     """Runs the trials of the page in a browser."""
     show_files(browser, server, findings, library)
+    show_hard_files(browser, server, findings)
     show_arrival(browser, server, findings, library)
     list_files(browser, server, findings)
     mend_files(browser, server, findings, library)

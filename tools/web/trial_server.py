@@ -52,7 +52,8 @@ class Handler(http.server.BaseHTTPRequestHandler):
         self.wfile.write(data or b"")
 
     def send_file(self, data, words):
-        """Sends a file in parts: `rate` bytes a second, and after `stop` bytes nothing until the server lets go."""
+        """Sends a file in parts: `rate` bytes a second, after `stop` bytes nothing until the server lets go, and after `cut` bytes
+        nothing at all."""
         rate, stop = int(words.get("rate", len(data) / SECONDS + 1)), int(words.get("stop", len(data)))
         part = max(1, int(rate * SECONDS))
         self.send_response(200)
@@ -61,6 +62,10 @@ class Handler(http.server.BaseHTTPRequestHandler):
         self.send_header("Cache-Control", "no-store")
         self.end_headers()
         try:
+            if "cut" in words:
+                self.wfile.write(data[: int(words["cut"])])
+                self.close_connection = True
+                return
             for at in range(0, len(data), part):
                 if at + part > stop:
                     self.wfile.write(data[at:stop])
