@@ -94,10 +94,8 @@ impl<'a, S: OneScan> SharedScan<'a, S> {
     /// Makes a speculative read, for which the reader may wait, or brings a buffer for one.
     fn assist<R: Wait>(&self, rt: &R, assist: Assist<S, Checking>) {
         self.shared.assist(rt, self.alloc, &self.part, assist);
-        let is_awaited = self.shared.queue.lock(rt).is_awaited;
-        if is_awaited {
-            self.shared.for_caller.notify_one();
-        }
+        let queue = self.shared.queue.lock(rt);
+        self.shared.wake_caller(&queue);
     }
 
     /// Makes speculative reads until all is read.

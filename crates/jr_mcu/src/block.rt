@@ -29,7 +29,7 @@ pub(crate) fn read_first(dc: &WordBook, bits: &mut Bits<'_>, prediction: i32) ->
 /// Ends a block whose last code advanced to its last position, or past it: at the last one its value is stored there,
 /// and from 128 it was the code of the end. `None` if it is a position that no block has.
 #[inline(always)]
-fn end_block(place: u32, value: i16, block: &mut Coefficients) -> Option<()>
+fn end_block(place: usize, value: i16, block: &mut Coefficients) -> Option<()>
     requires { 63 ≤ place }
     ensures some { IsSome result ↔ ((place ≡ 63) ⊎ (128 ≤ place)) }
     ensures last { place ≡ 63 → block.new ≡ slice_set block.old 63 value }
@@ -60,29 +60,29 @@ pub(crate) fn read_others(
 {
     *block = Coefficients::zeros();
     block.set(0, first);
-    let mut place: u32 = 0;
+    let mut place: usize = 0;
     'codes: loop {
         'held: for _ in 0..HELD_CODES {
             let code = ac.read_places(bits)?;
-            place += code.places();
+            place += code.places() as usize;
             if place > 62 {
                 return end_block(place, code.value(), block);
             }
-            block.set(place as usize, code.value());
+            block.set(place, code.value());
         }
 
         let next = ac.read_places_and_refill(bits)?;
-        place += next.places();
+        place += next.places() as usize;
         if place > 62 {
             return end_block(place, next.value(), block);
         }
-        block.set(place as usize, next.value());
+        block.set(place, next.value());
     }
 }
 
 /// Returns whether a block ends if its last code advanced to this position: the last one, or the end by its code.
 #[inline(always)]
-fn end_at(place: u32) -> Option<()>
+fn end_at(place: usize) -> Option<()>
     ensures { IsSome result ↔ ((place ≡ 63) ⊎ (128 ≤ place)) }
 {
     if place == 63 || place >= 128 {
@@ -98,18 +98,18 @@ pub(crate) fn skip_others(ac: &CodeBook, bits: &mut Bits<'_>) -> Option<()>
     ensures some { IfSome result (λ _. (others : List ℤ) × TakesOthers ac.now others bits.old bits.new) }
     ensures none { IfNone result (HasNoOthers ac.now bits.old) }
 {
-    let mut place: u32 = 0;
+    let mut place: usize = 0;
     'codes: loop {
         'held: for _ in 0..HELD_CODES {
             let code = ac.read_places(bits)?;
-            place += code.places();
+            place += code.places() as usize;
             if place > 62 {
                 return end_at(place);
             }
         }
 
         let next = ac.read_places_and_refill(bits)?;
-        place += next.places();
+        place += next.places() as usize;
         if place > 62 {
             return end_at(place);
         }

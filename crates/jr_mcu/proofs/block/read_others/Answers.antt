@@ -24,23 +24,23 @@ pub returns-then-place-gt62-clause-some : goal.returns-then-place-gt62-clause-so
 returns-then-place-gt62-clause-some c =
     let s : IsPartialCut c.args.ac.now c.args.first c.args.bits.now c.held.bits c.held.block (c.held.place + 1) = subst (λ q. IsPartialCut c.args.ac.now q c.args.bits.now c.held.bits c.held.block (c.held.place + 1)) (to_z-of_z w16 c.args.first c.ranges.first) c.held.invariant.1 in
     let f : SFits w16 c.value.result = search rules in
-    ended_some c.args.ac.now (one_word _) c.args.first c.value.result c.args.bits.now c.held.bits c.read_places.new.bits c.held.block c.end_block.new.block c.held.place (c.held.place + c.places-place.result) c.in_ok-code.code
-    s c.held.invariant.0.1 c.in_ok-code.ensures.found (ap (λ n. c.held.place + n) c.places-place.ensures.value)
+    ended_some c.args.ac.now (one_word _) c.args.first c.value.result c.args.bits.now c.held.bits c.read_places.new.bits c.held.block c.end_block.new.block c.held.place (c.held.place + c.places.result) c.in_ok-code.code
+    s c.held.invariant.0.1 c.in_ok-code.ensures.found (ap (λ n. c.held.place + n) c.places.ensures.value)
     c.end_block.result c.end_block.ensures.some.0 c.value.ensures (λ last. c.end_block.ensures.last last ∙ ap (set c.held.block 63) (to_z-of_z w16 c.value.result f)) c.end_block.ensures.end
 
 pub returns-then-place-gt62-clause-none : goal.returns-then-place-gt62-clause-none
 returns-then-place-gt62-clause-none c =
-    ended_none c.args.ac.now (one_word _) _ c.value.result c.args.bits.now c.held.bits c.read_places.new.bits c.held.block c.end_block.new.block c.held.place (c.held.place + c.places-place.result) c.in_ok-code.code
-    c.held.invariant.1 c.held.invariant.0.1 c.in_ok-code.ensures.found (ap (λ n. c.held.place + n) c.places-place.ensures.value)
+    ended_none c.args.ac.now (one_word _) _ c.value.result c.args.bits.now c.held.bits c.read_places.new.bits c.held.block c.end_block.new.block c.held.place (c.held.place + c.places.result) c.in_ok-code.code
+    c.held.invariant.1 c.held.invariant.0.1 c.in_ok-code.ensures.found (ap (λ n. c.held.place + n) c.places.ensures.value)
     c.end_block.result c.end_block.ensures.some.1 (omega (arith, c.if-place-gt62.true))
 
 pub held-preserved : goal.held-preserved
 held-preserved c =
-    let place : c.held.place + c.places-place.result ≡ c.held.place + places_in c.in_ok-code.code = ap (λ n. c.held.place + n) c.places-place.ensures.value in
+    let place : c.held.place + c.places.result ≡ c.held.place + places_in c.in_ok-code.code = ap (λ n. c.held.place + n) c.places.ensures.value in
     let f : SFits w16 c.value-in-held.result = search rules in
-    let wrote : c.set-in-held.new.self ≡ set c.held.block (c.held.place + c.places-place.result) (unpacked c.in_ok-code.code).value = search (rules, c.set-in-held.ensures, to_z-of_z w16 c.value-in-held.result f, c.value-in-held.ensures) in (
+    let wrote : c.set-in-held.new.self ≡ set c.held.block (c.held.place + c.places.result) (unpacked c.in_ok-code.code).value = search (rules, c.set-in-held.ensures, to_z-of_z w16 c.value-in-held.result f, c.value-in-held.ensures) in (
       (omega (arith, c.held.invariant.0.0), omega (arith, c.if-place-gt62.false)),
-      partial_places c.args.ac.now (one_word _) _ c.args.bits.now c.held.bits c.read_places.new.bits c.held.block c.set-in-held.new.self c.held.place (c.held.place + c.places-place.result) c.in_ok-code.code
+      partial_places c.args.ac.now (one_word _) _ c.args.bits.now c.held.bits c.read_places.new.bits c.held.block c.set-in-held.new.self c.held.place (c.held.place + c.places.result) c.in_ok-code.code
           c.held.invariant.1 c.held.invariant.0.1 c.in_ok-code.ensures.found place (omega (arith, c.if-place-gt62.false)) wrote,
     )
 
@@ -52,26 +52,26 @@ pub returns-then-place-gt62-2-clause-some : goal.returns-then-place-gt62-2-claus
 returns-then-place-gt62-2-clause-some c =
     let s : IsPartialCut c.args.ac.now c.args.first c.args.bits.now c.held.bits c.held.block (c.held.place + 1) = subst (λ q. IsPartialCut c.args.ac.now q c.args.bits.now c.held.bits c.held.block (c.held.place + 1)) (to_z-of_z w16 c.args.first c.ranges.first) c.held.invariant.1 in
     let f : SFits w16 c.value-then-place-gt62-2.result = search rules in
-    ended_some c.args.ac.now (one_word _) c.args.first c.value-then-place-gt62-2.result c.args.bits.now c.held.bits c.read_places_and_refill.new.bits c.held.block c.end_block-then-place-gt62-2.new.block c.held.place (c.held.place + c.places-place-in-codes.result) c.in_ok-next.next
-    s c.held.invariant.0.1 c.in_ok-next.ensures.found (ap (λ n. c.held.place + n) c.places-place-in-codes.ensures.value)
+    ended_some c.args.ac.now (one_word _) c.args.first c.value-then-place-gt62-2.result c.args.bits.now c.held.bits c.read_places_and_refill.new.bits c.held.block c.end_block-then-place-gt62-2.new.block c.held.place (c.held.place + c.places-in-codes.result) c.in_ok-next.next
+    s c.held.invariant.0.1 c.in_ok-next.ensures.found (ap (λ n. c.held.place + n) c.places-in-codes.ensures.value)
     c.end_block-then-place-gt62-2.result c.end_block-then-place-gt62-2.ensures.some.0 c.value-then-place-gt62-2.ensures
     (λ last. c.end_block-then-place-gt62-2.ensures.last last ∙ ap (set c.held.block 63) (to_z-of_z w16 c.value-then-place-gt62-2.result f)) c.end_block-then-place-gt62-2.ensures.end
 
 pub returns-then-place-gt62-2-clause-none : goal.returns-then-place-gt62-2-clause-none
 returns-then-place-gt62-2-clause-none c =
-    ended_none c.args.ac.now (one_word _) _ c.value-then-place-gt62-2.result c.args.bits.now c.held.bits c.read_places_and_refill.new.bits c.held.block c.end_block-then-place-gt62-2.new.block c.held.place (c.held.place + c.places-place-in-codes.result) c.in_ok-next.next
-    c.held.invariant.1 c.held.invariant.0.1 c.in_ok-next.ensures.found (ap (λ n. c.held.place + n) c.places-place-in-codes.ensures.value)
+    ended_none c.args.ac.now (one_word _) _ c.value-then-place-gt62-2.result c.args.bits.now c.held.bits c.read_places_and_refill.new.bits c.held.block c.end_block-then-place-gt62-2.new.block c.held.place (c.held.place + c.places-in-codes.result) c.in_ok-next.next
+    c.held.invariant.1 c.held.invariant.0.1 c.in_ok-next.ensures.found (ap (λ n. c.held.place + n) c.places-in-codes.ensures.value)
     c.end_block-then-place-gt62-2.result c.end_block-then-place-gt62-2.ensures.some.1 (omega (arith, c.if-place-gt62-2.true))
 
 pub codes-preserved : goal.codes-preserved
 codes-preserved c =
-    let place : c.held.place + c.places-place-in-codes.result ≡ c.held.place + places_in c.in_ok-next.next = ap (λ n. c.held.place + n) c.places-place-in-codes.ensures.value in
+    let place : c.held.place + c.places-in-codes.result ≡ c.held.place + places_in c.in_ok-next.next = ap (λ n. c.held.place + n) c.places-in-codes.ensures.value in
     let f : SFits w16 c.value-in-codes.result = search rules in
-    let wrote : c.set-in-codes.new.self ≡ set c.held.block (c.held.place + c.places-place-in-codes.result) (unpacked c.in_ok-next.next).value = search (rules, c.set-in-codes.ensures, to_z-of_z w16 c.value-in-codes.result f, c.value-in-codes.ensures) in (
+    let wrote : c.set-in-codes.new.self ≡ set c.held.block (c.held.place + c.places-in-codes.result) (unpacked c.in_ok-next.next).value = search (rules, c.set-in-codes.ensures, to_z-of_z w16 c.value-in-codes.result f, c.value-in-codes.ensures) in (
       omega (arith, c.if-place-gt62-2.false),
-      partial_places c.args.ac.now (one_word _) _ c.args.bits.now c.held.bits c.read_places_and_refill.new.bits c.held.block c.set-in-codes.new.self c.held.place (c.held.place + c.places-place-in-codes.result) c.in_ok-next.next
+      partial_places c.args.ac.now (one_word _) _ c.args.bits.now c.held.bits c.read_places_and_refill.new.bits c.held.block c.set-in-codes.new.self c.held.place (c.held.place + c.places-in-codes.result) c.in_ok-next.next
           c.held.invariant.1 c.held.invariant.0.1 c.in_ok-next.ensures.found place (omega (arith, c.if-place-gt62-2.false)) wrote,
     )
 
 pub codes-smaller : goal.codes-smaller
-codes-smaller c = omega (arith, c.held.invariant.0.0, c.places-place-in-codes.ensures.value, some_places c.args.ac.now _ _ c.in_ok-next.next c.in_ok-next.ensures.found, c.if-place-gt62-2.false)
+codes-smaller c = omega (arith, c.held.invariant.0.0, c.places-in-codes.ensures.value, some_places c.args.ac.now _ _ c.in_ok-next.next c.in_ok-next.ensures.found, c.if-place-gt62-2.false)

@@ -16,19 +16,19 @@ returns-in_err-code-clause-none c =
 
 pub returns-then-place-gt62-clause-some : goal.returns-then-place-gt62-clause-some
 returns-then-place-gt62-clause-some c =
-    skipped_some c.args.ac.now (one_word _) c.args.bits.now c.held.bits c.read_places.new.bits c.held.place (c.held.place + c.places-place.result) c.in_ok-code.code
-    c.held.invariant.1 c.held.invariant.0.1 c.in_ok-code.ensures.found (ap (λ n. c.held.place + n) c.places-place.ensures.value) c.end_at.result c.end_at.ensures.0
+    skipped_some c.args.ac.now (one_word _) c.args.bits.now c.held.bits c.read_places.new.bits c.held.place (c.held.place + c.places.result) c.in_ok-code.code
+    c.held.invariant.1 c.held.invariant.0.1 c.in_ok-code.ensures.found (ap (λ n. c.held.place + n) c.places.ensures.value) c.end_at.result c.end_at.ensures.0
 
 pub returns-then-place-gt62-clause-none : goal.returns-then-place-gt62-clause-none
 returns-then-place-gt62-clause-none c =
-    ended_none c.args.ac.now (one_word _) (pos 0) (pos 0) c.args.bits.now c.held.bits c.read_places.new.bits c.held.invariant.1.0 c.held.invariant.1.0 c.held.place (c.held.place + c.places-place.result) c.in_ok-code.code
-    c.held.invariant.1.1 c.held.invariant.0.1 c.in_ok-code.ensures.found (ap (λ n. c.held.place + n) c.places-place.ensures.value)
+    ended_none c.args.ac.now (one_word _) (pos 0) (pos 0) c.args.bits.now c.held.bits c.read_places.new.bits c.held.invariant.1.0 c.held.invariant.1.0 c.held.place (c.held.place + c.places.result) c.in_ok-code.code
+    c.held.invariant.1.1 c.held.invariant.0.1 c.in_ok-code.ensures.found (ap (λ n. c.held.place + n) c.places.ensures.value)
     c.end_at.result c.end_at.ensures.1 (omega (arith, c.if-place-gt62.true))
 
 pub held-preserved : goal.held-preserved
 held-preserved c =
-    let at = c.held.place + c.places-place.result in
-    let place = ap (λ n. c.held.place + n) c.places-place.ensures.value in (
+    let at = c.held.place + c.places.result in
+    let place = ap (λ n. c.held.place + n) c.places.ensures.value in (
       (omega (arith, c.held.invariant.0.0), omega (arith, c.if-place-gt62.false)),
       skipped_on c.args.ac.now (one_word _) c.args.bits.now c.held.bits c.read_places.new.bits c.held.place at c.in_ok-code.code c.held.invariant.1 c.held.invariant.0.1 c.in_ok-code.ensures.found place (omega (arith, c.if-place-gt62.false)),
     )
@@ -39,21 +39,21 @@ returns-in_err-next-clause-none c =
 
 pub returns-then-place-gt62-2-clause-some : goal.returns-then-place-gt62-2-clause-some
 returns-then-place-gt62-2-clause-some c =
-    skipped_some c.args.ac.now (one_word _) c.args.bits.now c.held.bits c.read_places_and_refill.new.bits c.held.place (c.held.place + c.places-place-in-codes.result) c.in_ok-next.next
-    c.held.invariant.1 c.held.invariant.0.1 c.in_ok-next.ensures.found (ap (λ n. c.held.place + n) c.places-place-in-codes.ensures.value) c.end_at-then-place-gt62-2.result c.end_at-then-place-gt62-2.ensures.0
+    skipped_some c.args.ac.now (one_word _) c.args.bits.now c.held.bits c.read_places_and_refill.new.bits c.held.place (c.held.place + c.places-in-codes.result) c.in_ok-next.next
+    c.held.invariant.1 c.held.invariant.0.1 c.in_ok-next.ensures.found (ap (λ n. c.held.place + n) c.places-in-codes.ensures.value) c.end_at-then-place-gt62-2.result c.end_at-then-place-gt62-2.ensures.0
 
 pub returns-then-place-gt62-2-clause-none : goal.returns-then-place-gt62-2-clause-none
 returns-then-place-gt62-2-clause-none c =
-    ended_none c.args.ac.now (one_word _) (pos 0) (pos 0) c.args.bits.now c.held.bits c.read_places_and_refill.new.bits c.held.invariant.1.0 c.held.invariant.1.0 c.held.place (c.held.place + c.places-place-in-codes.result) c.in_ok-next.next
-    c.held.invariant.1.1 c.held.invariant.0.1 c.in_ok-next.ensures.found (ap (λ n. c.held.place + n) c.places-place-in-codes.ensures.value)
+    ended_none c.args.ac.now (one_word _) (pos 0) (pos 0) c.args.bits.now c.held.bits c.read_places_and_refill.new.bits c.held.invariant.1.0 c.held.invariant.1.0 c.held.place (c.held.place + c.places-in-codes.result) c.in_ok-next.next
+    c.held.invariant.1.1 c.held.invariant.0.1 c.in_ok-next.ensures.found (ap (λ n. c.held.place + n) c.places-in-codes.ensures.value)
     c.end_at-then-place-gt62-2.result c.end_at-then-place-gt62-2.ensures.1 (omega (arith, c.if-place-gt62-2.true))
 
 pub codes-preserved : goal.codes-preserved
 codes-preserved c = (
   omega (arith, c.if-place-gt62-2.false),
-  skipped_on c.args.ac.now (one_word _) c.args.bits.now c.held.bits c.read_places_and_refill.new.bits c.held.place (c.held.place + c.places-place-in-codes.result) c.in_ok-next.next
-      c.held.invariant.1 c.held.invariant.0.1 c.in_ok-next.ensures.found (ap (λ n. c.held.place + n) c.places-place-in-codes.ensures.value) (omega (arith, c.if-place-gt62-2.false)),
+  skipped_on c.args.ac.now (one_word _) c.args.bits.now c.held.bits c.read_places_and_refill.new.bits c.held.place (c.held.place + c.places-in-codes.result) c.in_ok-next.next
+      c.held.invariant.1 c.held.invariant.0.1 c.in_ok-next.ensures.found (ap (λ n. c.held.place + n) c.places-in-codes.ensures.value) (omega (arith, c.if-place-gt62-2.false)),
 )
 
 pub codes-smaller : goal.codes-smaller
-codes-smaller c = omega (arith, c.held.invariant.0.0, c.places-place-in-codes.ensures.value, some_places c.args.ac.now _ _ c.in_ok-next.next c.in_ok-next.ensures.found, c.if-place-gt62-2.false)
+codes-smaller c = omega (arith, c.held.invariant.0.0, c.places-in-codes.ensures.value, some_places c.args.ac.now _ _ c.in_ok-next.next c.in_ok-next.ensures.found, c.if-place-gt62-2.false)
